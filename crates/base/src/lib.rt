@@ -1,0 +1,1 @@
+// Definitions and laws that every crate above uses; they stand in specs/.
