@@ -1,3 +1,6 @@
 pub mod Pick
 pub mod Walks
 pub mod All
+pub mod Sets
+pub mod Gcd
+pub mod SetLaws

@@ -1,0 +1,48 @@
+//! Writes the bytes of frames written as text to standard output:
+//! `assemble FILE`.
+
+#![forbid(unsafe_code)]
+#![deny(warnings)]
+
+use std::io::{self, Write};
+use std::process::ExitCode;
+
+const USAGE: &str = "usage: assemble FILE
+
+Writes the bytes that the text of FILE stands for to standard output: bytes of
+two hex digits, separated by blanks, usually one frame a line. '#' starts a
+comment, and '00*300' is the byte 00 three hundred times.
+";
+
+fn main() -> ExitCode {
+    let words: Vec<_> = std::env::args_os().skip(1).collect();
+    let file = match words.as_slice() {
+        [word] if word == "--help" => return written(USAGE.as_bytes()),
+        [word] => word,
+        _ => {
+            eprint!("{USAGE}");
+            return ExitCode::from(2);
+        }
+    };
+    let name = file.to_string_lossy();
+    match std::fs::read(file) {
+        Err(error) => failed(&format!("{name}: {error}")),
+        Ok(text) => match assemble::assemble(&text) {
+            Err((line, wrong)) => failed(&format!("{name}:{line}: {wrong}")),
+            Ok(bytes) => written(&bytes),
+        },
+    }
+}
+
+fn written(bytes: &[u8]) -> ExitCode {
+    let mut output = io::stdout().lock();
+    match output.write_all(bytes).and_then(|()| output.flush()) {
+        Err(error) => failed(&format!("writing the output: {error}")),
+        Ok(()) => ExitCode::SUCCESS,
+    }
+}
+
+fn failed(wrong: &str) -> ExitCode {
+    eprintln!("assemble: {wrong}");
+    ExitCode::FAILURE
+}

@@ -1,0 +1,75 @@
+//! The library's reader and writer over rows of other lengths than 20.
+
+#![forbid(unsafe_code)]
+#![deny(warnings)]
+
+use compare::codec::{read_into, write_from};
+
+/// Document 01: "Open series 0 is bytes 06 00 06 00 00 01".
+const OPEN: [u8; 6] = [6, 0, 6, 0, 0, 1];
+
+#[test]
+fn open_series_0() {
+    let mut values = [7; 20];
+    assert_eq!(read_into(&OPEN, &mut values), 0);
+    assert_eq!(values[..3], [6, 0, 1]);
+    assert_eq!(values[3..], [0; 17]);
+    let mut space = [9; 8];
+    assert_eq!(write_from(&values, &mut space), 6);
+    assert_eq!(space, [6, 0, 6, 0, 0, 1, 9, 9]);
+}
+
+#[test]
+fn under_20_numbers_are_refused_1_by_the_reader() {
+    for count in 0..20 {
+        for frame in [&OPEN[..], &OPEN[..5], &[6, 0, 6, 0, 0, 2]] {
+            let mut values = vec![7; count];
+            assert_eq!(read_into(frame, &mut values), 1);
+            assert_eq!(values, vec![7; count]);
+        }
+    }
+}
+
+#[test]
+fn numbers_past_20_are_unchanged_by_the_reader() {
+    for count in 20..40 {
+        let mut values = vec![7; count];
+        assert_eq!(read_into(&OPEN, &mut values), 0);
+        assert_eq!(values[..3], [6, 0, 1]);
+        assert_eq!(values[3..20], [0; 17]);
+        assert_eq!(values[20..], vec![7; count - 20]);
+    }
+}
+
+#[test]
+fn all_numbers_are_unchanged_at_a_refusal() {
+    for count in 20..40 {
+        let mut values = vec![7; count];
+        assert_eq!(read_into(&OPEN[..5], &mut values), 2);
+        assert_eq!(read_into(&[6, 0, 6, 0, 0, 2], &mut values), 3);
+        assert_eq!(values, vec![7; count]);
+    }
+}
+
+#[test]
+fn under_20_numbers_are_refused_3_by_the_writer() {
+    let mut values = [0; 20];
+    assert_eq!(read_into(&OPEN, &mut values), 0);
+    for count in 0..20 {
+        let mut space = [9; 8];
+        assert_eq!(write_from(&values[..count], &mut space), 3);
+        assert_eq!(write_from(&values[..count], &mut []), 3);
+        assert_eq!(space, [9; 8]);
+    }
+}
+
+#[test]
+fn numbers_past_20_are_not_written() {
+    let mut values = [7; 40];
+    assert_eq!(read_into(&OPEN, &mut values), 0);
+    for count in 20..40 {
+        let mut space = [9; 8];
+        assert_eq!(write_from(&values[..count], &mut space), 6);
+        assert_eq!(space, [6, 0, 6, 0, 0, 1, 9, 9]);
+    }
+}

@@ -1,0 +1,18 @@
+//! A second implementation of the complex book of document 01, written for
+//! comparison with the engine: plain structures, one function per sentence.
+
+#![forbid(unsafe_code)]
+#![deny(warnings)]
+
+pub mod auctions;
+pub mod book;
+pub mod coverage;
+pub mod events;
+pub mod frames;
+pub mod generate;
+pub mod lists;
+pub mod nets;
+pub mod passes;
+pub mod records;
+pub mod tape;
+pub mod totals;

@@ -1,0 +1,142 @@
+//! Document 01, "Strategies and nets".
+
+use crate::book::{Book, LegOrder, Strategy, BUY};
+use crate::frames::Leg;
+
+/// Ratios are divided by their greatest common divisor, "found by Euclid's
+/// step calling itself".
+fn common_divisor(first: u8, second: u8) -> u8 {
+    if second == 0 {
+        first
+    } else {
+        common_divisor(second, first % second)
+    }
+}
+
+/// "Ratios are divided by their greatest common divisor […]. Legs stand by
+/// rising series."
+pub fn normal(legs: &[Leg]) -> Strategy {
+    let divisor = legs
+        .iter()
+        .fold(0, |divisor, leg| common_divisor(divisor, leg.ratio));
+    let mut legs: Vec<Leg> = legs
+        .iter()
+        .map(|leg| Leg {
+            ratio: leg.ratio / divisor,
+            ..*leg
+        })
+        .collect();
+    legs.sort_by_key(|leg| leg.series);
+    Strategy { legs }
+}
+
+/// "series twice, or largest ratio over 3 × smallest".
+pub fn refused_5(legs: &[Leg]) -> bool {
+    let set = legs.iter().fold(0u32, |set, leg| set | 1 << leg.series);
+    let largest = legs.iter().map(|leg| leg.ratio).max().unwrap_or(0);
+    let smallest = legs.iter().map(|leg| leg.ratio).min().unwrap_or(0);
+    set.count_ones() as usize != legs.len() || largest > 3 * smallest
+}
+
+/// "A buy takes each leg on its own side, a sell on the other."
+pub fn side_taken(order_side: u8, leg: &Leg) -> u8 {
+    if order_side == BUY {
+        leg.side
+    } else {
+        1 - leg.side
+    }
+}
+
+/// What one leg offers to an order that takes it: the best price, and its
+/// contracts.
+#[derive(Clone, Debug, PartialEq, Eq)]
+pub struct LegPrice {
+    pub leg: Leg,
+    /// The side the order takes on this leg.
+    pub side: u8,
+    pub price: u32,
+    pub contracts: u32,
+}
+
+impl Book {
+    /// The leg orders of a series and side at their best price, by number.
+    pub fn best_leg_orders(&self, series: u8, side: u8) -> Vec<LegOrder> {
+        let held: Vec<&LegOrder> = self
+            .leg_orders
+            .iter()
+            .filter(|order| order.series == series && order.side == side)
+            .collect();
+        let prices = held.iter().map(|order| order.price);
+        let best = if side == BUY {
+            prices.max()
+        } else {
+            prices.min()
+        };
+        held.into_iter()
+            .filter(|order| Some(order.price) == best)
+            .cloned()
+            .collect()
+    }
+
+    /// The best prices that an order of this side takes leg by leg: "Offer net
+    /// takes offers for buy legs, bids for sell legs; bid net the reverse;
+    /// unknown if a price is missing."
+    pub fn leg_prices(&self, strategy: u8, order_side: u8) -> Option<Vec<LegPrice>> {
+        self.legs(strategy)
+            .into_iter()
+            .map(|leg| {
+                let side = side_taken(order_side, &leg);
+                let orders = self.best_leg_orders(leg.series, 1 - side);
+                let price = orders.first()?.price;
+                let contracts = orders.iter().map(|order| order.contracts).sum();
+                Some(LegPrice {
+                    leg,
+                    side,
+                    price,
+                    contracts,
+                })
+            })
+            .collect()
+    }
+
+    /// The net that an order of this side takes: the offer net for a buy, the
+    /// bid net for a sell.
+    pub fn leg_net(&self, strategy: u8, order_side: u8) -> Option<i64> {
+        self.leg_prices(strategy, order_side)
+            .map(|prices| net(&prices))
+    }
+
+    /// "Offer net takes offers for buy legs, bids for sell legs".
+    pub fn offer_net(&self, strategy: u8) -> Option<i64> {
+        self.leg_net(strategy, 0)
+    }
+
+    /// "bid net the reverse".
+    pub fn bid_net(&self, strategy: u8) -> Option<i64> {
+        self.leg_net(strategy, 1)
+    }
+}
+
+/// "Net = sum of ratio × price over buy legs, less that over sell legs; a buyer
+/// pays it."
+pub fn net(prices: &[LegPrice]) -> i64 {
+    prices
+        .iter()
+        .map(|entry| {
+            let value = i64::from(entry.leg.ratio) * i64::from(entry.price);
+            if entry.leg.side == BUY {
+                value
+            } else {
+                -value
+            }
+        })
+        .sum()
+}
+
+/// "The legs are ready when each best price holds at least the ratio in
+/// contracts."
+pub fn ready(prices: &[LegPrice]) -> bool {
+    prices
+        .iter()
+        .all(|entry| entry.contracts >= u32::from(entry.leg.ratio))
+}

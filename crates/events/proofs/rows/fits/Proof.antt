@@ -1,0 +1,51 @@
+use mathlib.Core.Path.{_≡_, refl, sym, ap, _∙_}
+use Prim.Native.Nat.{ℕ, suc, _+_, _-_, _≤_, _<_}
+use native.Mathlib.Omega.{arith}
+use lib.ListN.{length, getD}
+use borrow.Author.Needs.{needs}
+use Rattle.events.specs.Rows.{fitting}
+use Rattle.events.specs.Laws.{four-in, layout-in}
+use Rattle.events.proofs.rows.fits.Statement.{statement}
+use Rattle.events.proofs.rows.fits.Tie as tie
+use Rattle.events.proofs.rows.fits.Reads as reads
+use Rattle.events.proofs.rows.fits.Lts as lts
+use Rattle.events.proofs.table.fields_of.Reads as fields-of-reads
+use Rattle.events.proofs.table.fit.Reads as fit-reads
+use Rattle.events.proofs.rows.kind_in.Reads as kind-in-reads
+use Rattle.events.proofs.rows.length_in.Reads as length-in-reads
+use Rattle.events.proofs.rows.row_of.Reads as row-of-reads
+
+kind-in-requires : tie.Need-kind-in-requires
+kind-in-requires c κs = search needs
+
+fields-of-requires : tie.Need-fields-of-requires
+fields-of-requires c κs = search needs
+
+length-in-requires : tie.Need-length-in-requires
+length-in-requires c κs = search needs
+
+sub-fit : tie.Need-sub-fit
+sub-fit c = rw (c .length-in .ensures) (four-in (c .before .before .before .args .event))
+
+row-of-requires : tie.Need-row-of-requires
+row-of-requires c κs = search needs
+
+fit-requires : tie.Need-fit-requires
+fit-requires c κs = search needs
+
+returns : tie.Need-returns
+unfolding fitting
+returns c = let k = c .before .before .before in
+    c .fit .ensures ∙ rw (layout-in (k .before .before .args .event) (k .before .kind-in .ensures) (k .fields-of .ensures) (c .before .before .length-in .ensures), c .before .row-of .ensures)
+
+pub fits-spec : {M : Type 1} → statement M
+fits-spec =
+    tie.close
+    (tie.spec
+    kind-in-requires
+    fields-of-requires
+    length-in-requires
+    sub-fit
+    row-of-requires
+    fit-requires
+    returns)

@@ -1,0 +1,34 @@
+use mathlib.Core.Path.{_≡_, refl, sym, ap, _∙_}
+use Prim.Native.Nat.{ℕ, suc, _+_, _-_, _≤_, _<_}
+use native.Mathlib.Omega.{arith}
+use lib.ListN.{length, getD}
+use borrow.Author.Needs.{needs}
+use Rattle.events.specs.Rows.{lengthIn}
+use Rattle.events.proofs.rows.length_in.Statement.{statement}
+use Rattle.events.proofs.rows.length_in.Tie as tie
+use Rattle.events.proofs.rows.length_in.Reads as reads
+use Rattle.events.proofs.rows.length_in.Lts as lts
+use Rattle.events.proofs.rows.kind_in.Reads as kind-in-reads
+use Rattle.events.proofs.kinds.length_of.Reads as length-of-reads
+use Rattle.events.proofs.rows.row_of.Reads as row-of-reads
+
+row-of-requires : tie.Need-row-of-requires
+row-of-requires c κs = search needs
+
+kind-in-requires : tie.Need-kind-in-requires
+kind-in-requires c κs = search needs
+
+array-read-length-of : tie.Need-array-read-length-of
+array-read-length-of c = search needs
+
+length-of-requires : tie.Need-length-of-requires
+length-of-requires c κs = search needs
+
+returns : tie.Need-returns
+unfolding lengthIn
+returns c = cc
+
+pub length-in-spec : {M : Type 1} → statement M
+length-in-spec =
+    tie.close
+    (tie.spec row-of-requires kind-in-requires array-read-length-of length-of-requires returns)

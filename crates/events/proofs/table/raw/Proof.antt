@@ -1,0 +1,22 @@
+use mathlib.Core.Path.{_≡_, refl, sym, ap, _∙_}
+use Prim.Native.Nat.{ℕ, suc, _+_, _-_, _≤_, _<_}
+use native.Mathlib.Omega.{arith}
+use native.Mathlib.Numerals.{add-one}
+use lib.ListN.{length, getD}
+use borrow.Author.Needs.{needs}
+use Rattle.events.specs.Fields.{rawOf}
+use Rattle.events.proofs.table.raw.Statement.{statement}
+use Rattle.events.proofs.table.raw.Tie as tie
+use Rattle.events.proofs.table.raw.Reads as reads
+use Rattle.events.proofs.table.raw.Lts as lts
+use Rattle.std.proofs.num.wrapping_sub_u32.Reads as wrapping-sub-u32-reads
+
+wrapping-sub-u32-requires : tie.Need-wrapping-sub-u32-requires
+wrapping-sub-u32-requires c κs = search needs
+
+returns : tie.Need-returns
+unfolding rawOf
+returns c = omega arith
+
+pub raw-spec : {M : Type 1} → statement M
+raw-spec = tie.close (tie.spec wrapping-sub-u32-requires returns)

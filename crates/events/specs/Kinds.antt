@@ -1,0 +1,59 @@
+-- The number and the length of each kind.
+use mathlib.Core.Path.{_≡_}
+use Prim.Native.Nat.{ℕ, _+_, _*_, _≤_}
+use native.Mathlib.Omega.{arith}
+use lib.Dec.{eqb}
+use Rattle.base.specs.Pick.{pick}
+use Rattle.events.specs.declared.Kind.{Kind}
+use Rattle.events.specs.declared.Kind.the-variants as K
+
+-- "The kinds are told apart in one decision over the number."
+unfoldable pub kindOf : ℕ → Kind
+kindOf n =
+    pick (eqb n 1) K.Strategy
+    (pick (eqb n 2) K.Order
+    (pick (eqb n 3) K.Sweep
+    (pick (eqb n 4) K.LegOrder
+    (pick (eqb n 5) K.Cancel
+    (pick (eqb n 6) K.Series
+    (pick (eqb n 7) K.Clock
+    (pick (eqb n 8) K.DayEnd K.Unknown)))))))
+
+-- "1 strategy", "2 complex order", "3 sweep", "4 leg order", "5 cancel", "6 series", "7 clock", "8 day end"
+abbrev pub codeOf : Kind → ℕ
+codeOf K.Strategy = 1
+codeOf K.Order = 2
+codeOf K.Sweep = 3
+codeOf K.LegOrder = 4
+codeOf K.Cancel = 5
+codeOf K.Series = 6
+codeOf K.Clock = 7
+codeOf K.DayEnd = 8
+codeOf K.Unknown = 0
+
+-- "Length 16", and so on for each kind; a strategy's without its legs; 0, which no frame of 4 bytes has, for an unknown kind
+abbrev pub fixedOf : Kind → ℕ
+fixedOf K.Strategy = 5
+fixedOf K.Order = 16
+fixedOf K.Sweep = 14
+fixedOf K.LegOrder = 14
+fixedOf K.Cancel = 10
+fixedOf K.Series = 6
+fixedOf K.Clock = 8
+fixedOf K.DayEnd = 6
+fixedOf K.Unknown = 0
+
+-- "Length 5 + 3 × count for every count byte", n being the first field; the fixed length for the other kinds
+unfoldable pub lengthOf : Kind → ℕ → ℕ
+lengthOf k n = pick (eqb (codeOf k) 1) (fixedOf k + 3 * n) (fixedOf k)
+
+pub fixed-le : (k : Kind) → fixedOf k ≤ 16
+fixed-le K.Strategy = omega arith
+fixed-le K.Order = omega arith
+fixed-le K.Sweep = omega arith
+fixed-le K.LegOrder = omega arith
+fixed-le K.Cancel = omega arith
+fixed-le K.Series = omega arith
+fixed-le K.Clock = omega arith
+fixed-le K.DayEnd = omega arith
+fixed-le K.Unknown = omega arith

@@ -1,0 +1,26 @@
+use mathlib.Core.Path.{_≡_, refl, sym, ap, _∙_}
+use Prim.Native.Nat.{ℕ, suc, _+_, _-_, _≤_, _<_}
+use native.Mathlib.Omega.{arith}
+use native.Mathlib.Numerals.{add-one}
+use lib.ListN.{length, getD}
+use borrow.Author.Needs.{needs}
+use Rattle.frames.specs.Bodies.{valueAt}
+use Rattle.frames.proofs.bodies.value.Statement.{statement}
+use Rattle.frames.proofs.bodies.value.Tie as tie
+use Rattle.frames.proofs.bodies.value.Reads as reads
+use Rattle.frames.proofs.bodies.value.Lts as lts
+use Rattle.frames.proofs.numbers.number.Reads as number-reads
+use Rattle.std.proofs.num.wrapping_add_u32.Reads as wrapping-add-u32-reads
+
+number-requires : tie.Need-number-requires
+number-requires c κs = search needs
+
+wrapping-add-u32-requires : tie.Need-wrapping-add-u32-requires
+wrapping-add-u32-requires c κs = search needs
+
+returns : tie.Need-returns
+unfolding valueAt
+returns c = cc
+
+pub value-spec : {M : Type 1} → statement M
+value-spec = tie.close (tie.spec number-requires wrapping-add-u32-requires returns)

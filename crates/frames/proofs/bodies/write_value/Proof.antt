@@ -1,0 +1,29 @@
+use mathlib.Core.Path.{_≡_, refl, sym, ap, _∙_}
+use Prim.Native.Nat.{ℕ, suc, _+_, _-_, _≤_, _<_}
+use native.Mathlib.Omega.{arith}
+use native.Mathlib.Numerals.{add-one}
+use lib.ListN.{length, getD}
+use borrow.Author.Needs.{needs}
+use Rattle.frames.specs.Bodies.{valueBytes}
+use Rattle.frames.proofs.bodies.write_value.Statement.{statement}
+use Rattle.frames.proofs.bodies.write_value.Tie as tie
+use Rattle.frames.proofs.bodies.write_value.Reads as reads
+use Rattle.frames.proofs.bodies.write_value.Lts as lts
+use Rattle.frames.proofs.numbers.put.Reads as put-reads
+use Rattle.events.proofs.table.raw.Reads as raw-reads
+
+raw-requires : tie.Need-raw-requires
+raw-requires c κs = search needs
+
+put-requires : tie.Need-put-requires
+put-requires c κs = search needs
+
+same-length : tie.Need-same-length
+same-length c = search needs
+
+returns : tie.Need-returns
+unfolding valueBytes
+returns c = cc
+
+pub write-value-spec : {M : Type 1} → statement M
+write-value-spec = tie.close (tie.spec raw-requires put-requires same-length returns)

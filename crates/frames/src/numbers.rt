@@ -1,0 +1,36 @@
+// Numbers of some bytes, the lowest byte first.
+ghost use mathlib.Core.Path.{_≡_};
+ghost use Prim.Native.Nat.{_+_, _≤_};
+ghost use lib.ListN.{length};
+ghost use lib.Seq.{sets};
+ghost use Rattle.frames.specs.Number.{number, bytes};
+
+// The number of width bytes at a place of the frame, its lowest byte first.
+pub(crate) fn number(frame: &[u8], at: usize, width: usize) -> u32
+    requires { ⌜ at + width ≤ length (now frame) ⌝ }
+    requires { ⌜ width ≤ 4 ⌝ }
+    ensures { λ r. ⌜ r ≡ number width (now (frame .entry)) at ⌝ }
+{
+    let mut v: u32 = 0;
+    let mut left = width;
+    while 0 < left {
+        left -= 1;
+        let byte = frame[at + left] as u32;
+        v = v * 256 + byte;
+    }
+    v
+}
+
+// The bytes of a number at a place of the space, its lowest byte first.
+pub(crate) fn put(space: &mut [u8], at: usize, width: usize, value: u32)
+    requires { ⌜ at + width ≤ length (now space) ⌝ }
+    ensures { λ r. ⌜ now (space .exit) ≡ sets (now (space .entry)) at (bytes width value) ⌝ }
+{
+    let mut v = value;
+    let mut i: usize = 0;
+    while i < width {
+        space[at + i] = (v % 256) as u8;
+        v = v / 256;
+        i += 1;
+    }
+}
