@@ -15,10 +15,11 @@ use Rattle.events.specs.declared.Field.{Field}
 abbrev pub width : Field → ℕ
 width x = x .0
 
--- the ends of a range, as in "units (2) 1–9,999"
+-- the least value, as in "units (2) 1–9,999"
 abbrev pub low : Field → ℕ
 low x = x .1
 
+-- and the greatest
 abbrev pub high : Field → ℕ
 high x = x .2
 
@@ -38,6 +39,7 @@ rawOf x v = (v + (2 ^ 32 - bias x)) % 2 ^ 32
 unfoldable pub presentOf : Field → ℕ → ℕ → Field
 presentOf x m k = pick (ltb k m) x none
 
+-- the fields of a frame, by their places
 unfoldable pub layout : List Field → ℕ → ℕ → Field
 layout fs m k = presentOf (getD fs k none) m k
 

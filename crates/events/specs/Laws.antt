@@ -1,15 +1,15 @@
 -- Laws of the table.
-use mathlib.Core.Path.{_≡_, refl, sym, ap, _∙_}
+use mathlib.Core.Path.{_≡_, refl, _∙_}
 use mathlib.Core.Bool.{Bool, true, false}
 use mathlib.Core.List.{List, [], _∷_}
 use Prim.Native.Nat.{ℕ, zero, suc, _+_, _*_, _-_, _%_, _^_, _≤_, _<_}
 use native.Mathlib.Nat.{pow-le-pow-right}
 use native.Mathlib.Omega.{arith}
-use borrow.Author.Tests.{ltb-true, leb-true, eqb-true, lt-ltb}
+use borrow.Author.Tests.{ltb-true, leb-true, eqb-true, lt-ltb, le-ltb}
 use lib.Dec.{ltb, leb, eqb}
 use lib.ListN.{getD}
-use Rattle.base.specs.Pick.{pick, pick-all, pick-by, pick-yes, pick-true}
-use Rattle.events.specs.Fields.{width, low, high, bias, none, rawOf, layout, presentOf, offset, fitN, fit-at, Narrow}
+use Rattle.base.specs.Pick.{pick, pick-all, pick-by, pick-yes, pick-true, pick-false}
+use Rattle.events.specs.Fields.{width, high, bias, none, rawOf, layout, presentOf, offset, fitN, fit-at, Narrow}
 use Rattle.events.specs.Kinds.{lengthOf}
 use Rattle.events.specs.Table.{count, fieldsOf, layoutOf}
 use Rattle.events.specs.Rows.{kindIn, rowOf, layoutIn, fitting, lengthIn}
@@ -108,7 +108,7 @@ thin : (i : ℕ) → width (getD (fieldsOf K.Strategy) i none) ≤ 1
 unfolding pick thinb
 thin i = thin-at (fieldsOf K.Strategy) refl i
 
--- fields of one byte, of which m are layout, end by m
+-- fields of one byte, of which m are there, end by m
 offset-thin : (fs : List Field) (m : ℕ) → ((i : ℕ) → width (getD fs i none) ≤ 1) → (k : ℕ) → (offset (layout fs m) k ≤ 4 + k) × (offset (layout fs m) k ≤ 4 + m)
 unfolding offset layout presentOf
 offset-thin fs m h zero = (omega arith, omega arith)
@@ -234,3 +234,12 @@ module _ (e : Event) (t : fitting e ≡ true) where
   pub short-in : lengthIn e ≤ 23
   unfolding lengthIn
   short-in = exact-in .short
+
+  -- "legs past its count hold zeros": so does every place past the fields that are there
+  pub past-zero : (i : ℕ) → lengthIn e - 4 ≤ i → i < 19 → getD (rowOf e) i 0 ≡ 0
+  unfolding fitting layoutIn layoutOf layout presentOf lengthIn
+  past-zero i h l =
+      let z : layoutOf (kindIn e) (getD (rowOf e) 0 0) i ≡ none = pick-false _ _ _ (le-ltb i (lengthIn e - 4) h) in
+      let v : getD (rowOf e) i 0 ≤ high (layoutOf (kindIn e) (getD (rowOf e) 0 0) i) = fit-at (layoutIn e) (rowOf e) 19 i l t .1 in
+      let u : getD (rowOf e) i 0 ≤ 0 = rw z at v in
+      omega arith

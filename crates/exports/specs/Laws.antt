@@ -10,10 +10,10 @@ use lib.Seq.{take-suc, take-all, take-at, length-take-le, getD-drop, sets, sets-
 use Rattle.base.specs.Pick.{tests}
 use Rattle.base.specs.Walks.{slot, table}
 use Rattle.events.specs.Kinds.{codeOf}
-use Rattle.events.specs.Rows.{kindIn, rowOf, answerOf, lengthIn}
+use Rattle.events.specs.Rows.{kindIn, rowOf, answerOf}
 use Rattle.events.specs.Laws.{short-in, four-in}
 use Rattle.events.specs.Cases.{length-row-of, kind-code, event-row}
-use Rattle.frames.specs.Frames.{readOf, writtenOf, spaceOf, numberOf}
+use Rattle.frames.specs.Frames.{readOf, writtenOf}
 use Rattle.frames.specs.Number.{sets-append}
 use Rattle.frames.specs.Spaces.{accepted}
 use Rattle.exports.specs.Exports.{valuesOf, eventIn, valuesAfter, answerAfter, spaceAfter, frameRead, frameValues, frameWrite, frameSpace, ReadOut, WriteOut}

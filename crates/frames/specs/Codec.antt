@@ -1,5 +1,5 @@
 -- The laws that the functions over frames use.
-use mathlib.Core.Path.{_≡_, refl, sym, _∙_}
+use mathlib.Core.Path.{_≡_, sym, _∙_}
 use mathlib.Core.Bool.{Bool, true, false}
 use mathlib.Core.List.{List, _++_}
 use Prim.Native.Nat.{ℕ, _+_, _-_, _≤_, _<_}
@@ -14,7 +14,7 @@ use Rattle.events.specs.Kinds.{codeOf, lengthOf}
 use Rattle.events.specs.Table.{fieldsOf, layoutOf}
 use Rattle.events.specs.Rows.{kindIn, rowOf, eventOf, layoutIn, fitting, lengthIn}
 use Rattle.events.specs.Laws.{layout-is, offset-fits, narrow, room-in}
-use Rattle.frames.specs.Number.{number, bytes, length-bytes, sets-append}
+use Rattle.frames.specs.Number.{number, bytes, length-bytes}
 use Rattle.frames.specs.Bodies.{offset-body, rowN, bodyN}
 use Rattle.frames.specs.Frames.{kindAt, countAt, rowAt, judgeOf, readOf, frameOf, writtenOf, spaceOf, Wrote}
 use Rattle.events.specs.declared.Field.{Field}

@@ -1,11 +1,10 @@
 -- Worked examples of document 01.
 use mathlib.Core.Path.{_≡_, refl}
-use mathlib.Core.List.{List, [], _∷_}
-use Prim.Native.Nat.{ℕ}
+use mathlib.Core.List.{[], _∷_}
 use Rattle.base.specs.Pick.{pick}
 use Rattle.events.specs.Fields.{rawOf, layout, presentOf, offset, withinOf, fitN}
 use Rattle.events.specs.Kinds.{kindOf, lengthOf}
-use Rattle.events.specs.Table.{layoutOf}
+use Rattle.events.specs.Table.{limit, layoutOf}
 use Rattle.events.specs.Rows.{layoutIn, lengthIn}
 use Rattle.frames.specs.Number.{number, bytes}
 use Rattle.frames.specs.Bodies.{valueAt, valueBytes, rowN, bodyN}
@@ -26,3 +25,8 @@ open-zero = refl
 pub zero-opens : readOf (6 ∷ 0 ∷ 6 ∷ 0 ∷ 0 ∷ 1 ∷ []) ≡ R.Event openZero
 unfolding readOf judgeOf pick number kindAt kindOf lengthOf fitN withinOf rowAt rowN layoutOf layout presentOf valueAt offset
 zero-opens = refl
+
+-- "limit (4, signed)": a limit of −1
+pub minus-one : valueBytes limit 9999999 ≡ 255 ∷ 255 ∷ 255 ∷ 255 ∷ []
+unfolding valueBytes rawOf bytes
+minus-one = refl

@@ -1,5 +1,5 @@
 -- Numbers of some bytes.
-use mathlib.Core.Path.{_≡_, refl, sym, ap, _∙_}
+use mathlib.Core.Path.{_≡_, refl, ap, _∙_}
 use mathlib.Core.List.{List, [], _∷_, _++_, append-assoc}
 use Prim.Native.Nat.{ℕ, zero, suc, _+_, _*_, _-_, _/_, _%_, _^_, _≤_, _<_}
 use native.Mathlib.Nat.{pow-succ', pow-le-pow-right, lt-of-lt-of-le, add-zero, sub-zero, add-suc, suc-add}
@@ -22,13 +22,21 @@ bytes (suc w) n = n % 256 ∷ bytes w (n / 256)
 pub record Bytes (f : List ℕ) : Type 0 where
   pub small : (i : ℕ) → getD f i 0 < 256
 
--- a loop from the highest byte down
-pub number-back : (f : List ℕ) (a w l : ℕ) → 0 < l → l ≤ w → number (w - l) f (a + l) * 256 + getD f (a + (l - 1)) 0 ≡ number (w - (l - 1)) f (a + (l - 1))
+-- a loop from the highest byte down: i of w bytes are read, one more, all
+pub number-next :
+    (f : List ℕ) (a w i : ℕ) {v byte : ℕ} →
+    i < w → v ≡ number i f (a + (w - i)) → byte ≡ getD f (a + (w - 1 - i)) 0 → v * 256 + byte ≡ number (i + 1) f (a + (w - (i + 1)))
 unfolding number
-number-back f a w l p h =
-    let e : w - (l - 1) ≡ suc (w - l) = omega arith in
-    let s : a + (l - 1) + 1 ≡ a + l = omega arith in
-    rw (e, number, s) (omega arith)
+number-next f a w i h p q =
+    let e : w - suc i ≡ w - 1 - i = omega arith in
+    let s : a + (w - 1 - i) + 1 ≡ a + (w - i) = omega arith in
+    rw (p, q, add-one i, e, s) (omega arith)
+
+pub number-all : (f : List ℕ) (a w i : ℕ) {v : ℕ} → i ≤ w → w ≤ i → v ≡ number i f (a + (w - i)) → v ≡ number w f a
+number-all f a w i h l p =
+    let e : i ≡ w = omega arith in
+    let z : a + (w - w) ≡ a = omega arith in
+    p ∙ rw (e, z)
 
 pub number-lt : (f : List ℕ) → Bytes f → (w a : ℕ) → number w f a < 256 ^ w
 unfolding number

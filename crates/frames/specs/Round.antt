@@ -10,9 +10,9 @@ use lib.Dec.{eqb}
 use lib.ListN.{length, getD, take, drop, length-append}
 use lib.Seq.{ext-getD, take-add, take-all}
 use Rattle.base.specs.Pick.{pick, pick-all}
-use Rattle.events.specs.Fields.{width, bias, rawOf, layout, presentOf, offset, offset-room, fitN, fit-at}
-use Rattle.events.specs.Kinds.{kindOf, codeOf, lengthOf}
-use Rattle.events.specs.Table.{count, fieldsOf, layoutOf}
+use Rattle.events.specs.Fields.{width, bias, rawOf, layout, presentOf, offset, offset-room, fit-at}
+use Rattle.events.specs.Kinds.{codeOf, lengthOf}
+use Rattle.events.specs.Table.{count, layoutOf}
 use Rattle.events.specs.Rows.{kindIn, rowOf, eventOf, layoutIn, fitting, lengthIn, answerOf}
 use Rattle.events.specs.Laws.{Sound, field-is, exact, field-same, length-same, first-field, count-le, short-in, four-in}
 use Rattle.events.specs.Cases.{event-row, length-row-of, kind-code, code-lt, kindRead, rowRead, kind-back, answer-event, event-is, code-kind, value-raw, raw-value}

@@ -4,7 +4,7 @@ ghost use mathlib.Core.Bool.{true};
 ghost use Prim.Native.Nat.{_≤_};
 ghost use lib.ListN.{length};
 ghost use lib.Seq.{sets};
-ghost use Rattle.events.specs.Rows.{fitting, lengthIn, answerOf};
+ghost use Rattle.events.specs.Rows.{fitting, lengthIn};
 ghost use Rattle.frames.specs.Frames.{countAt, judgeOf, readOf, frameOf, Wrote};
 
 mod bodies; // the fields of a frame
@@ -78,7 +78,7 @@ pub extern "C" fn judge(frame: &[u8]) -> u32
     }
 }
 
-// The event's frame at the offset of the space.
+// The event's frame at the start of the space.
 fn write_frame(event: Event, space: &mut [u8])
     requires { ⌜ fitting event ≡ true ⌝ }
     requires { ⌜ lengthIn event ≤ length (now space) ⌝ }

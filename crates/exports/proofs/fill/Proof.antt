@@ -1,9 +1,9 @@
 use Rattle.events.specs.Kinds.{codeOf}
 use Rattle.exports.specs.Laws.{fill-next, fill-last}
 use lib.Seq.{sets}
-use lib.ListN.{length, getD, take, length-set}
-use Prim.Native.Nat.{ℕ, _+_, _-_, _≤_, _<_}
-use mathlib.Core.Path.{_≡_, refl, sym, ap, _∙_}
+use lib.ListN.{length, take, length-set}
+use Prim.Native.Nat.{_-_, _≤_}
+use mathlib.Core.Path.{_≡_, refl, ap, _∙_}
 use borrow.Author.Needs.{needs}
 use native.Mathlib.Omega.{arith}
 use Rattle.exports.proofs.fill.Statement.{statement}

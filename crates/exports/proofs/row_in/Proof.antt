@@ -1,8 +1,8 @@
 use Rattle.exports.specs.Laws.{row-slot, row-last}
 use Rattle.base.specs.Walks.{slot, stored, stored-first, stored-next, stored-last}
-use lib.ListN.{length, getD, drop, length-drop}
-use Prim.Native.Nat.{ℕ, _+_, _-_, _≤_, _<_}
-use mathlib.Core.Path.{_≡_, refl, sym, ap, _∙_}
+use lib.ListN.{drop, length-drop}
+use Prim.Native.Nat.{_-_, _≤_}
+use mathlib.Core.Path.{_≡_}
 use borrow.Author.Needs.{needs}
 use native.Mathlib.Omega.{arith}
 use Rattle.exports.proofs.row_in.Statement.{statement}

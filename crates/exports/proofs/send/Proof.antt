@@ -1,8 +1,7 @@
 use Rattle.exports.specs.Laws.{length-small}
 use Rattle.frames.specs.Frames.{numberOf}
-use lib.ListN.{length}
 use native.Mathlib.Omega.{arith}
-use mathlib.Core.Path.{_≡_, refl, sym, ap, _∙_}
+use mathlib.Core.Path.{sym, ap, _∙_}
 use borrow.Author.Needs.{needs}
 use Rattle.exports.proofs.send.Statement.{statement}
 use Rattle.exports.proofs.send.Tie as tie

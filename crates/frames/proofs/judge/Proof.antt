@@ -1,4 +1,4 @@
-use mathlib.Core.Path.{_≡_, sym, ap, _∙_}
+use mathlib.Core.Path.{sym, ap, _∙_}
 use Rattle.events.specs.Rows.{answerOf}
 use Rattle.frames.specs.Round.{judge-reads}
 use borrow.Author.Needs.{needs}

@@ -1,8 +1,6 @@
-use mathlib.Core.Path.{_≡_, refl, sym, ap, _∙_}
-use Prim.Native.Nat.{ℕ, suc, _+_, _-_, _≤_, _<_}
+use mathlib.Core.Path.{_∙_}
+use Prim.Native.Nat.{_-_}
 use native.Mathlib.Omega.{arith}
-use lib.ListN.{length, getD}
-use lib.Seq.{length-sets}
 use borrow.Author.Needs.{needs}
 use Rattle.events.specs.Laws.{four-in, layout-in, room-in, short-in}
 use Rattle.frames.specs.Codec.{frame-stores}

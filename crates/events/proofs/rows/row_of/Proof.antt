@@ -1,4 +1,3 @@
-use mathlib.Core.Path.{_≡_, refl, sym, ap, _∙_}
 use borrow.Author.Needs.{needs}
 use Rattle.events.proofs.rows.row_of.Statement.{statement}
 use Rattle.events.proofs.rows.row_of.Tie as tie

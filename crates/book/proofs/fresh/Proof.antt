@@ -1,0 +1,17 @@
+use borrow.Author.Needs.{needs}
+use Rattle.rules.specs.State.{fresh}
+use Rattle.book.proofs.fresh.Statement.{statement}
+use Rattle.book.proofs.fresh.Tie as tie
+use Rattle.book.proofs.fresh.Reads as reads
+use Rattle.book.proofs.fresh.Lts as lts
+use Rattle.book.proofs.free_strategy.Reads as free-strategy-reads
+
+free-strategy-requires : tie.Need-free-strategy-requires
+free-strategy-requires c κs = search needs
+
+returns : tie.Need-returns
+unfolding fresh
+returns c = rw (c .free-strategy .ensures)
+
+pub fresh-spec : {M : Type 1} → statement M
+fresh-spec = tie.close (tie.spec free-strategy-requires returns)

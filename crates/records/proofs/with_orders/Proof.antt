@@ -1,0 +1,15 @@
+use Rattle.rules.specs.State.{withOrders}
+use mathlib.Core.Path.{refl}
+use borrow.Author.Needs.{needs}
+use Rattle.records.proofs.with_orders.Statement.{statement}
+use Rattle.records.proofs.with_orders.Tie as tie
+use Rattle.records.proofs.with_orders.Reads as reads
+use Rattle.records.proofs.with_orders.Lts as lts
+
+-- src/lib.rt:89:1
+returns : tie.Need-returns
+unfolding withOrders
+returns c = refl
+
+pub with-orders-spec : {M : Type 1} → statement M
+with-orders-spec = tie.close (tie.spec returns)

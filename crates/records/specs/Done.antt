@@ -1,0 +1,70 @@
+-- What a function that follows a rule leaves: the rule's records in the space, the next place, and the rule's state.
+use mathlib.Core.Path.{_≡_, refl, sym, _∙_, ap, subst}
+use mathlib.Core.List.{List, [], _∷_, _++_}
+use Prim.Native.Nat.{ℕ, zero, suc, _+_, _-_, _≤_, _<_}
+use native.Mathlib.Nat.{zero-add, suc-add}
+use native.Mathlib.Numerals.{add-one}
+use native.Mathlib.Omega.{arith}
+use lib.IntN.{ℤ}
+use lib.ListN.{length, length-append}
+use Rattle.rules.specs.declared.State.{State}
+use Rattle.rules.specs.Moves.{Moved, still, and-then, each}
+use Rattle.records.specs.Space.{Wrote, Room, wrote-nil, wrote-append, wrote-length}
+
+-- A function that follows a rule x: from place n of the space sp it wrote the rule's records, up to place m, and ends in its book.
+pub record Done (sp sq : List ℤ) (n m : ℕ) (b : State) (x : Moved) : Type 0 where
+  pub wrote : Wrote sp sq n m (x .records)
+  pub state : b ≡ x .state
+
+-- laws
+
+pub done-still : (sp : List ℤ) (n : ℕ) (b : State) → Done sp sp n n b (still b)
+done-still sp n b = record { wrote = wrote-nil sp n; state = refl }
+
+pub done-of : {sp sq : List ℤ} {n m : ℕ} {b : State} {x y : Moved} → x ≡ y → Done sp sq n m b y → Done sp sq n m b x
+done-of e d = rw e d
+
+pub done-length : {sp sq : List ℤ} {n m : ℕ} {b : State} {x : Moved} → Done sp sq n m b x → length sq ≡ length sp
+done-length d = wrote-length (d .wrote)
+
+pub done-then : (x : Moved) (f : State → Moved) {sp sq sr : List ℤ} {n m k : ℕ} {b c : State} → Done sp sq n m b x → Done sq sr m k c (f b) → Done sp sr n k c (and-then x f)
+unfolding and-then
+done-then x f d e = let g = rw (d .state) at e in record { wrote = wrote-append (d .wrote) (g .wrote); state = g .state }
+
+pub room-then : (x : Moved) (f : State → Moved) {sp : List ℤ} {n : ℕ} → Room sp n (and-then x f .records) → Room sp n (x .records)
+unfolding and-then
+room-then x f r = record { count = omega (arith, r .count, length-append (x .records) (f (x .state) .records)); space = r .space }
+
+pub room-after : (x : Moved) (f : State → Moved) {sp sq : List ℤ} {n m : ℕ} {b : State} → Room sp n (and-then x f .records) → Done sp sq n m b x → Room sq m (f b .records)
+unfolding and-then
+room-after x f r d =
+    rw (d .state) (record { count = omega (arith, r .count, d .wrote .count, length-append (x .records) (f (x .state) .records)); space = omega (arith, r .space, done-length d) })
+
+-- the loop over the slots: none passed yet, and one more
+pub each-first : (sp : List ℤ) (n : ℕ) (f : ℕ → State → Moved) (b : State) → Done sp sp n n b (each f 0 b)
+unfolding each
+each-first sp n f b = done-still sp n b
+
+pub each-next : (f : ℕ → State → Moved) (i : ℕ) (b₀ : State) {sp sq sr : List ℤ} {n m k : ℕ} {b c : State} → Done sp sq n m b (each f i b₀) → Done sq sr m k c (f i b) → Done sp sr n k c (each f (i + 1) b₀)
+unfolding each
+each-next f i b₀ d e = rw (add-one i) (done-then (each f i b₀) (f i) d e)
+
+each-rise : (f : ℕ → State → Moved) (b : State) (i j : ℕ) → length (each f i b .records) ≤ length (each f (j + i) b .records)
+unfolding each and-then
+each-rise f b i zero = rw zero-add (omega arith)
+each-rise f b i (suc j) = let h = each-rise f b i j in rw (suc-add, length-append) (omega arith)
+
+-- room for all slots is room for the next one
+pub room-each : (f : ℕ → State → Moved) (k i : ℕ) (b₀ : State) {sp sq : List ℤ} {n m : ℕ} {b : State} → Room sp n (each f k b₀ .records) → i < k → Done sp sq n m b (each f i b₀) → Room sq m (f i b .records)
+unfolding each and-then
+room-each f k i b₀ r h d =
+    let q : k ≡ k - suc i + suc i = omega arith in
+    let e : length (each f k b₀ .records) ≡ length (each f (k - suc i + suc i) b₀ .records) = ap (λ (j : ℕ). length (each f j b₀ .records)) q in
+    rw (d .state)
+    (record {
+      count = omega (arith, r .count, d .wrote .count, length-append (each f i b₀ .records) (f i (each f i b₀ .state) .records), each-rise f b₀ (suc i) (k - suc i), e);
+      space = omega (arith, r .space, done-length d);
+    })
+
+pub room-of : {sp : List ℤ} {n : ℕ} {x y : Moved} → x ≡ y → Room sp n (x .records) → Room sp n (y .records)
+room-of {sp} {n} e r = subst (λ (z : Moved). Room sp n (z .records)) e r

@@ -1,0 +1,298 @@
+-- What the paper repeats is repeated to its end: "while units of it remain", "while they meet", all that is live at day end.
+use mathlib.Core.Path.{_≡_, refl, sym, ap, _∙_}
+use mathlib.Core.Bool.{Bool, true, false}
+use mathlib.Core.List.{List, [], _∷_}
+use mathlib.Core.Logic.{_⊎_, inl, inr, ⊎-elim}
+use Prim.Native.Nat.{ℕ, zero, suc, _-_, _≤_, _<_, min}
+use native.Mathlib.Omega.{arith}
+use borrow.Author.Tests.{eqb-true, eqb-false, eq-eqb, ltb-true, ltb-false, leb-false, lt-leb, not-true}
+use lib.Dec.{eqb, ltb, leb}
+use lib.ListN.{getD, set}
+use Rattle.base.specs.Pick.{pick, pick-true, pick-false, pick-by, pick-all, pick-no}
+use Rattle.base.specs.Walks.{sumN, slot, table-slot, sum-one, clash, lt-or-le}
+use Rattle.rules.specs.declared.Strategy.{Strategy}
+use Rattle.rules.specs.declared.Entry.{Entry}
+use Rattle.rules.specs.declared.State.{State}
+use Rattle.rules.specs.declared.Allocation.{Allocation}
+use Rattle.rules.specs.declared.Allocation.the-variants.{LegsOnly, Shared, Numbered}
+use Rattle.rules.specs.declared.Turn.{Turn}
+use Rattle.rules.specs.declared.Turn.the-variants.{Stop, ByLegs, AtLimit}
+use Rattle.rules.specs.State.{noEntry, entryAt, strategyOf, withEntries, withOrders}
+use Rattle.rules.specs.Moves.{Moved, still, and-then, each}
+use Rattle.rules.specs.Sides.{meets, better}
+use Rattle.rules.specs.Quotas.{inTurn, share}
+use Rattle.rules.specs.Nets.{prices, unitsOf}
+use Rattle.rules.specs.Fills.{cutEntry, cut, wholeFill, takeLegs, legFill}
+use Rattle.rules.specs.Passes.{opposes, groupOf, within, holding, sizeAt, sizes, giveAt, give, giveInTurn, giveGroup, giveShared, meetLimit, ready, readyNet, opposite, legsFirst, turnAt, turnOf, take, turn, pass}
+use Rattle.rules.proofs.Shrinks.{cut-shrinks}
+use Rattle.rules.proofs.Turns.{each-ends, units-some, Holder, opposite-holder}
+use Rattle.rules.proofs.Quotas.{inTurn-sum, share-total}
+
+-- CUTS: what a store leaves at its own slot
+pub made : {A : Type 0} (P : A → Type 0) (d x : A) (l : List A) (i : ℕ) → P x → P d → P (getD (set l i x) i d)
+made P d x [] i p q = q
+made P d x (y ∷ l) zero p q = p
+made P d x (y ∷ l) (suc i) p q = made P d x l i p q
+
+pub cut-takes : (b : State) (i q : ℕ) → entryAt (cut b i q) i .units ≤ entryAt b i .units - q
+unfolding cut withEntries
+cut-takes b i q = made (λ (e : Entry). e .units ≤ entryAt b i .units - q) noEntry (cutEntry (entryAt b i) q) (b .entries) i (omega arith) (omega arith)
+
+-- FILLS of an entry by others: each takes its quota, and none takes nothing
+pub whole-takes : (b : State) (a h level q : ℕ) → entryAt (wholeFill b a h level q .state) a .units ≤ entryAt b a .units - q
+unfolding wholeFill
+whole-takes b a h level q =
+    pick-by (λ (m : Moved). entryAt (m .state) a .units ≤ entryAt b a .units - q) (eqb q 0)
+    (λ e. omega (arith, eqb-true q 0 e))
+    (λ _. omega (arith, cut-takes b a q, cut-shrinks (cut b a q) h q .entry a .units))
+
+whole-none : (b : State) (a h level q : ℕ) → q ≡ 0 → wholeFill b a h level q ≡ still b
+unfolding wholeFill
+whole-none b a h level q e = pick-true _ _ _ (eq-eqb q 0 e)
+
+module _ (a level : ℕ) (qs : List ℕ) (b : State) where
+  gives : (k : ℕ) → entryAt (each (giveAt a level qs) k b .state) a .units ≤ entryAt b a .units - sumN (slot qs) k
+  unfolding each and-then sumN
+  gives zero = omega arith
+  gives (suc k) = let h = gives k in omega (arith, whole-takes (each (giveAt a level qs) k b .state) a k level (slot qs k))
+
+  gives-none : (k : ℕ) → sumN (slot qs) k ≡ 0 → each (giveAt a level qs) k b .state ≡ b
+  unfolding each and-then sumN
+  gives-none zero h = refl
+  gives-none (suc k) h = rw (gives-none k (omega arith), whole-none b a k level (slot qs k) (omega arith))
+
+-- A GROUP of the holders of a limit, and what it holds in all
+abbrev total : State → ℕ → ℕ → ℕ → ℕ
+total b a level g = sumN (slot (sizes (b .entries) (entryAt b a) level g)) 32
+
+abbrev unitsAt : ℕ → State → ℕ
+unitsAt a b = entryAt b a .units
+
+inTurn-takes : (a level g : ℕ) (b : State) → unitsAt a (giveInTurn a level g b .state) ≤ unitsAt a b - min (unitsAt a b) (total b a level g)
+unfolding giveInTurn give
+inTurn-takes a level g b =
+    let xs : List ℕ = sizes (b .entries) (entryAt b a) level g in
+    omega (arith, gives a level (inTurn (unitsAt a b) xs) b 32, inTurn-sum (unitsAt a b) xs)
+
+inTurn-none : (a level g : ℕ) (b : State) → total b a level g ≡ 0 → giveInTurn a level g b .state ≡ b
+unfolding giveInTurn give
+inTurn-none a level g b e =
+    let xs : List ℕ = sizes (b .entries) (entryAt b a) level g in
+    gives-none a level (inTurn (unitsAt a b) xs) b 32 (omega (arith, inTurn-sum (unitsAt a b) xs))
+
+group-takes : (a level g : ℕ) (b : State) → unitsAt a (giveGroup a level g b .state) ≤ unitsAt a b - min (unitsAt a b) (total b a level g)
+unfolding giveGroup give
+group-takes a level g b =
+    let xs : List ℕ = sizes (b .entries) (entryAt b a) level g in
+    omega (arith, gives a level (share (unitsAt a b) xs) b 32, share-total (unitsAt a b) xs)
+
+group-none : (a level g : ℕ) (b : State) → total b a level g ≡ 0 → giveGroup a level g b .state ≡ b
+unfolding giveGroup give
+group-none a level g b e =
+    let xs : List ℕ = sizes (b .entries) (entryAt b a) level g in
+    gives-none a level (share (unitsAt a b) xs) b 32 (omega (arith, share-total (unitsAt a b) xs))
+
+-- the holder's group holds some
+group-of : (f : Entry) → (groupOf f ≡ 0) ⊎ ((groupOf f ≡ 1) ⊎ (groupOf f ≡ 2))
+unfolding groupOf
+group-of f =
+    let P : ℕ → Type 0 = λ (g : ℕ). (g ≡ 0) ⊎ ((g ≡ 1) ⊎ (g ≡ 2)) in
+    pick-all P _ (inr (inl refl)) (pick-all P _ (inr (inl refl)) (pick-all P _ (inl refl) (inr (inr refl))))
+
+module _ (a x : ℕ) (b : State) (some : 0 < unitsAt a b) (h : Holder (b .entries) (entryAt b a) x 32) where
+  holder : Entry
+  holder = entryAt b (h .at)
+
+  holds : (g : ℕ) → within g holder ≡ true → 0 < total b a x g
+  unfolding sizes holding opposes holder
+  holds g w =
+      let f : ℕ → ℕ = sizeAt (b .entries) (entryAt b a) x g in
+      let u : 0 < holder .units = (let n : ¬ (holder .units ≡ 0) = eqb-false _ _ (pick-no (eqb (holder .units) 0) (h .opposed) .0) in omega arith) in
+      let e : slot (sizes (b .entries) (entryAt b a) x g) (h .at) ≡ holder .units =
+      table-slot f 0 32 (h .at) (h .slot) ∙ pick-true _ _ _ (h .opposed) ∙ pick-true _ _ _ (eq-eqb _ _ (h .level)) ∙ pick-true _ _ _ w in
+      omega (arith, sum-one (slot (sizes (b .entries) (entryAt b a) x g)) 32 (h .at) (h .slot))
+
+  -- it falls where its group has its turn, and where another's gave nothing
+  abbrev Falls : State → Type 0
+  Falls c = unitsAt a c < unitsAt a b
+
+  abbrev Stays : State → Type 0
+  Stays c = Falls c ⊎ (c ≡ b)
+
+  inTurn-stays : (g : ℕ) → Stays (giveInTurn a x g b .state)
+  inTurn-stays g = ⊎-elim (λ (l : 0 < total b a x g). inl (omega (arith, inTurn-takes a x g b))) (λ (l : total b a x g ≤ 0). inr (inTurn-none a x g b (omega arith))) (lt-or-le 0 (total b a x g))
+
+  group-stays : (g : ℕ) → Stays (giveGroup a x g b .state)
+  group-stays g = ⊎-elim (λ (l : 0 < total b a x g). inl (omega (arith, group-takes a x g b))) (λ (l : total b a x g ≤ 0). inr (group-none a x g b (omega arith))) (lt-or-le 0 (total b a x g))
+
+  group-next : (g : ℕ) (c : State) → Stays c → Stays (giveGroup a x g c .state)
+  group-next g c s = ⊎-elim (λ l. inl (omega (arith, group-takes a x g c))) (λ e. rw e (group-stays g)) s
+
+  group-on : (g : ℕ) (c : State) → Stays c → (c ≡ b → Falls (giveGroup a x g b .state)) → Falls (giveGroup a x g c .state)
+  group-on g c s f = ⊎-elim (λ l. omega (arith, group-takes a x g c)) (λ e. rw e (f e)) s
+
+  numbered-falls : Falls (giveInTurn a x 3 b .state)
+  unfolding within
+  numbered-falls = omega (arith, inTurn-takes a x 3 b, holds 3 (pick-true _ _ _ refl))
+
+  abbrev one : State
+  one = giveInTurn a x 0 b .state
+
+  abbrev two : State
+  two = giveGroup a x 1 one .state
+
+  first : groupOf holder ≡ 0 → Falls (giveGroup a x 2 two .state)
+  unfolding within
+  first e = omega (arith, inTurn-takes a x 0 b, holds 0 (pick-false _ _ _ refl ∙ eq-eqb _ _ e), group-takes a x 1 one, group-takes a x 2 two)
+
+  second : groupOf holder ≡ 1 → Falls (giveGroup a x 2 two .state)
+  unfolding within
+  second e =
+      let f : Falls two = group-on 1 one (inTurn-stays 0) (λ _. omega (arith, group-takes a x 1 b, holds 1 (pick-false _ _ _ refl ∙ eq-eqb _ _ e))) in
+      omega (arith, group-takes a x 2 two)
+
+  third : groupOf holder ≡ 2 → Falls (giveGroup a x 2 two .state)
+  unfolding within
+  third e = group-on 2 two (group-next 1 one (inTurn-stays 0)) (λ _. omega (arith, group-takes a x 2 b, holds 2 (pick-false _ _ _ refl ∙ eq-eqb _ _ e)))
+
+  shared-falls : Falls (giveShared a x b .state)
+  unfolding giveShared and-then
+  shared-falls = ⊎-elim first (⊎-elim second third) (group-of holder)
+
+-- A TURN at the opposite limit, and one by the legs
+limit-falls : (way : Allocation) (a : ℕ) (b : State) → 0 < unitsAt a b → (opposite way a b ≡ 0 → ⊥) → unitsAt a (meetLimit way a (opposite way a b) b .state) < unitsAt a b
+unfolding opposite meetLimit
+limit-falls LegsOnly a b some x = absurd (x refl)
+limit-falls Shared a b some x = shared-falls a _ b some (opposite-holder (b .entries) (entryAt b a) x)
+limit-falls Numbered a b some x = numbered-falls a _ b some (opposite-holder (b .entries) (entryAt b a) x)
+
+is-ready : (legs : Bool) (a : ℕ) (b : State) → (readyNet legs a b ≡ 0 → ⊥) → ready a b ≡ true
+unfolding readyNet
+is-ready legs a b =
+    let P : ℕ → Type 0 = λ (n : ℕ). (n ≡ 0 → ⊥) → ready a b ≡ true in
+    pick-all P legs (pick-by P (ready a b) (λ e _. e) (λ _ n. absurd (n refl))) (λ n. absurd (n refl))
+
+legs-fall : (a : ℕ) (b : State) → 0 < unitsAt a b → ready a b ≡ true → unitsAt a (legFill a b .state) < unitsAt a b
+unfolding legFill takeLegs withOrders ready
+legs-fall a b some e =
+    let s : Strategy = strategyOf b (entryAt b a) in
+    let side : ℕ = entryAt b a .side in
+    let ps : List ℕ = prices (b .orders) side (s .legs) in
+    let one : 0 < unitsOf (b .orders) side s ps 1 = (let n : ¬ (unitsOf (b .orders) side s ps 1 ≡ 0) = eqb-false _ _ (not-true _ e) in omega arith) in
+    omega (arith, cut-takes b a (unitsOf (b .orders) side s ps (unitsAt a b)), units-some (b .orders) side s ps (unitsAt a b) some one)
+
+-- A TURN THAT DOES NOT STOP FILLS AT LEAST ONE UNIT
+pub turn-fills : (way : Allocation) (legs : Bool) (a i : ℕ) (b : State) → (turnOf way legs a b ≡ Stop → ⊥) → entryAt (turn way legs a i b .state) a .units < entryAt b a .units
+unfolding turnOf turnAt legsFirst take
+turn-fills way legs a i b =
+    let P : Turn → Type 0 = λ (t : Turn). (t ≡ Stop → ⊥) → unitsAt a (take way a t b .state) < unitsAt a b in
+    let stop : P Stop = λ go. absurd (go refl) in
+    pick-by P _ (λ _. stop) (λ u.
+    pick-by P _
+    (λ f. pick-all P _ (λ _. legs-fall a b (some u) (is-ready legs a b (eqb-false _ _ (pick-no (eqb (readyNet legs a b) 0) f .0)))) stop)
+    (λ _. pick-by P _ (λ _. stop) (λ x. pick-all P _ (λ _. limit-falls way a b (some u) (eqb-false _ _ x)) stop)))
+  where
+    some : eqb (unitsAt a b) 0 ≡ false → 0 < unitsAt a b
+    some u = let n : ¬ (unitsAt a b ≡ 0) = eqb-false (unitsAt a b) 0 u in omega arith
+
+-- A PASS ENDS ONLY WHERE A TURN STOPS
+stopped : Turn → Bool
+stopped Stop = true
+stopped ByLegs = false
+stopped (AtLimit x) = false
+
+is-stop : (t : Turn) → stopped t ≡ true → t ≡ Stop
+unfolding stopped
+is-stop Stop e = refl
+is-stop ByLegs e = absurd (clash e refl)
+is-stop (AtLimit x) e = absurd (clash e refl)
+
+no-stop : (t : Turn) → stopped t ≡ false → t ≡ Stop → ⊥
+unfolding stopped
+no-stop t e s = clash (ap stopped s) e
+
+pub pass-ends : (way : Allocation) (legs : Bool) (a : ℕ) (b : State) → turnOf way legs a (pass way legs a b .state) ≡ Stop
+unfolding pass take
+pass-ends way legs a b =
+    is-stop _ (each-ends (turn way legs a) (λ (c : State). stopped (turnOf way legs a c)) (unitsAt a)
+    (λ i c e. ap (λ (t : Turn). take way a t c) (is-stop _ e)) (λ i c e. turn-fills way legs a i c (no-stop _ e)) (unitsAt a b) b (omega arith))
+
+-- "Stop when neither meets its limit": neither the best opposite limit nor the ready leg net, where there are such
+pub record Neither (e : Entry) (x net : ℕ) : Type 0 where
+  pub limit : (x ≡ 0) ⊎ (meets (e .side) (e .level) x ≡ false)
+  pub legs : (net ≡ 0) ⊎ (meets (e .side) (e .level) net ≡ false)
+
+worse-fails : (side limit x y : ℕ) → better side x y ≡ true → meets side limit x ≡ false → meets side limit y ≡ false
+unfolding better meets pick
+worse-fails side limit x y = by (eqb side 0)
+  where
+    by : (t : Bool) → pick t (ltb x y) (ltb y x) ≡ true → pick t (leb x limit) (leb limit x) ≡ false → pick t (leb y limit) (leb limit y) ≡ false
+    by true e f = lt-leb y limit (omega (arith, ltb-true x y e, leb-false x limit f))
+    by false e f = lt-leb limit y (omega (arith, ltb-true y x e, leb-false limit x f))
+
+no-better-fails : (side limit x y : ℕ) → better side x y ≡ false → meets side limit y ≡ false → meets side limit x ≡ false
+unfolding better meets pick
+no-better-fails side limit x y = by (eqb side 0)
+  where
+    by : (t : Bool) → pick t (ltb x y) (ltb y x) ≡ false → pick t (leb y limit) (leb limit y) ≡ false → pick t (leb x limit) (leb limit x) ≡ false
+    by true e f = lt-leb x limit (omega (arith, ltb-false x y e, leb-false y limit f))
+    by false e f = lt-leb limit x (omega (arith, ltb-false y x e, leb-false limit y f))
+
+module _ (e : Entry) (x net : ℕ) where
+  -- what the choice of the legs says of the price that was not chosen
+  chosen-legs : legsFirst (e .side) net x ≡ true → meets (e .side) (e .level) net ≡ false → Neither e x net
+  unfolding legsFirst
+  chosen-legs f m = record { legs = inr m; limit = by (eqb x 0) refl (pick-no (eqb net 0) f .1) }
+    where
+      by : (t : Bool) → eqb x 0 ≡ t → pick t true (better (e .side) net x) ≡ true → (x ≡ 0) ⊎ (meets (e .side) (e .level) x ≡ false)
+      by true z g = inl (eqb-true x 0 z)
+      by false z g = inr (worse-fails (e .side) (e .level) net x (sym (pick-false false true (better (e .side) net x) refl) ∙ g) m)
+
+  chosen-limit : legsFirst (e .side) net x ≡ false → (eqb x 0 ≡ false → meets (e .side) (e .level) x ≡ false) → Neither e x net
+  unfolding legsFirst pick
+  chosen-limit f m = by (eqb net 0) (eqb x 0) refl refl f
+    where
+      by : (s t : Bool) → eqb net 0 ≡ s → eqb x 0 ≡ t → pick s false (pick t true (better (e .side) net x)) ≡ false → Neither e x net
+      by true true n z g = record { limit = inl (eqb-true x 0 z); legs = inl (eqb-true net 0 n) }
+      by true false n z g = record { limit = inr (m z); legs = inl (eqb-true net 0 n) }
+      by false true n z g = absurd (clash refl g)
+      by false false n z g = record { limit = inr (m z); legs = inr (no-better-fails (e .side) (e .level) net x g (m z)) }
+
+  -- a turn stops exactly where no units are left, or neither price meets the limit
+  pub stop-why : turnAt e x net ≡ Stop → (e .units ≡ 0) ⊎ Neither e x net
+  unfolding turnAt
+  stop-why =
+      let P : Turn → Type 0 = λ (t : Turn). t ≡ Stop → (e .units ≡ 0) ⊎ Neither e x net in
+      pick-by P _ (λ u _. inl (eqb-true _ _ u)) (λ _.
+      pick-by P _
+      (λ f. pick-by P _ (λ _ s. absurd (legs-go s)) (λ m _. inr (chosen-legs f m)))
+      (λ f. pick-by P _ (λ z _. inr (chosen-limit f (λ n. absurd (clash z n)))) (λ _. pick-by P _ (λ _ s. absurd (limit-goes s)) (λ m _. inr (chosen-limit f (λ _. m))))))
+    where
+      legs-go : ByLegs ≡ Stop → ⊥
+      legs-go s = let z : _≡_ {A = ℕ} 0 1 = cc in omega arith
+
+      limit-goes : AtLimit x ≡ Stop → ⊥
+      limit-goes s = let z : _≡_ {A = ℕ} 0 1 = cc in omega arith
+
+  pub stop-when : (e .units ≡ 0) ⊎ Neither e x net → turnAt e x net ≡ Stop
+  unfolding turnAt legsFirst
+  stop-when w =
+      let P : Turn → Type 0 = λ (t : Turn). t ≡ Stop in
+      pick-by P _ (λ _. refl) (λ u.
+      pick-by P _
+      (λ f. pick-by P _ (λ m. absurd (meets-no (neither u .legs) (pick-no (eqb net 0) f .0) m)) (λ _. refl))
+      (λ _. pick-by P _ (λ _. refl) (λ z. pick-by P _ (λ m. absurd (meets-no (neither u .limit) z m)) (λ _. refl))))
+    where
+      neither : eqb (e .units) 0 ≡ false → Neither e x net
+      neither u = ⊎-elim (λ z. absurd (eqb-false _ _ u z)) (λ n. n) w
+
+      meets-no : {p : ℕ} → (p ≡ 0) ⊎ (meets (e .side) (e .level) p ≡ false) → eqb p 0 ≡ false → meets (e .side) (e .level) p ≡ true → ⊥
+      meets-no {p} o z m = ⊎-elim (λ q. eqb-false p 0 z q) (λ f. clash m f) o
+
+-- WHY A PASS ENDS: "while units of it remain", and "neither meets its limit"
+abbrev pub Ended : Allocation → Bool → ℕ → State → Type 0
+Ended way legs a c = (entryAt c a .units ≡ 0) ⊎ Neither (entryAt c a) (opposite way a c) (readyNet legs a c)
+
+pub pass-why : (way : Allocation) (legs : Bool) (a : ℕ) (b : State) → Ended way legs a (pass way legs a b .state)
+unfolding turnOf
+pass-why way legs a b = stop-why _ _ _ (pass-ends way legs a b)

@@ -1,0 +1,280 @@
+-- What no move of an event changes, and what it may only lessen: rows keep all but their quantity, and no quantity rises.
+use mathlib.Core.Path.{_≡_, refl, sym, _∙_, ap}
+use mathlib.Core.Bool.{Bool}
+use mathlib.Core.Logic.{⊎-elim}
+use mathlib.Core.List.{List, [], _∷_}
+use Prim.Native.Nat.{ℕ, zero, suc, _≤_, _<_}
+use native.Mathlib.Omega.{arith}
+use lib.ListN.{length, getD, set, length-set, List·getD-eq-default}
+use Rattle.base.specs.Pick.{pick-all}
+use Rattle.base.specs.Walks.{slot, walk, table-slot, length-table, lt-or-le}
+use Rattle.rules.specs.declared.Leg.{Leg}
+use Rattle.rules.specs.declared.Strategy.{Strategy}
+use Rattle.rules.specs.declared.Entry.{Entry}
+use Rattle.rules.specs.declared.LegOrder.{LegOrder}
+use Rattle.rules.specs.declared.State.{State}
+use Rattle.rules.specs.State.{noEntry, noOrder, noStrategy, entryAt, orderAt, strategyAt, withEntries, withOrders, withStrategies}
+use Rattle.rules.specs.Moves.{Moved, and-then}
+use Rattle.rules.specs.Fills.{cutEntry, cutOrder, cut, cutLeg, cutAt, cutOrders, quotasAt, cutByLegs, wholeFill, takeLegs, legFill, legTrade, cancelEntry, cancelOrder}
+use Rattle.rules.specs.Auctions.{withAuction, putAuction, begin, close, answer}
+
+-- an entry that has lost units at most
+pub record SameEntry (e f : Entry) : Type 0 where
+  pub number : f .number ≡ e .number
+  pub member : f .member ≡ e .member
+  pub strategy : f .strategy ≡ e .strategy
+  pub side : f .side ≡ e .side
+  pub class : f .class ≡ e .class
+  pub life : f .life ≡ e .life
+  pub level : f .level ≡ e .level
+  pub units : f .units ≤ e .units
+
+-- a leg order that has lost contracts at most
+pub record SameOrder (o p : LegOrder) : Type 0 where
+  pub number : p .number ≡ o .number
+  pub member : p .member ≡ o .member
+  pub series : p .series ≡ o .series
+  pub side : p .side ≡ o .side
+  pub price : p .price ≡ o .price
+  pub contracts : p .contracts ≤ o .contracts
+
+-- a strategy of which no more than the auction has changed
+pub record SameStrategy (s t : Strategy) : Type 0 where
+  pub legs : t .legs ≡ s .legs
+  pub count : t .count ≡ s .count
+  pub series : t .series ≡ s .series
+
+pub record Shrinks (b c : State) : Type 0 where
+  pub entry : (i : ℕ) → SameEntry (entryAt b i) (entryAt c i)
+  pub order : (i : ℕ) → SameOrder (orderAt b i) (orderAt c i)
+  pub strategy : (k : ℕ) → SameStrategy (strategyAt b k) (strategyAt c k)
+  pub entryRows : length (c .entries) ≡ length (b .entries)
+  pub orderRows : length (c .orders) ≡ length (b .orders)
+  pub strategyRows : length (c .strategies) ≡ length (b .strategies)
+  pub defined : c .defined ≡ b .defined
+  pub opened : c .opened ≡ b .opened
+  pub clock : c .clock ≡ b .clock
+  pub timer : c .timer ≡ b .timer
+  pub last : c .last ≡ b .last
+
+pub same-entry : (e : Entry) → SameEntry e e
+same-entry e = record { number = refl; member = refl; strategy = refl; side = refl; class = refl; life = refl; level = refl; units = omega arith }
+
+pub same-order : (o : LegOrder) → SameOrder o o
+same-order o = record { number = refl; member = refl; series = refl; side = refl; price = refl; contracts = omega arith }
+
+pub same-strategy : (s : Strategy) → SameStrategy s s
+same-strategy s = record { legs = refl; count = refl; series = refl }
+
+pub entry-trans : {e f g : Entry} → SameEntry e f → SameEntry f g → SameEntry e g
+entry-trans h k = record {
+  number = k .number ∙ h .number;
+  member = k .member ∙ h .member;
+  strategy = k .strategy ∙ h .strategy;
+  side = k .side ∙ h .side;
+  class = k .class ∙ h .class;
+  life = k .life ∙ h .life;
+  level = k .level ∙ h .level;
+  units = omega (arith, h .units, k .units);
+}
+
+pub order-trans : {o p q : LegOrder} → SameOrder o p → SameOrder p q → SameOrder o q
+order-trans h k = record {
+  number = k .number ∙ h .number;
+  member = k .member ∙ h .member;
+  series = k .series ∙ h .series;
+  side = k .side ∙ h .side;
+  price = k .price ∙ h .price;
+  contracts = omega (arith, h .contracts, k .contracts);
+}
+
+pub strategy-trans : {s t u : Strategy} → SameStrategy s t → SameStrategy t u → SameStrategy s u
+strategy-trans h k = record { legs = k .legs ∙ h .legs; count = k .count ∙ h .count; series = k .series ∙ h .series }
+
+pub shrinks-refl : (b : State) → Shrinks b b
+shrinks-refl b = record {
+  entry = λ i. same-entry _;
+  order = λ i. same-order _;
+  strategy = λ k. same-strategy _;
+  entryRows = refl;
+  orderRows = refl;
+  strategyRows = refl;
+  defined = refl;
+  opened = refl;
+  clock = refl;
+  timer = refl;
+  last = refl;
+}
+
+pub shrinks-trans : {b c d : State} → Shrinks b c → Shrinks c d → Shrinks b d
+shrinks-trans h k = record {
+  entry = λ i. entry-trans (h .entry i) (k .entry i);
+  order = λ i. order-trans (h .order i) (k .order i);
+  strategy = λ i. strategy-trans (h .strategy i) (k .strategy i);
+  entryRows = k .entryRows ∙ h .entryRows;
+  orderRows = k .orderRows ∙ h .orderRows;
+  strategyRows = k .strategyRows ∙ h .strategyRows;
+  defined = k .defined ∙ h .defined;
+  opened = k .opened ∙ h .opened;
+  clock = k .clock ∙ h .clock;
+  timer = k .timer ∙ h .timer;
+  last = k .last ∙ h .last;
+}
+
+-- what holds of a slot after a store
+pub set-by : {A : Type 0} (P : A → Type 0) (d x : A) (l : List A) (i j : ℕ) → P (getD l j d) → (j ≡ i → P x) → P (getD (set l i x) j d)
+set-by P d x [] i j p q = p
+set-by P d x (y ∷ l) zero zero p q = q refl
+set-by P d x (y ∷ l) zero (suc j) p q = p
+set-by P d x (y ∷ l) (suc i) zero p q = p
+set-by P d x (y ∷ l) (suc i) (suc j) p q = set-by P d x l i j p (λ e. q (ap suc e))
+
+-- the three tables
+pub entries-shrink : (b : State) (es : List Entry) → ((i : ℕ) → SameEntry (entryAt b i) (getD es i noEntry)) → length es ≡ length (b .entries) → Shrinks b (withEntries b es)
+unfolding withEntries
+entries-shrink b es h n = record {
+  entry = h;
+  order = λ i. same-order _;
+  strategy = λ k. same-strategy _;
+  entryRows = n;
+  orderRows = refl;
+  strategyRows = refl;
+  defined = refl;
+  opened = refl;
+  clock = refl;
+  timer = refl;
+  last = refl;
+}
+
+pub orders-shrink : (b : State) (os : List LegOrder) → ((i : ℕ) → SameOrder (orderAt b i) (getD os i noOrder)) → length os ≡ length (b .orders) → Shrinks b (withOrders b os)
+unfolding withOrders
+orders-shrink b os h n = record {
+  entry = λ i. same-entry _;
+  order = h;
+  strategy = λ k. same-strategy _;
+  entryRows = refl;
+  orderRows = n;
+  strategyRows = refl;
+  defined = refl;
+  opened = refl;
+  clock = refl;
+  timer = refl;
+  last = refl;
+}
+
+pub strategies-shrink : (b : State) (ss : List Strategy) → ((k : ℕ) → SameStrategy (strategyAt b k) (getD ss k noStrategy)) → length ss ≡ length (b .strategies) → Shrinks b (withStrategies b ss (b .defined))
+unfolding withStrategies
+strategies-shrink b ss h n = record {
+  entry = λ i. same-entry _;
+  order = λ i. same-order _;
+  strategy = h;
+  entryRows = refl;
+  orderRows = refl;
+  strategyRows = n;
+  defined = refl;
+  opened = refl;
+  clock = refl;
+  timer = refl;
+  last = refl;
+}
+
+-- cuts
+pub cut-entry : (e : Entry) (q : ℕ) → SameEntry e (cutEntry e q)
+cut-entry e q = record { number = refl; member = refl; strategy = refl; side = refl; class = refl; life = refl; level = refl; units = omega arith }
+
+pub cut-order : (o : LegOrder) (q : ℕ) → SameOrder o (cutOrder o q)
+cut-order o q = record { number = refl; member = refl; series = refl; side = refl; price = refl; contracts = omega arith }
+
+pub cut-shrinks : (b : State) (i q : ℕ) → Shrinks b (cut b i q)
+unfolding cut
+cut-shrinks b i q =
+    let x : Entry = cutEntry (entryAt b i) q in
+    entries-shrink b (set (b .entries) i x)
+    (λ j. set-by (SameEntry (entryAt b j)) noEntry x (b .entries) i j (same-entry _) (λ e. rw e (cut-entry _ q)))
+    (length-set (b .entries) i x)
+
+pub cutLeg-shrinks : (b : State) (i q : ℕ) → Shrinks b (cutLeg b i q)
+unfolding cutLeg
+cutLeg-shrinks b i q =
+    let x : LegOrder = cutOrder (orderAt b i) q in
+    orders-shrink b (set (b .orders) i x)
+    (λ j. set-by (SameOrder (orderAt b j)) noOrder x (b .orders) i j (same-order _) (λ e. rw e (cut-order _ q)))
+    (length-set (b .orders) i x)
+
+pub auction-shrinks : (b : State) (k n t : ℕ) (a : Bool) → Shrinks b (putAuction b k n t a)
+unfolding putAuction
+auction-shrinks b k n t a =
+    let x : Strategy = withAuction (strategyAt b k) n t a in
+    strategies-shrink b (set (b .strategies) k x)
+    (λ j. set-by (SameStrategy (strategyAt b j)) noStrategy x (b .strategies) k j (same-strategy _) (λ e. rw e (record { legs = refl; count = refl; series = refl })))
+    (length-set (b .strategies) k x)
+
+-- the table of leg orders is 32 rows, and a cut of it makes a table of 32
+cutOrders-same : (os : List LegOrder) (qs : List ℕ) → length os ≡ 32 → (i : ℕ) → SameOrder (getD os i noOrder) (getD (cutOrders os qs) i noOrder)
+unfolding cutOrders
+cutOrders-same os qs n i =
+    ⊎-elim
+    (λ (l : i < 32). rw (table-slot (cutAt os qs) noOrder 32 i l) (cut-order (getD os i noOrder) (slot qs i)))
+    (λ (l : 32 ≤ i). rw (List·getD-eq-default os noOrder {n = i} (omega arith), List·getD-eq-default (cutOrders os qs) noOrder {n = i} (omega (arith, length-table (cutAt os qs) 32))) (same-order noOrder))
+    (lt-or-le i 32)
+
+cutOrders-rows : (os : List LegOrder) (qs : List ℕ) → length (cutOrders os qs) ≡ 32
+unfolding cutOrders
+cutOrders-rows os qs = length-table (cutAt os qs) 32
+
+module _ (os : List LegOrder) (n : length os ≡ 32) (side q : ℕ) (legs : List Leg) (ps : List ℕ) where
+  cutByLegs-rows : (count : ℕ) → length (cutByLegs os side q legs ps count) ≡ 32
+  unfolding cutByLegs walk
+  cutByLegs-rows zero = n
+  cutByLegs-rows (suc k) = cutOrders-rows (cutByLegs os side q legs ps k) (quotasAt os side q legs ps k)
+
+  cutByLegs-same : (count : ℕ) (i : ℕ) → SameOrder (getD os i noOrder) (getD (cutByLegs os side q legs ps count) i noOrder)
+  unfolding cutByLegs walk
+  cutByLegs-same zero i = same-order _
+  cutByLegs-same (suc k) i =
+      order-trans (cutByLegs-same k i) (cutOrders-same (cutByLegs os side q legs ps k) (quotasAt os side q legs ps k) (cutByLegs-rows k) i)
+
+-- the moves
+pub whole-shrinks : (b : State) (a h level q : ℕ) → Shrinks b (wholeFill b a h level q .state)
+unfolding wholeFill
+whole-shrinks b a h level q =
+    pick-all (λ (m : Moved). Shrinks b (m .state)) _ (shrinks-refl b) (shrinks-trans (cut-shrinks b a q) (cut-shrinks (cut b a q) h q))
+
+pub takeLegs-shrinks : (b : State) → length (b .orders) ≡ 32 → (a : ℕ) (s : Strategy) (ps : List ℕ) (q : ℕ) → Shrinks b (takeLegs b a s ps q .state)
+unfolding takeLegs cut withEntries
+takeLegs-shrinks b n a s ps q =
+    shrinks-trans (cut-shrinks b a q)
+    (orders-shrink (cut b a q) _ (cutByLegs-same (b .orders) n (entryAt b a .side) q (s .legs) ps (s .count))
+    (cutByLegs-rows (b .orders) n (entryAt b a .side) q (s .legs) ps (s .count) ∙ sym n))
+
+pub legs-shrinks : (b : State) → length (b .orders) ≡ 32 → (a : ℕ) → Shrinks b (legFill a b .state)
+unfolding legFill
+legs-shrinks b n a = takeLegs-shrinks b n a _ _ _
+
+pub trade-shrinks : (b : State) (a h : ℕ) → Shrinks b (legTrade b a h .state)
+unfolding legTrade
+trade-shrinks b a h = shrinks-trans (cutLeg-shrinks b a _) (cutLeg-shrinks _ h _)
+
+pub cancel-shrinks : (b : State) (i : ℕ) → Shrinks b (cancelEntry i b .state)
+unfolding cancelEntry
+cancel-shrinks b i = pick-all (λ (m : Moved). Shrinks b (m .state)) _ (shrinks-refl b) (cut-shrinks b i _)
+
+pub cancelOrder-shrinks : (b : State) (i : ℕ) → Shrinks b (cancelOrder i b .state)
+unfolding cancelOrder
+cancelOrder-shrinks b i = pick-all (λ (m : Moved). Shrinks b (m .state)) _ (shrinks-refl b) (cutLeg-shrinks b i _)
+
+pub begin-shrinks : (b : State) (i : ℕ) → Shrinks b (begin i b .state)
+unfolding begin
+begin-shrinks b i = auction-shrinks b _ _ _ _
+
+pub close-shrinks : (b : State) (k : ℕ) → Shrinks b (close k b .state)
+unfolding close
+close-shrinks b k = auction-shrinks b k _ _ _
+
+pub answer-shrinks : (b : State) (k side : ℕ) → Shrinks b (answer k side b)
+unfolding answer
+answer-shrinks b k side = pick-all (Shrinks b) _ (auction-shrinks b k _ _ _) (shrinks-refl b)
+
+pub then-shrinks : (b : State) (x : Moved) (f : State → Moved) → Shrinks b (x .state) → Shrinks (x .state) (f (x .state) .state) → Shrinks b (and-then x f .state)
+unfolding and-then
+then-shrinks b x f h k = shrinks-trans h k

@@ -1,0 +1,296 @@
+-- Every state that events lead to is valid, and a refused event leaves the state as it was.
+use mathlib.Core.Path.{_≡_, refl, sym, _∙_}
+use mathlib.Core.Bool.{Bool, true, false, not}
+use mathlib.Core.Logic.{_⊎_, inl, inr, ⊎-elim, _≢_}
+use mathlib.Core.List.{List, _∷_}
+use Prim.Native.Nat.{ℕ, _+_, _≤_, _<_}
+use native.Mathlib.Nat.{le-refl}
+use native.Mathlib.Omega.{arith}
+use borrow.Author.Tests.{eqb-true, eq-eqb, ne-eqb, ltb-true, ltb-false, leb-false, not-false}
+use lib.Dec.{eqb, ltb}
+use lib.ListN.{set}
+use lib.Seq.{getD-set-same, getD-set-other}
+use Rattle.base.specs.Pick.{pick, pick-by, pick-true, pick-false, pick-yes}
+use Rattle.base.specs.Walks.{sumN, firstN, any-holds, any-where, first-holds, clash, lt-or-le}
+use Rattle.events.specs.declared.Event.{Event}
+use Rattle.events.specs.declared.Event.the-variants as E
+use Rattle.events.specs.declared.Reading.{Reading}
+use Rattle.events.specs.declared.Reading.the-variants as R
+use Rattle.events.specs.declared.Strategy.{Strategy as GivenStrategy}
+use Rattle.events.specs.declared.Order.{Order as GivenOrder}
+use Rattle.events.specs.declared.Sweep.{Sweep as GivenSweep}
+use Rattle.events.specs.declared.LegOrder.{LegOrder as GivenLegOrder}
+use Rattle.frames.specs.Frames.{readOf}
+use Rattle.rules.specs.declared.Strategy.{Strategy}
+use Rattle.rules.specs.declared.Entry.{Entry}
+use Rattle.rules.specs.declared.State.{State}
+use Rattle.rules.specs.State.{noStrategy, fresh, entryAt, strategyAt, withStrategies}
+use Rattle.rules.specs.Moves.{still}
+use Rattle.rules.specs.Strategies.{twice, held, define, shutSet}
+use Rattle.rules.specs.Auctions.{liveIn, running, isNumber, starterSlot}
+use Rattle.rules.specs.Events.{live, oldSweep}
+use Rattle.rules.specs.Given.{legsGiven, strategyGiven, orderGiven, sweepGiven, legOrderGiven}
+use Rattle.rules.specs.Refusals.{Cause, _if_, first, undefined, illFormed, notOpen, notFound, isStarter, unanswerable, replaces, removesNone, strategiesFull, isSweep, isOrderAt, isSweepAt, isLegOrderAt, ordersFull, sweepsFull, legOrdersFull, noRoom, numbersOut, sweepNumbersOut, causes, readCauses, tableOf, refusal}
+use Rattle.rules.specs.Step.{Outcome, accept, refused, perform, decide, step}
+use Rattle.rules.specs.Valid.{FitStrategy, Sound, Starter, HasStarter, Valid}
+use Rattle.rules.proofs.Strategies.{Definition, defined-fit, defined-two, defined-starter, defined-begun}
+use Rattle.rules.proofs.Entering.{pos-live, order-one, sweep-live, Entering, EnteringOrder, sound-define}
+use Rattle.rules.proofs.Settled.{same-or, Nearly, OpenLegs, settled-nearly, nearly-tables, loose-valid}
+use Rattle.rules.proofs.Only.{live-in}
+use Rattle.rules.proofs.Arrivals.{order-valid, Sweeping, sweep-valid, legOrder-valid, cancel-number-valid}
+use Rattle.rules.proofs.Endings.{or-no, live-is, clock-valid, series-valid, fresh-valid, dayEnd-valid}
+use Rattle.rules.proofs.Ranges.{FitGiven, FitOrderGiven, FitSweepGiven, FitLegOrderGiven, FitEvent, FitReading, reading-fit}
+
+pub valid-fresh : (timer : ℕ) → 1 ≤ timer → timer ≤ 5000 → Valid (fresh timer)
+valid-fresh = fresh-valid
+
+-- Where nothing is refused, no cause applies.
+
+clear : (n : ℕ) (c : Bool) (cs : List Cause) → 0 < n → first ((n if c) ∷ cs) ≡ 0 → (c ≡ false) × (first cs ≡ 0)
+unfolding first pick
+clear n true cs h e = absurd (omega arith)
+clear n false cs h e = (refl, e)
+
+-- a test that a first one spares
+then-no : (t : Bool) {u : Bool} → pick t false u ≡ false → t ≡ false → u ≡ false
+then-no t e f = sym (pick-false _ _ _ f) ∙ e
+
+-- Strategies.
+
+given-definition : (e : GivenStrategy) → FitGiven e → illFormed e ≡ false → Definition (legsGiven e) (e .count)
+unfolding illFormed
+given-definition e f h = record {
+  two = f .two;
+  six = f .six;
+  series = f .series;
+  side = f .side;
+  ratio = f .ratio;
+  once = or-no (twice (legsGiven e) (e .count)) h .0;
+}
+
+module _ (b : State) (t : Strategy) (v : Valid b) (fit : FitStrategy t) (two : 2 ≤ t .count) (starter : t .starter ≡ 0) (begun : t .begun ≡ 0)
+    (room : held b t ≡ false → b .defined < 16) where
+  abbrev more : State
+  more = withStrategies b (set (b .strategies) (b .defined) t) (b .defined + 1)
+
+  more-at : b .defined < 16 → strategyAt more (b .defined) ≡ t
+  unfolding withStrategies
+  more-at h = getD-set-same (b .strategies) (b .defined) t noStrategy (omega (arith, v .sound .strategyRows))
+
+  more-other : (k : ℕ) → (k ≡ b .defined → ⊥) → strategyAt more k ≡ strategyAt b k
+  unfolding withStrategies
+  more-other k h = getD-set-other (b .strategies) (b .defined) k t noStrategy h
+
+  more-still : b .defined < 16 → running more (b .defined) ≡ false
+  more-still h = rw (more-at h, starter)
+
+  -- no live entry is of the new strategy
+  more-mine : b .defined < 16 → Nearly more (b .defined) 32
+  unfolding withStrategies
+  more-mine h = record {
+    starter = λ r. absurd (clash r (more-still h));
+    begun = rw (more-at h, begun) (omega arith);
+    day = λ _ i _ l e. absurd (omega (arith, v .sound .live i l .strategy));
+    stays = λ i _ l e _. omega (arith, v .sound .live i l .strategy);
+  }
+
+  more-near : b .defined < 16 → (k : ℕ) → Nearly more k 32
+  unfolding withStrategies
+  more-near h k =
+      same-or (Nearly more k 32) k (b .defined) (λ q. rw q (more-mine h))
+      (λ q. nearly-tables k 32 refl (more-other k q) (le-refl _) (settled-nearly 32 (v .settled k)))
+
+  more-legs : b .defined < 16 → (k : ℕ) → OpenLegs more k
+  unfolding withStrategies shutSet
+  more-legs h k =
+      same-or (OpenLegs more k) k (b .defined) (λ q. rw q (λ r. absurd (clash r (more-still h))))
+      (λ q. rw (more-other k q) (v .settled k .openLegs))
+
+  define-near : (k : ℕ) → Nearly (define t b) k 32
+  unfolding define
+  define-near k = pick-by (λ (c : State). Nearly c k 32) (held b t) (λ _. settled-nearly 32 (v .settled k)) (λ h. more-near (room h) k)
+
+  define-legs : (k : ℕ) → OpenLegs (define t b) k
+  unfolding define
+  define-legs k = pick-by (λ (c : State). OpenLegs c k) (held b t) (λ _. v .settled k .openLegs) (λ h. more-legs (room h) k)
+
+  define-valid : Valid (define t b)
+  define-valid = loose-valid (record { sound = sound-define b t (v .sound) fit two room; near = define-near }) define-legs
+
+strategy-valid : (b : State) (e : GivenStrategy) → Valid b → FitGiven e → illFormed e ≡ false → strategiesFull b e ≡ false → Valid (define (strategyGiven e) b)
+unfolding strategyGiven strategiesFull
+strategy-valid b e v f h k =
+    let d : Definition (legsGiven e) (e .count) = given-definition e f h in
+    define-valid b _ v (defined-fit _ _ d) (defined-two _ _ d) (defined-starter _ _ d) (defined-begun _ _ d)
+    (λ n. leb-false 16 (b .defined) (then-no (held b (strategyGiven e)) k n))
+
+-- Orders and sweeps.
+
+known : (b : State) (k : ℕ) → undefined b k ≡ false → k < b .defined
+unfolding undefined
+known b k h = leb-false _ _ h
+
+numbers-left : (b : State) → numbersOut b ≡ false → b .last < 100_000
+unfolding numbersOut
+numbers-left b h = leb-false _ _ h
+
+orders-left : (b : State) → ordersFull b ≡ false → sumN (isOrderAt b) 32 < 16
+unfolding ordersFull
+orders-left b h = leb-false _ _ h
+
+sweeps-left : (b : State) → sweepsFull b ≡ false → sumN (isSweepAt b) 32 < 16
+unfolding sweepsFull
+sweeps-left b h = leb-false _ _ h
+
+legOrders-left : (b : State) → legOrdersFull b ≡ false → sumN (isLegOrderAt b) 32 < 32
+unfolding legOrdersFull
+legOrders-left b h = leb-false _ _ h
+
+-- an order is no sweep
+no-sweep : (e : Entry) → e .life ≤ 3 → 0 < e .units → isSweep e ≡ 0
+no-sweep e h l = sweep-live e (pos-live e l) ∙ pick-false _ _ _ (ne-eqb (e .life) 4 (λ z. omega arith))
+
+order-entering : (b : State) (e : GivenOrder) → Sound b → FitOrderGiven e → undefined b (e .strategy) ≡ false → ordersFull b ≡ false → numbersOut b ≡ false → Entering b (orderGiven b e)
+unfolding orderGiven
+order-entering b e s f u o n = record {
+  fit = record {
+    number = omega (arith, numbers-left b n);
+    member = f .member;
+    strategy = f .strategy;
+    side = f .side;
+    class = f .class;
+    life = omega (arith, f .life);
+    units = f .units .1;
+    level = f .level .1;
+  };
+  number = refl;
+  live = f .units .0;
+  level = f .level .0;
+  strategy = known b (e .strategy) u;
+  orders = omega (arith, orders-left b o, order-one (orderGiven b e));
+  sweeps = omega (arith, s .sweeps, no-sweep (orderGiven b e) (f .life) (f .units .0));
+}
+
+sweeping-of : (b : State) (e : GivenSweep) → FitSweepGiven e → e .strategy < b .defined → b .last < 100_000 → (oldSweep b (sweepGiven b e) < 32) ⊎ (sumN (isSweepAt b) 32 < 16) → Sweeping b (sweepGiven b e)
+unfolding sweepGiven
+sweeping-of b e f u n p = record {
+  fit = record {
+    number = omega arith;
+    member = f .member;
+    strategy = f .strategy;
+    side = f .side;
+    class = omega arith;
+    life = omega arith;
+    units = f .units;
+    level = f .level .1;
+  };
+  number = refl;
+  level = f .level .0;
+  strategy = u;
+  room = p;
+}
+
+sweep-given : (b : State) (e : GivenSweep) → FitSweepGiven e → undefined b (e .strategy) ≡ false → noRoom b e ≡ false → sweepNumbersOut b e ≡ false → 0 < e .units → Sweeping b (sweepGiven b e)
+unfolding noRoom sweepNumbersOut
+sweep-given b e f u r n l =
+    let some : eqb (e .units) 0 ≡ false = ne-eqb (e .units) 0 (λ z. omega arith) in
+    sweeping-of b e f (known b (e .strategy) u) (numbers-left b (then-no (eqb (e .units) 0) n some)) (place (replaces b e) refl (then-no (eqb (e .units) 0) r some))
+  where
+    place : (t : Bool) → replaces b e ≡ t → pick (replaces b e) false (sweepsFull b) ≡ false → (oldSweep b (sweepGiven b e) < 32) ⊎ (sumN (isSweepAt b) 32 < 16)
+    place true t h = inl (ltb-true _ _ t)
+    place false t h = inr (sweeps-left b (then-no (replaces b e) h t))
+
+sweep-accept : (b : State) (e : GivenSweep) → Valid b → FitSweepGiven e → undefined b (e .strategy) ≡ false → running b (e .strategy) ≡ true → noRoom b e ≡ false → sweepNumbersOut b e ≡ false → Valid (accept b (E.Sweep e) .state)
+unfolding accept sweepGiven
+sweep-accept b e v f u r o n = sweep-valid b (sweepGiven b e) v refl r (sweep-given b e f u o n)
+
+order-given : (b : State) (e : GivenLegOrder) → FitLegOrderGiven e → legOrdersFull b ≡ false → numbersOut b ≡ false → EnteringOrder b (legOrderGiven b e)
+unfolding legOrderGiven
+order-given b e f o n = record {
+  fit = record {
+    number = omega (arith, numbers-left b n);
+    member = f .member;
+    series = f .series;
+    side = f .side;
+    contracts = f .contracts .1;
+    price = f .price .1;
+  };
+  number = refl;
+  live = f .contracts .0;
+  price = f .price .0;
+  room = legOrders-left b o;
+}
+
+-- An event that is accepted.
+
+accept-valid : (b : State) (e : Event) → Valid b → FitEvent e → first (causes b e) ≡ 0 → Valid (accept b e .state)
+unfolding accept causes
+accept-valid b (E.Strategy e) v f c =
+    let x = clear 5 (illFormed e) _ (omega arith) c in
+    let y = clear 12 (strategiesFull b e) _ (omega arith) (x .1) in
+    strategy-valid b e v f (x .0) (y .0)
+accept-valid b (E.Order e) v f c =
+    let x = clear 4 (undefined b (e .strategy)) _ (omega arith) c in
+    let y = clear 9 (unanswerable b (e .life) (e .strategy)) _ (omega arith) (x .1) in
+    let z = clear 12 (ordersFull b) _ (omega arith) (y .1) in
+    let w = clear 13 (numbersOut b) _ (omega arith) (z .1) in
+    order-valid b (orderGiven b e) v (order-entering b e (v .sound) f (x .0) (z .0) (w .0))
+accept-valid b (E.Sweep e) v f c =
+    let x = clear 4 (undefined b (e .strategy)) _ (omega arith) c in
+    let y = clear 9 (not (running b (e .strategy))) _ (omega arith) (x .1) in
+    let z = clear 10 (removesNone b e) _ (omega arith) (y .1) in
+    let w = clear 12 (noRoom b e) _ (omega arith) (z .1) in
+    let u = clear 13 (sweepNumbersOut b e) _ (omega arith) (w .1) in
+    sweep-accept b e v f (x .0) (not-false _ (y .0)) (w .0) (u .0)
+accept-valid b (E.LegOrder e) v f c =
+    let x = clear 6 (notOpen b (e .series)) _ (omega arith) c in
+    let y = clear 12 (legOrdersFull b) _ (omega arith) (x .1) in
+    let z = clear 13 (numbersOut b) _ (omega arith) (y .1) in
+    legOrder-valid b (legOrderGiven b e) v (order-given b e f (y .0) (z .0))
+accept-valid b (E.Cancel e) v f c =
+    let x = clear 7 (notFound b (e .member) (e .number)) _ (omega arith) c in
+    let y = clear 8 (isStarter b (e .number)) _ (omega arith) (x .1) in
+    cancel-number-valid (e .number) b f (y .0) v
+accept-valid b (E.Series e) v f c = series-valid (e .series) (e .state) b f v
+accept-valid b (E.Clock e) v f c =
+    let x = clear 11 (ltb (e .time) (b .clock)) _ (omega arith) c in
+    clock-valid (e .time) b (ltb-false _ _ (x .0)) f v
+accept-valid b (E.DayEnd e) v f c = dayEnd-valid (e .timer) b (f .0) (f .1)
+
+perform-valid : (b : State) (r : Reading) (space : ℕ) → Valid b → FitReading r → refusal b r space ≡ 0 → Valid (perform b r .moved .state)
+unfolding perform refused refusal tableOf readCauses
+perform-valid b (R.Refused n) space v f c = v
+perform-valid b (R.Event e) space v f c = accept-valid b e v f (clear 1 (ltb space 15_360) (causes b e) (omega arith) c .1)
+
+decide-valid : (b : State) (r : Reading) (space : ℕ) → Valid b → FitReading r → Valid (decide b r space .moved .state)
+unfolding decide refused
+decide-valid b r space v f =
+    pick-by (λ (o : Outcome). Valid (o .moved .state)) (eqb (refusal b r space) 0)
+    (λ e. perform-valid b r space v f (eqb-true _ _ e)) (λ _. v)
+
+-- Every event leaves a valid state valid, whatever the frame and the space.
+pub valid-step : (b : State) → Valid b → (frame : List ℕ) (space : ℕ) → Valid (step b frame space .moved .state)
+unfolding step
+valid-step b v frame space = decide-valid b (readOf frame) space v (reading-fit frame)
+
+-- In a valid state the slot that the rules seek holds the auction's starter.
+pub starter-found : (b : State) → Valid b → (k : ℕ) → running b k ≡ true → Starter b k (starterSlot b k)
+unfolding starterSlot
+starter-found b v k r =
+    let p : HasStarter b k = v .settled k .starter r in
+    let i : ℕ = p .at in
+    let s : Starter b k i = p .starter in
+    let test : ℕ → Bool = isNumber b k (strategyAt b k .starter) in
+    let here : test i ≡ true = pick-true _ _ _ (live-is k (entryAt b i) (s .live) (s .strategy)) ∙ eq-eqb _ _ (s .number) in
+    let l : firstN test 32 < 32 = any-where test 32 (any-holds test 32 i (s .slot) here) in
+    let q = pick-yes (liveIn k (entryAt b (firstN test 32))) (first-holds test 32 l) in
+    let n : entryAt b (firstN test 32) .number ≡ strategyAt b k .starter = eqb-true _ _ (q .1) in
+    let u : 0 < entryAt b (firstN test 32) .units = live-in k (entryAt b (firstN test 32)) (q .0) .0 in
+    same-or (Starter b k (firstN test 32)) (firstN test 32) i (λ e. rw e s)
+    (λ e. ⊎-elim
+    (λ (m : firstN test 32 < i). absurd (omega (arith, v .sound .rising (firstN test 32) i m u (s .live), n, s .number)))
+    (λ (m : i ≤ firstN test 32). absurd (omega (arith, v .sound .rising i (firstN test 32) (after i (firstN test 32) m e) (s .live) u, n, s .number)))
+    (lt-or-le (firstN test 32) i))
+  where
+    after : (i j : ℕ) → i ≤ j → (j ≡ i → ⊥) → i < j
+    after i j h e = omega arith

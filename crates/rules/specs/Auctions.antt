@@ -1,0 +1,149 @@
+-- Auctions, the passes by legs only, and the match of the resting orders where a series opens.
+use mathlib.Core.Bool.{Bool, true, false, not}
+use mathlib.Core.List.{[], _∷_}
+use Prim.Native.Nat.{ℕ, _+_, _-_, min}
+use lib.Dec.{eqb, ltb, leb}
+use lib.ListN.{set}
+use Rattle.base.specs.Pick.{pick}
+use Rattle.base.specs.Walks.{firstN, walk}
+use Rattle.rules.specs.declared.Strategy.{Strategy}
+use Rattle.rules.specs.declared.Entry.{Entry}
+use Rattle.rules.specs.declared.State.{State}
+use Rattle.rules.specs.declared.Kind.the-variants.{AuctionBegun, AuctionEnded}
+use Rattle.rules.specs.declared.Allocation.the-variants.{LegsOnly, Shared, Numbered}
+use Rattle.rules.specs.State.{entryAt, strategyAt, withStrategies}
+use Rattle.rules.specs.Moves.{Moved, still, and-then, each}
+use Rattle.rules.specs.Sides.{other, better}
+use Rattle.rules.specs.Nets.{legNet}
+use Rattle.rules.specs.Strategies.{allOpen, holds}
+use Rattle.rules.specs.Fills.{wholeFill, cancelEntry}
+use Rattle.rules.specs.Passes.{pass}
+
+-- a live entry of strategy k
+unfoldable pub liveIn : ℕ → Entry → Bool
+liveIn k e = pick (eqb (e .units) 0) false (eqb (e .strategy) k)
+
+-- an auction runs in strategy k
+abbrev pub running : State → ℕ → Bool
+running b k = not (eqb (strategyAt b k .starter) 0)
+
+-- the auction of strategy k, changed: its starter, the clock at its start, whether it was answered
+abbrev pub withAuction : Strategy → ℕ → ℕ → Bool → Strategy
+withAuction s n t a = record { legs = s .legs; count = s .count; series = s .series; starter = n; begun = t; answered = a }
+
+unfoldable pub putAuction : State → ℕ → ℕ → ℕ → Bool → State
+putAuction b k n t a = withStrategies b (set (b .strategies) k (withAuction (strategyAt b k) n t a)) (b .defined)
+
+-- "4 auction begun (strategy, units, limit)"
+unfoldable pub begin : ℕ → State → Moved
+begin i b =
+    let e : Entry = entryAt b i in
+    record {
+      state = putAuction b (e .strategy) (e .number) (b .clock) false;
+      records = record { kind = AuctionBegun; number = e .number; place = e .strategy; side = e .side; quantity = e .units; level = e .level } ∷ [];
+    }
+
+-- "5 auction ended (starter's number, strategy, then zeros)"
+unfoldable pub close : ℕ → State → Moved
+close k b = record {
+  state = putAuction b k 0 0 false;
+  records = record { kind = AuctionEnded; number = strategyAt b k .starter; place = k; side = 0; quantity = 0; level = 10_000_000 } ∷ [];
+}
+
+-- the slot of the entry of strategy k with that number, 32 where it has none
+abbrev pub isNumber : State → ℕ → ℕ → ℕ → Bool
+isNumber b k n i = pick (liveIn k (entryAt b i)) (eqb (entryAt b i .number) n) false
+
+unfoldable pub starterSlot : State → ℕ → ℕ
+starterSlot b k = firstN (isNumber b k (strategyAt b k .starter)) 32
+
+-- "if any opposite sweep or waiting order was accepted meanwhile": one of that side has been
+unfoldable pub answer : ℕ → ℕ → State → State
+answer k side b =
+    let s : Strategy = strategyAt b k in
+    pick (eqb (entryAt b (starterSlot b k) .side) (other side)) (putAuction b k (s .starter) (s .begun) true) b
+
+-- "Sweeps, responses and immediates left are cancelled by number"
+unfoldable pub lapses : ℕ → Entry → Bool
+lapses k e = pick (liveIn k e) (pick (eqb (e .life) 1) true (pick (eqb (e .life) 2) true (eqb (e .life) 4))) false
+
+unfoldable pub cancelLapsed : ℕ → ℕ → State → Moved
+cancelLapsed k i b = pick (lapses k (entryAt b i)) (cancelEntry i b) (still b)
+
+-- "from the cancels on": the cancels, then record 5
+unfoldable pub endUnfilled : ℕ → State → Moved
+endUnfilled k b = and-then (each (cancelLapsed k) 32 b) (close k)
+
+-- "The starter gets a shared pass, legs barred if any opposite .. was accepted meanwhile."
+unfoldable pub starterPass : ℕ → State → Moved
+starterPass k b = pass Shared (not (strategyAt b k .answered)) (starterSlot b k) b
+
+-- "Then each other entry accepted meanwhile, by number, gets a numbered pass; sweeps never use legs."
+unfoldable pub later : ℕ → ℕ → Entry → Bool
+later k n e = pick (liveIn k e) (ltb n (e .number)) false
+
+unfoldable pub laterPass : ℕ → ℕ → ℕ → State → Moved
+laterPass k n i b = pick (later k n (entryAt b i)) (pass Numbered (not (eqb (entryAt b i .life) 4)) i b) (still b)
+
+unfoldable pub endAuction : ℕ → State → Moved
+endAuction k b =
+    let n : ℕ = strategyAt b k .starter in
+    and-then (starterPass k b) (λ c. and-then (each (laterPass k n) 32 c) (endUnfilled k))
+
+-- "auctions begun at least the timer ago end, by strategy"
+unfoldable pub due : State → ℕ → Bool
+due b k = pick (running b k) (leb (strategyAt b k .begun + b .timer) (b .clock)) false
+
+unfoldable pub endDue : ℕ → State → Moved
+endDue k b = pick (due b k) (endAuction k b) (still b)
+
+-- "shut ends the auctions of strategies holding it, by strategy, without fills"
+unfoldable pub endHolding : ℕ → ℕ → State → Moved
+endHolding s k b = pick (running b k) (pick (holds b s k) (endUnfilled k b) (still b)) (still b)
+
+-- "each day order by strategy, then number, in strategies holding that series, all open, without an auction, gets a pass by legs only"
+unfoldable pub dayOrder : ℕ → Entry → Bool
+dayOrder k e = pick (liveIn k e) (eqb (e .life) 0) false
+
+unfoldable pub legPass : ℕ → ℕ → State → Moved
+legPass k i b = pick (dayOrder k (entryAt b i)) (pass LegsOnly true i b) (still b)
+
+unfoldable pub legPassesIn : ℕ → ℕ → State → Moved
+legPassesIn s k b =
+    pick (holds b s k) (pick (allOpen b k) (pick (running b k) (still b) (each (legPass k) 32 b)) (still b)) (still b)
+
+unfoldable pub legPasses : ℕ → State → Moved
+legPasses s b = each (legPassesIn s) 16 b
+
+-- "best buy" and "best sell (price, then number)": the slot of the best entry of a side, 32 where there is none
+unfoldable pub ahead : State → ℕ → ℕ → ℕ → ℕ → Bool
+ahead b k side i best =
+    let e : Entry = entryAt b i in
+    pick (liveIn k e) (pick (eqb (e .side) side) (pick (eqb best 32) true (better (other side) (e .level) (entryAt b best .level))) false) false
+
+abbrev pub bestStep : State → ℕ → ℕ → ℕ → ℕ → ℕ
+bestStep b k side i best = pick (ahead b k side i best) i best
+
+unfoldable pub bestSlot : State → ℕ → ℕ → ℕ
+bestSlot b k side = walk (bestStep b k side) 32 32
+
+-- whether the best buy and the best sell meet
+unfoldable pub crossed : State → ℕ → ℕ → Bool
+crossed b x y = pick (ltb x 32) (pick (ltb y 32) (leb (entryAt b y .level) (entryAt b x .level)) false) false
+
+-- "matches best buy with best sell .. at the lower number's limit, its order active"
+unfoldable pub matchOnce : ℕ → ℕ → State → Moved
+matchOnce k i b =
+    let x : ℕ = bestSlot b k 0 in
+    let y : ℕ = bestSlot b k 1 in
+    let a : ℕ = pick (ltb (entryAt b x .number) (entryAt b y .number)) x y in
+    let h : ℕ = pick (ltb (entryAt b x .number) (entryAt b y .number)) y x in
+    pick (crossed b x y) (wholeFill b a h (entryAt b a .level) (min (entryAt b a .units) (entryAt b h .units))) (still b)
+
+-- ".. while they meet": each match finishes an order, so there are no more than slots
+unfoldable pub matchAll : ℕ → State → Moved
+matchAll k b = each (matchOnce k) 32 b
+
+-- "each all-open strategy holding it, by strategy"
+unfoldable pub matchIn : ℕ → ℕ → State → Moved
+matchIn s k b = pick (holds b s k) (pick (allOpen b k) (matchAll k b) (still b)) (still b)

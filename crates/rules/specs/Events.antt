@@ -1,0 +1,191 @@
+-- What each event does where it is accepted.
+use mathlib.Core.Bool.{Bool, true, false, not}
+use mathlib.Core.List.{List, [], _∷_, _++_}
+use Prim.Native.Nat.{ℕ, _+_, _-_, _^_}
+use lib.Dec.{eqb, ltb, leb}
+use lib.ListN.{length, take, replicate}
+use Rattle.base.specs.Pick.{pick}
+use Rattle.base.specs.Walks.{firstN, walk}
+use Rattle.base.specs.Sets.{has}
+use Rattle.rules.specs.declared.Entry.{Entry}
+use Rattle.rules.specs.declared.LegOrder.{LegOrder}
+use Rattle.rules.specs.declared.State.{State}
+use Rattle.rules.specs.declared.Allocation.the-variants.{Shared}
+use Rattle.rules.specs.State.{noEntry, noOrder, fresh, entryAt, orderAt, withEntries, withOrders, withOpened, withClock, withLast}
+use Rattle.rules.specs.Moves.{Moved, still, and-then, each}
+use Rattle.rules.specs.Sides.{other, meets, better}
+use Rattle.rules.specs.Nets.{stands, legNet}
+use Rattle.rules.specs.Strategies.{allOpen}
+use Rattle.rules.specs.Fills.{legTrade, cancelEntry, cancelOrder}
+use Rattle.rules.specs.Passes.{pass}
+use Rattle.rules.specs.Auctions.{running, begin, close, answer, endDue, endHolding, legPasses, matchIn}
+
+-- those of a table that are live, in their order, and one more behind them
+unfoldable pub live : Entry → Bool
+live e = not (eqb (e .units) 0)
+
+unfoldable pub liveOrder : LegOrder → Bool
+liveOrder o = not (eqb (o .contracts) 0)
+
+unfoldable pub keep : {A : Type 0} → (A → Bool) → List A → List A
+keep test [] = []
+keep test (x ∷ xs) = pick (test x) (x ∷ keep test xs) (keep test xs)
+
+unfoldable pub behind : {A : Type 0} → (A → Bool) → A → A → List A → List A
+behind test none x xs = take 32 (keep test xs ++ (x ∷ replicate 32 none))
+
+-- an order or sweep enters under the next number, its slot being the first behind the live ones
+unfoldable pub enter : Entry → State → State
+enter e b = withLast (withEntries b (behind live noEntry e (b .entries))) (e .number)
+
+unfoldable pub enterOrder : LegOrder → State → State
+enterOrder o b = withLast (withOrders b (behind liveOrder noOrder o (b .orders))) (o .number)
+
+unfoldable pub freeSlot : State → ℕ
+freeSlot b = length (keep live (b .entries))
+
+unfoldable pub freeOrderSlot : State → ℕ
+freeOrderSlot b = length (keep liveOrder (b .orders))
+
+-- "day rests and others are cancelled"
+unfoldable pub restOrCancel : ℕ → State → Moved
+restOrCancel i b = pick (eqb (entryAt b i .life) 0) (still b) (cancelEntry i b)
+
+-- "class 1 or 2 with life 0 or 1 starts an auction if its limit is better than the known leg net of its own side"
+unfoldable pub mayStart : Entry → Bool
+mayStart e = pick (pick (eqb (e .class) 1) true (eqb (e .class) 2)) (pick (eqb (e .life) 0) true (eqb (e .life) 1)) false
+
+unfoldable pub starts : State → Entry → Bool
+starts b e =
+    let net : ℕ = legNet b (other (e .side)) (e .strategy) in
+    pick (mayStart e) (pick (eqb net 0) false (better (other (e .side)) (e .level) net)) false
+
+-- "Complex order": what one does that has entered at slot i
+unfoldable pub waits : ℕ → State → Moved
+waits i b =
+    let e : Entry = entryAt b i in
+    pick (eqb (e .life) 3) (cancelEntry i b) (still (answer (e .strategy) (e .side) b))
+
+unfoldable pub trades : ℕ → State → Moved
+trades i b = and-then (pass Shared true i b) (restOrCancel i)
+
+unfoldable pub arrive : ℕ → State → Moved
+arrive i b =
+    let e : Entry = entryAt b i in
+    pick (allOpen b (e .strategy))
+    (pick (running b (e .strategy)) (waits i b) (pick (starts b e) (begin i b) (trades i b)))
+    (restOrCancel i b)
+
+unfoldable pub onOrder : Entry → State → Moved
+onOrder e b = arrive (freeSlot b) (enter e b)
+
+-- "Sweep: same member, strategy, side and limit: the old one is cancelled by record first"
+unfoldable pub sameSweep : Entry → Entry → Bool
+sameSweep e f =
+    pick (live f)
+    (pick (eqb (f .life) 4)
+    (pick (eqb (f .member) (e .member))
+    (pick (eqb (f .strategy) (e .strategy)) (pick (eqb (f .side) (e .side)) (eqb (f .level) (e .level)) false) false)
+    false)
+    false)
+    false
+
+abbrev pub sameSweepAt : State → Entry → ℕ → Bool
+sameSweepAt b e i = sameSweep e (entryAt b i)
+
+unfoldable pub oldSweep : State → Entry → ℕ
+oldSweep b e = firstN (sameSweepAt b e) 32
+
+-- ".. 0 units enters nothing"
+unfoldable pub enterSweep : Entry → State → Moved
+enterSweep e b = pick (live e) (still (answer (e .strategy) (e .side) (enter e b))) (still b)
+
+unfoldable pub onSweep : Entry → State → Moved
+onSweep e b = and-then (cancelEntry (oldSweep b e) b) (enterSweep e)
+
+-- "Leg order: trades with opposite leg orders that meet its price, best price then number": the slot of the best one, 32 where there is none
+unfoldable pub meetsOrder : LegOrder → LegOrder → Bool
+meetsOrder o p = pick (stands (o .series) (other (o .side)) p) (meets (o .side) (o .price) (p .price)) false
+
+unfoldable pub aheadOrder : State → LegOrder → ℕ → ℕ → Bool
+aheadOrder b o i best =
+    pick (meetsOrder o (orderAt b i)) (pick (eqb best 32) true (better (o .side) (orderAt b i .price) (orderAt b best .price))) false
+
+abbrev pub bestOrderStep : State → LegOrder → ℕ → ℕ → ℕ
+bestOrderStep b o i best = pick (aheadOrder b o i best) i best
+
+unfoldable pub bestOrder : State → LegOrder → ℕ
+bestOrder b o = walk (bestOrderStep b o) 32 32
+
+-- one trade of the leg order at slot a, while it has contracts and one meets it
+unfoldable pub tradeOnce : ℕ → ℕ → State → Moved
+tradeOnce a i b =
+    let h : ℕ = bestOrder b (orderAt b a) in
+    pick (eqb (orderAt b a .contracts) 0) (still b) (pick (ltb h 32) (legTrade b a h) (still b))
+
+-- each trade finishes an order, so there are no more than slots
+unfoldable pub tradeAll : ℕ → State → Moved
+tradeAll a b = each (tradeOnce a) 32 b
+
+-- "If any rests, each day order .. gets a pass by legs only."
+unfoldable pub ifRests : ℕ → ℕ → State → Moved
+ifRests s a b = pick (eqb (orderAt b a .contracts) 0) (still b) (legPasses s b)
+
+unfoldable pub onLegOrder : LegOrder → State → Moved
+onLegOrder o b =
+    let a : ℕ = freeOrderSlot b in
+    and-then (tradeAll a (enterOrder o b)) (ifRests (o .series) a)
+
+-- "Cancel: one record 3 for what is live."
+unfoldable pub cancelEntryOf : ℕ → ℕ → State → Moved
+cancelEntryOf n i b = pick (eqb (entryAt b i .number) n) (cancelEntry i b) (still b)
+
+unfoldable pub cancelOrderOf : ℕ → ℕ → State → Moved
+cancelOrderOf n i b = pick (eqb (orderAt b i .number) n) (cancelOrder i b) (still b)
+
+unfoldable pub cancelNumber : ℕ → State → Moved
+cancelNumber n b = and-then (each (cancelEntryOf n) 32 b) (each (cancelOrderOf n) 32)
+
+-- "Clock": the clock, then the auctions that are due
+unfoldable pub onClock : ℕ → State → Moved
+onClock t b = each endDue 16 (withClock b t)
+
+-- "Series": shut, opened, or no change
+unfoldable pub shut : ℕ → State → Moved
+shut s b = each (endHolding s) 16 (withOpened b (b .opened - 2 ^ s))
+
+-- "when all have matched, the legs-only passes"
+unfoldable pub reopen : ℕ → State → Moved
+reopen s b = and-then (each (matchIn s) 16 (withOpened b (b .opened + 2 ^ s))) (legPasses s)
+
+unfoldable pub onSeries : ℕ → ℕ → State → Moved
+onSeries s state b =
+    pick (has (b .opened) s)
+    (pick (eqb state 0) (shut s b) (still b))
+    (pick (eqb state 0) (still b) (reopen s b))
+
+-- "Day end: records 5 by strategy, 3 by number, then a fresh book with the new timer."
+unfoldable pub closeRunning : ℕ → State → Moved
+closeRunning k b = pick (running b k) (close k b) (still b)
+
+-- the lowest number that is live, 0 where none is
+unfoldable pub lower : ℕ → ℕ → ℕ
+lower n m = pick (eqb n 0) m (pick (ltb m n) m n)
+
+abbrev pub lowerEntry : State → ℕ → ℕ → ℕ
+lowerEntry b i n = pick (live (entryAt b i)) (lower n (entryAt b i .number)) n
+
+abbrev pub lowerOrder : State → ℕ → ℕ → ℕ
+lowerOrder b i n = pick (liveOrder (orderAt b i)) (lower n (orderAt b i .number)) n
+
+unfoldable pub lowestLive : State → ℕ
+lowestLive b = walk (lowerOrder b) (walk (lowerEntry b) 0 32) 32
+
+unfoldable pub cancelLowest : ℕ → State → Moved
+cancelLowest i b = cancelNumber (lowestLive b) b
+
+unfoldable pub restart : ℕ → State → Moved
+restart timer b = still (fresh timer)
+
+unfoldable pub onDayEnd : ℕ → State → Moved
+onDayEnd timer b = and-then (each closeRunning 16 b) (λ c. and-then (each cancelLowest 64 c) (restart timer))

@@ -1,0 +1,87 @@
+-- "Lookups": live quantity, shut legs, depth.
+use mathlib.Core.Bool.{Bool, true, false}
+use mathlib.Core.List.{List, [], _∷_, map}
+use Prim.Native.Nat.{ℕ, _+_}
+use lib.Dec.{eqb, leb, ltb}
+use lib.ListN.{getD, length}
+use Rattle.base.specs.Pick.{pick}
+use Rattle.base.specs.Walks.{sumN, slot, allN}
+use Rattle.base.specs.Sets.{sizeOf, lowestOf}
+use Rattle.rules.specs.declared.Entry.{Entry}
+use Rattle.rules.specs.declared.LegOrder.{LegOrder}
+use Rattle.rules.specs.declared.State.{State}
+use Rattle.rules.specs.declared.OrderEntry.{OrderEntry}
+use Rattle.rules.specs.declared.Depth.{Depth}
+use Rattle.rules.specs.declared.Depth.the-variants as D
+use Rattle.rules.specs.declared.Shut.{Shut}
+use Rattle.rules.specs.declared.Shut.the-variants as S
+use Rattle.rules.specs.State.{noOrder, entryAt, orderAt}
+use Rattle.rules.specs.Strategies.{shutSet}
+use Rattle.rules.specs.Nets.{priceOf, lots}
+use Rattle.rules.specs.Refusals.{undefined}
+
+-- "Live quantity of a number (0 if none)."
+abbrev pub unitsOfNumber : State → ℕ → ℕ → ℕ
+unitsOfNumber b n i = pick (eqb (entryAt b i .number) n) (entryAt b i .units) 0
+
+abbrev pub contractsOfNumber : State → ℕ → ℕ → ℕ
+contractsOfNumber b n i = pick (eqb (orderAt b i .number) n) (orderAt b i .contracts) 0
+
+unfoldable pub liveQuantity : State → ℕ → ℕ
+liveQuantity b n = sumN (unitsOfNumber b n) 32 + sumN (contractsOfNumber b n) 32
+
+-- "Shut legs of a strategy, count and lowest series, 32 when none is shut (4 if undefined)."
+unfoldable pub shutLegs : State → ℕ → Shut
+shutLegs b k = pick (undefined b k) (S.Refused 4) (S.Legs (sizeOf (shutSet b k)) (lowestOf (shutSet b k)))
+
+-- "Depth of a series and side: best price and its contracts, or empty"
+unfoldable pub depthOf : List LegOrder → ℕ → ℕ → Depth
+depthOf os s side =
+    let price : ℕ = priceOf os s side in
+    pick (eqb price 0) D.Empty (D.Best price (sumN (slot (lots os s side price)) 32))
+
+-- ".. read from the leg orders lent as a row of order entries"
+abbrev pub noOrderEntry : OrderEntry
+noOrderEntry = record { series = 0; side = 0; contracts = 0; price = 0 }
+
+abbrev pub asOrder : OrderEntry → LegOrder
+asOrder e = record { number = 0; member = 0; series = e .series; side = e .side; contracts = e .contracts; price = e .price }
+
+-- "3 if .. an entry that isn't empty has a field outside kind 4's range"
+unfoldable pub wellFormed : OrderEntry → Bool
+wellFormed e =
+    pick (eqb (e .contracts) 0) true
+    (pick (ltb 31 (e .series)) false
+    (pick (ltb 1 (e .side)) false
+    (pick (ltb 9999 (e .contracts)) false
+    (pick (eqb (e .price) 0) false (leb (e .price) 99_999)))))
+
+abbrev pub wellFormedAt : List OrderEntry → ℕ → Bool
+wellFormedAt row i = wellFormed (getD row i noOrderEntry)
+
+-- "3 if series or side is out of range, the row has over 32 entries, or .."
+unfoldable pub rowDepth : List OrderEntry → ℕ → ℕ → Depth
+rowDepth row s side =
+    pick (ltb 31 s) (D.Refused 3)
+    (pick (ltb 1 side) (D.Refused 3)
+    (pick (ltb 32 (length row)) (D.Refused 3)
+    (pick (allN (wellFormedAt row) (length row)) (depthOf (map asOrder row) s side) (D.Refused 3))))
+
+-- the paper's number and values of these answers: 0 or the refusal, then what was found
+unfoldable pub depthNumber : Depth → ℕ
+depthNumber (D.Best price contracts) = 0
+depthNumber D.Empty = 0
+depthNumber (D.Refused n) = n
+
+unfoldable pub depthValues : Depth → List ℕ
+depthValues (D.Best price contracts) = price ∷ (contracts ∷ [])
+depthValues D.Empty = []
+depthValues (D.Refused n) = []
+
+unfoldable pub shutNumber : Shut → ℕ
+shutNumber (S.Legs count lowest) = 0
+shutNumber (S.Refused n) = n
+
+unfoldable pub shutValues : Shut → List ℕ
+shutValues (S.Legs count lowest) = count ∷ (lowest ∷ [])
+shutValues (S.Refused n) = []

@@ -1,0 +1,90 @@
+-- Best prices of the leg orders, and nets. A price or level of 0 means that there is none.
+use mathlib.Core.Bool.{Bool, true, false}
+use mathlib.Core.List.{List}
+use Prim.Native.Nat.{ℕ, _+_, _-_, _*_, _/_, min}
+use lib.Dec.{eqb, ltb}
+use lib.ListN.{getD}
+use Rattle.base.specs.Pick.{pick}
+use Rattle.base.specs.Walks.{sumN, slot, table, allN, walk}
+use Rattle.rules.specs.declared.Leg.{Leg}
+use Rattle.rules.specs.declared.Strategy.{Strategy}
+use Rattle.rules.specs.declared.LegOrder.{LegOrder}
+use Rattle.rules.specs.declared.State.{State}
+use Rattle.rules.specs.State.{noLeg, noOrder, strategyAt}
+use Rattle.rules.specs.Sides.{other, legSide, bestPrice}
+
+-- whether a leg order stands in that series and side
+unfoldable pub stands : ℕ → ℕ → LegOrder → Bool
+stands s side o = pick (eqb (o .contracts) 0) false (pick (eqb (o .series) s) (eqb (o .side) side) false)
+
+-- "best price" of a series and side, 0 where no order stands there
+unfoldable pub priceWith : ℕ → ℕ → ℕ → LegOrder → ℕ
+priceWith s side p o = pick (stands s side o) (bestPrice side p (o .price)) p
+
+abbrev pub priceStep : List LegOrder → ℕ → ℕ → ℕ → ℕ → ℕ
+priceStep os s side i p = priceWith s side p (getD os i noOrder)
+
+unfoldable pub priceOf : List LegOrder → ℕ → ℕ → ℕ
+priceOf os s side = walk (priceStep os s side) 0 32
+
+-- what each leg order holds of a series and side at a price
+unfoldable pub lot : ℕ → ℕ → ℕ → LegOrder → ℕ
+lot s side price o = pick (stands s side o) (pick (eqb (o .price) price) (o .contracts) 0) 0
+
+abbrev pub lotAt : List LegOrder → ℕ → ℕ → ℕ → ℕ → ℕ
+lotAt os s side price i = lot s side price (getD os i noOrder)
+
+unfoldable pub lots : List LegOrder → ℕ → ℕ → ℕ → List ℕ
+lots os s side price = table (lotAt os s side price) 32
+
+-- the best price that a complex party of that side meets on a leg: "offers for buy legs, bids for sell legs", or the reverse
+unfoldable pub legPrice : List LegOrder → ℕ → Leg → ℕ
+legPrice os side l = priceOf os (l .series) (other (legSide side l))
+
+abbrev pub priceAt : List LegOrder → ℕ → List Leg → ℕ → ℕ
+priceAt os side legs i = legPrice os side (getD legs i noLeg)
+
+unfoldable pub prices : List LegOrder → ℕ → List Leg → List ℕ
+prices os side legs = table (priceAt os side legs) 6
+
+-- "unknown if a price is missing"
+abbrev pub pricedAt : List ℕ → ℕ → Bool
+pricedAt ps i = ltb 0 (slot ps i)
+
+unfoldable pub known : List ℕ → ℕ → Bool
+known ps count = allN (pricedAt ps) count
+
+-- ratio × price of a leg, in the sum over the buy legs (w 0) and in that over the sell legs (w 1)
+unfoldable pub weight : ℕ → Leg → ℕ → ℕ
+weight w l price = pick (eqb (l .side) 0) (pick (eqb w 0) (l .ratio * price) 0) (pick (eqb w 0) 0 (l .ratio * price))
+
+abbrev pub weightAt : ℕ → List Leg → List ℕ → ℕ → ℕ
+weightAt w legs ps i = weight w (getD legs i noLeg) (slot ps i)
+
+unfoldable pub weighed : ℕ → List Leg → List ℕ → ℕ → ℕ
+weighed w legs ps count = sumN (weightAt w legs ps) count
+
+-- "Net = sum of ratio × price over buy legs, less that over sell legs", as a level; 0 where it is unknown
+unfoldable pub netOf : Strategy → List ℕ → ℕ
+netOf s ps = pick (known ps (s .count)) (10_000_000 + weighed 0 (s .legs) ps (s .count) - weighed 1 (s .legs) ps (s .count)) 0
+
+-- the leg net that a complex party of that side meets: "offer net for a buy, bid net for a sell"
+unfoldable pub legNet : State → ℕ → ℕ → ℕ
+legNet b side k = netOf (strategyAt b k) (prices (b .orders) side (strategyAt b k .legs))
+
+abbrev pub offerNet : State → ℕ → ℕ
+offerNet b k = legNet b 0 k
+
+abbrev pub bidNet : State → ℕ → ℕ
+bidNet b k = legNet b 1 k
+
+-- "each best price's contracts divided by ratio, rounded down"
+unfoldable pub legUnits : List LegOrder → ℕ → ℕ → Leg → ℕ
+legUnits os side price l = sumN (slot (lots os (l .series) (other (legSide side l)) price)) 32 / l .ratio
+
+abbrev pub unitsStep : List LegOrder → ℕ → List Leg → List ℕ → ℕ → ℕ → ℕ
+unitsStep os side legs ps i n = min (legUnits os side (slot ps i) (getD legs i noLeg)) n
+
+-- "the least of what remains and" those of each leg
+unfoldable pub unitsOf : List LegOrder → ℕ → Strategy → List ℕ → ℕ → ℕ
+unitsOf os side s ps most = walk (unitsStep os side (s .legs) ps) most (s .count)

@@ -1,0 +1,125 @@
+-- Passes. "A pass fills one active order."
+use mathlib.Core.Bool.{Bool, true, false, not}
+use mathlib.Core.List.{List}
+use Prim.Native.Nat.{ℕ}
+use lib.Dec.{eqb}
+use lib.ListN.{getD}
+use Rattle.base.specs.Pick.{pick}
+use Rattle.base.specs.Walks.{slot, table, walk}
+use Rattle.rules.specs.declared.Strategy.{Strategy}
+use Rattle.rules.specs.declared.Entry.{Entry}
+use Rattle.rules.specs.declared.State.{State}
+use Rattle.rules.specs.declared.Allocation.{Allocation}
+use Rattle.rules.specs.declared.Allocation.the-variants.{LegsOnly, Shared, Numbered}
+use Rattle.rules.specs.declared.Turn.{Turn}
+use Rattle.rules.specs.declared.Turn.the-variants.{Stop, ByLegs, AtLimit}
+use Rattle.rules.specs.State.{noEntry, entryAt, strategyOf}
+use Rattle.rules.specs.Moves.{Moved, still, and-then, each}
+use Rattle.rules.specs.Sides.{other, meets, better, bestPrice}
+use Rattle.rules.specs.Quotas.{inTurn, share}
+use Rattle.rules.specs.Nets.{prices, netOf, unitsOf}
+use Rattle.rules.specs.Fills.{wholeFill, legFill}
+
+-- an entry stands opposite another: live, of its strategy, of the other side
+unfoldable pub opposes : Entry → Entry → Bool
+opposes e f = pick (eqb (f .units) 0) false (pick (eqb (f .strategy) (e .strategy)) (eqb (f .side) (other (e .side))) false)
+
+-- "the best opposite limit in the strategy", 0 where none stands
+unfoldable pub limitWith : Entry → ℕ → Entry → ℕ
+limitWith e x f = pick (opposes e f) (bestPrice (other (e .side)) x (f .level)) x
+
+abbrev pub limitStep : List Entry → Entry → ℕ → ℕ → ℕ
+limitStep es e i x = limitWith e x (getD es i noEntry)
+
+unfoldable pub bestOpposite : List Entry → Entry → ℕ
+bestOpposite es e = walk (limitStep es e) 0 32
+
+-- "customers by number; then sweeps and market makers; then broker-dealers": groups 0, 1, 2
+unfoldable pub groupOf : Entry → ℕ
+groupOf f = pick (eqb (f .life) 4) 1 (pick (eqb (f .class) 3) 1 (pick (eqb (f .class) 1) 0 2))
+
+-- group 3 is everyone
+unfoldable pub within : ℕ → Entry → Bool
+within g f = pick (eqb g 3) true (eqb (groupOf f) g)
+
+-- what each entry holds against e at a limit, as one of a group
+unfoldable pub holding : Entry → ℕ → ℕ → Entry → ℕ
+holding e level g f = pick (opposes e f) (pick (eqb (f .level) level) (pick (within g f) (f .units) 0) 0) 0
+
+abbrev pub sizeAt : List Entry → Entry → ℕ → ℕ → ℕ → ℕ
+sizeAt es e level g i = holding e level g (getD es i noEntry)
+
+unfoldable pub sizes : List Entry → Entry → ℕ → ℕ → List ℕ
+sizes es e level g = table (sizeAt es e level g) 32
+
+-- "Each holder met is a fill of its own, by number within a group": the active entry meets slot i for its quota
+abbrev pub giveAt : ℕ → ℕ → List ℕ → ℕ → State → Moved
+giveAt a level qs i b = wholeFill b a i level (slot qs i)
+
+unfoldable pub give : ℕ → ℕ → List ℕ → State → Moved
+give a level qs b = each (giveAt a level qs) 32 b
+
+-- a group by number
+unfoldable pub giveInTurn : ℕ → ℕ → ℕ → State → Moved
+giveInTurn a level g b = give a level (inTurn (entryAt b a .units) (sizes (b .entries) (entryAt b a) level g)) b
+
+-- a group that is shared where it is larger than what remains
+unfoldable pub giveGroup : ℕ → ℕ → ℕ → State → Moved
+giveGroup a level g b = give a level (share (entryAt b a .units) (sizes (b .entries) (entryAt b a) level g)) b
+
+-- "In a shared pass one limit's holders go in groups"
+unfoldable pub giveShared : ℕ → ℕ → State → Moved
+giveShared a level b = and-then (giveInTurn a level 0 b) (λ c. and-then (giveGroup a level 1 c) (giveGroup a level 2))
+
+-- "Whole: fill at the opposite limit."
+unfoldable pub meetLimit : Allocation → ℕ → ℕ → State → Moved
+meetLimit LegsOnly a level b = still b
+meetLimit Shared a level b = giveShared a level b
+meetLimit Numbered a level b = giveInTurn a level 3 b
+
+-- "The legs are ready when each best price holds at least the ratio in contracts": one unit is there
+unfoldable pub ready : ℕ → State → Bool
+ready a b =
+    let e : Entry = entryAt b a in
+    let s : Strategy = strategyOf b e in
+    not (eqb (unitsOf (b .orders) (e .side) s (prices (b .orders) (e .side) (s .legs)) 1) 0)
+
+-- the leg net of entry a where the legs may be used and are ready, else 0
+unfoldable pub readyNet : Bool → ℕ → State → ℕ
+readyNet legs a b =
+    let e : Entry = entryAt b a in
+    let s : Strategy = strategyOf b e in
+    pick legs (pick (ready a b) (netOf s (prices (b .orders) (e .side) (s .legs))) 0) 0
+
+unfoldable pub opposite : Allocation → ℕ → State → ℕ
+opposite LegsOnly a b = 0
+opposite Shared a b = bestOpposite (b .entries) (entryAt b a)
+opposite Numbered a b = bestOpposite (b .entries) (entryAt b a)
+
+-- "the leg net .. if the legs are ready and it is strictly better for the active order or no opposite limit stands"
+unfoldable pub legsFirst : ℕ → ℕ → ℕ → Bool
+legsFirst side net x = pick (eqb net 0) false (pick (eqb x 0) true (better side net x))
+
+-- "Stop when neither meets its limit": what an entry does at the best opposite limit x and the ready leg net
+unfoldable pub turnAt : Entry → ℕ → ℕ → Turn
+turnAt e x net =
+    pick (eqb (e .units) 0) Stop
+    (pick (legsFirst (e .side) net x) (pick (meets (e .side) (e .level) net) ByLegs Stop)
+    (pick (eqb x 0) Stop
+    (pick (meets (e .side) (e .level) x) (AtLimit x) Stop)))
+
+unfoldable pub turnOf : Allocation → Bool → ℕ → State → Turn
+turnOf way legs a b = turnAt (entryAt b a) (opposite way a b) (readyNet legs a b)
+
+unfoldable pub take : Allocation → ℕ → Turn → State → Moved
+take way a Stop b = still b
+take way a ByLegs b = legFill a b
+take way a (AtLimit level) b = meetLimit way a level b
+
+-- one turn; where it stops nothing moves
+abbrev pub turn : Allocation → Bool → ℕ → ℕ → State → Moved
+turn way legs a i b = take way a (turnOf way legs a b) b
+
+-- "Repeat while units of it remain": a turn that does not stop fills a unit or more, so there are no more turns than units
+unfoldable pub pass : Allocation → Bool → ℕ → State → Moved
+pass way legs a b = each (turn way legs a) (entryAt b a .units) b

@@ -1,0 +1,36 @@
+-- How a quantity is divided over the holders of one price. Sizes and quotas are lists over the 32 slots, 0 where a slot holds nothing.
+use mathlib.Core.List.{List}
+use Prim.Native.Nat.{ℕ, _+_, _-_, _*_, _/_, min}
+use lib.Dec.{eqb, leb}
+use Rattle.base.specs.Pick.{pick}
+use Rattle.base.specs.Walks.{sumN, slot, table}
+
+-- "by number": each slot gets what it holds, or what those before it left of r
+unfoldable pub inTurnAt : ℕ → List ℕ → ℕ → ℕ
+inTurnAt r xs i = min (r - sumN (slot xs) i) (slot xs i)
+
+unfoldable pub inTurn : ℕ → List ℕ → List ℕ
+inTurn r xs = table (inTurnAt r xs) 32
+
+-- "remaining × size / group total, rounded down"
+unfoldable pub portion : ℕ → ℕ → ℕ → ℕ
+portion r total x = r * x / total
+
+abbrev pub portionAt : ℕ → ℕ → List ℕ → ℕ → ℕ
+portionAt r total xs i = portion r total (slot xs i)
+
+-- "then one unit each by number until none is left": n are left as a holder's turn comes
+unfoldable pub oneOf : ℕ → ℕ → ℕ
+oneOf n x = pick (eqb x 0) 0 (min n 1)
+
+unfoldable pub holderAt : List ℕ → ℕ → ℕ
+holderAt xs i = pick (eqb (slot xs i) 0) 0 1
+
+unfoldable pub sharedAt : ℕ → ℕ → ℕ → List ℕ → ℕ → ℕ
+sharedAt r total n xs i = portionAt r total xs i + oneOf (n - sumN (holderAt xs) i) (slot xs i)
+
+-- "The second or third group, when larger than what remains, is shared"; else each has its size
+unfoldable pub share : ℕ → List ℕ → List ℕ
+share r xs =
+    let total : ℕ = sumN (slot xs) 32 in
+    pick (leb total r) xs (table (sharedAt r total (r - sumN (portionAt r total xs) 32) xs) 32)

@@ -1,0 +1,153 @@
+-- "Refusals by cause": the causes of each kind with their numbers, and the smallest that applies.
+use mathlib.Core.Bool.{Bool, true, false, not}
+use mathlib.Core.List.{List, [], _∷_}
+use Prim.Native.Nat.{ℕ, _+_}
+use lib.Dec.{eqb, ltb, leb}
+use lib.ListN.{length}
+use Rattle.base.specs.Pick.{pick}
+use Rattle.base.specs.Walks.{sumN, anyN}
+use Rattle.base.specs.Sets.{has}
+use Rattle.events.specs.declared.Event.{Event}
+use Rattle.events.specs.declared.Event.the-variants as E
+use Rattle.events.specs.declared.Reading.{Reading}
+use Rattle.events.specs.declared.Reading.the-variants as R
+use Rattle.events.specs.declared.Strategy.{Strategy as GivenStrategy}
+use Rattle.events.specs.declared.Sweep.{Sweep as GivenSweep}
+use Rattle.rules.specs.declared.Entry.{Entry}
+use Rattle.rules.specs.declared.LegOrder.{LegOrder}
+use Rattle.rules.specs.declared.State.{State}
+use Rattle.rules.specs.State.{entryAt, orderAt, strategyAt}
+use Rattle.rules.specs.Strategies.{twice, lopsided, held}
+use Rattle.rules.specs.Auctions.{running}
+use Rattle.rules.specs.Events.{live, liveOrder, oldSweep}
+use Rattle.rules.specs.Given.{legsGiven, strategyGiven, sweepGiven}
+
+infix 20 _if_
+-- a refusal's number, and whether its cause applies
+pub data Cause : Type 0 where
+  _if_ : ℕ → Bool → Cause
+
+-- "The smallest number that applies is given"; 0 where none does. The numbers rise along the list.
+unfoldable pub first : List Cause → ℕ
+first [] = 0
+first ((n if c) ∷ cs) = pick c n (first cs)
+
+-- whether a cause of that number applies
+unfoldable pub applies : List Cause → ℕ → Bool
+applies [] n = false
+applies ((m if c) ∷ cs) n = pick (eqb m n) (pick c true (applies cs n)) (applies cs n)
+
+-- 4: "strategy not defined"
+unfoldable pub undefined : State → ℕ → Bool
+undefined b k = leb (b .defined) k
+
+-- 5: "series twice, or largest ratio over 3 × smallest"
+unfoldable pub illFormed : GivenStrategy → Bool
+illFormed e = pick (twice (legsGiven e) (e .count)) true (lopsided (legsGiven e) (e .count))
+
+-- 6: "series of a leg order not open"
+abbrev pub notOpen : State → ℕ → Bool
+notOpen b s = not (has (b .opened) s)
+
+-- 7: "no live complex or leg order of that member and number"
+unfoldable pub isOrderOf : ℕ → ℕ → Entry → Bool
+isOrderOf m n e = pick (live e) (pick (eqb (e .life) 4) false (pick (eqb (e .member) m) (eqb (e .number) n) false)) false
+
+unfoldable pub isLegOrderOf : ℕ → ℕ → LegOrder → Bool
+isLegOrderOf m n o = pick (liveOrder o) (pick (eqb (o .member) m) (eqb (o .number) n) false) false
+
+abbrev pub orderAtIs : State → ℕ → ℕ → ℕ → Bool
+orderAtIs b m n i = isOrderOf m n (entryAt b i)
+
+abbrev pub legOrderAtIs : State → ℕ → ℕ → ℕ → Bool
+legOrderAtIs b m n i = isLegOrderOf m n (orderAt b i)
+
+unfoldable pub notFound : State → ℕ → ℕ → Bool
+notFound b m n = pick (anyN (orderAtIs b m n) 32) false (not (anyN (legOrderAtIs b m n) 32))
+
+-- 8: "cancel of a running auction's starter"
+abbrev pub startedBy : State → ℕ → ℕ → Bool
+startedBy b n k = eqb (strategyAt b k .starter) n
+
+unfoldable pub isStarter : State → ℕ → Bool
+isStarter b n = anyN (startedBy b n) 16
+
+-- 9: "sweep or response, no auction in the strategy"
+unfoldable pub unanswerable : State → ℕ → ℕ → Bool
+unanswerable b life k = pick (eqb life 2) (not (running b k)) false
+
+-- 10: "sweep of 0 units with none to remove"
+abbrev pub replaces : State → GivenSweep → Bool
+replaces b e = ltb (oldSweep b (sweepGiven b e)) 32
+
+unfoldable pub removesNone : State → GivenSweep → Bool
+removesNone b e = pick (eqb (e .units) 0) (not (replaces b e)) false
+
+-- 12: "the table needed is full": 16 strategies, 16 complex orders, 16 sweeps, 32 leg orders
+unfoldable pub strategiesFull : State → GivenStrategy → Bool
+strategiesFull b e = pick (held b (strategyGiven e)) false (leb 16 (b .defined))
+
+unfoldable pub isOrder : Entry → ℕ
+isOrder e = pick (live e) (pick (eqb (e .life) 4) 0 1) 0
+
+unfoldable pub isSweep : Entry → ℕ
+isSweep e = pick (live e) (pick (eqb (e .life) 4) 1 0) 0
+
+unfoldable pub isLegOrder : LegOrder → ℕ
+isLegOrder o = pick (liveOrder o) 1 0
+
+abbrev pub isOrderAt : State → ℕ → ℕ
+isOrderAt b i = isOrder (entryAt b i)
+
+abbrev pub isSweepAt : State → ℕ → ℕ
+isSweepAt b i = isSweep (entryAt b i)
+
+abbrev pub isLegOrderAt : State → ℕ → ℕ
+isLegOrderAt b i = isLegOrder (orderAt b i)
+
+unfoldable pub ordersFull : State → Bool
+ordersFull b = leb 16 (sumN (isOrderAt b) 32)
+
+unfoldable pub sweepsFull : State → Bool
+sweepsFull b = leb 16 (sumN (isSweepAt b) 32)
+
+unfoldable pub legOrdersFull : State → Bool
+legOrdersFull b = leb 32 (sumN (isLegOrderAt b) 32)
+
+-- ".. a sweep that replaces one takes its slot", and one of 0 units needs none
+unfoldable pub noRoom : State → GivenSweep → Bool
+noRoom b e = pick (eqb (e .units) 0) false (pick (replaces b e) false (sweepsFull b))
+
+-- 13: "a new order number is due and 100,000 were given"
+unfoldable pub numbersOut : State → Bool
+numbersOut b = leb 100_000 (b .last)
+
+unfoldable pub sweepNumbersOut : State → GivenSweep → Bool
+sweepNumbersOut b e = pick (eqb (e .units) 0) false (numbersOut b)
+
+-- the causes that an event of each kind can have
+unfoldable pub causes : State → Event → List Cause
+causes b (E.Strategy e) = (5 if illFormed e) ∷ ((12 if strategiesFull b e) ∷ [])
+causes b (E.Order e) =
+    (4 if undefined b (e .strategy))
+    ∷ ((9 if unanswerable b (e .life) (e .strategy)) ∷ ((12 if ordersFull b) ∷ ((13 if numbersOut b) ∷ [])))
+causes b (E.Sweep e) =
+    (4 if undefined b (e .strategy))
+    ∷ ((9 if not (running b (e .strategy))) ∷ ((10 if removesNone b e) ∷ ((12 if noRoom b e) ∷ ((13 if sweepNumbersOut b e) ∷ []))))
+causes b (E.LegOrder e) = (6 if notOpen b (e .series)) ∷ ((12 if legOrdersFull b) ∷ ((13 if numbersOut b) ∷ []))
+causes b (E.Cancel e) = (7 if notFound b (e .member) (e .number)) ∷ ((8 if isStarter b (e .number)) ∷ [])
+causes b (E.Series e) = []
+causes b (E.Clock e) = (11 if ltb (e .time) (b .clock)) ∷ []
+causes b (E.DayEnd e) = []
+
+-- those of a frame of any bytes, as it is read: 2 and 3 are the reader's, the rest need an event
+unfoldable pub readCauses : State → Reading → List Cause
+readCauses b (R.Refused n) = (n if true) ∷ []
+readCauses b (R.Event e) = causes b e
+
+-- the whole table, for a frame that reads so and a record space of that length
+unfoldable pub tableOf : State → Reading → ℕ → List Cause
+tableOf b r space = (1 if ltb space 15_360) ∷ readCauses b r
+
+unfoldable pub refusal : State → Reading → ℕ → ℕ
+refusal b r space = first (tableOf b r space)

@@ -1,0 +1,119 @@
+-- A strategy's definition: ratios in lowest terms, legs by rising series, and the comparison with those held.
+use mathlib.Core.Bool.{Bool, true, false}
+use mathlib.Core.List.{List, [], _∷_, _++_}
+use Prim.Native.Nat.{ℕ, _+_, _*_, _/_, min, max}
+use lib.Dec.{eqb, ltb}
+use lib.ListN.{getD, set, take, replicate}
+use Rattle.base.specs.Pick.{pick}
+use Rattle.base.specs.Walks.{table, walk, allN, anyN, firstN, joinN}
+use Rattle.base.specs.Sets.{has, setN, minus, sizeOf}
+use Rattle.base.specs.Gcd.{gcd}
+use Rattle.rules.specs.declared.Leg.{Leg}
+use Rattle.rules.specs.declared.Strategy.{Strategy}
+use Rattle.rules.specs.declared.State.{State}
+use Rattle.rules.specs.State.{noLeg, noStrategy, strategyAt, legAt, withStrategies}
+
+-- a definition's legs: six rows, the first count in use
+abbrev pub ratioOf : List Leg → ℕ → ℕ
+ratioOf legs i = getD legs i noLeg .ratio
+
+abbrev pub seriesOf : List Leg → ℕ → ℕ
+seriesOf legs i = getD legs i noLeg .series
+
+-- "Ratios are divided by their greatest common divisor, found by Euclid's step calling itself"
+abbrev pub divisorStep : List Leg → ℕ → ℕ → ℕ
+divisorStep legs i d = gcd (ratioOf legs i) d
+
+unfoldable pub divisor : List Leg → ℕ → ℕ
+divisor legs count = walk (divisorStep legs) 0 count
+
+abbrev pub dividedAt : List Leg → ℕ → ℕ → Leg
+dividedAt legs d i = record { series = seriesOf legs i; side = getD legs i noLeg .side; ratio = ratioOf legs i / d }
+
+unfoldable pub lowestTerms : List Leg → ℕ → List Leg
+lowestTerms legs count = table (dividedAt legs (divisor legs count)) 6
+
+-- "Legs stand by rising series": those of series 0, of series 1, and on
+abbrev pub inSeries : List Leg → ℕ → ℕ → Bool
+inSeries legs s i = eqb (seriesOf legs i) s
+
+-- the place of the leg in a series, count where there is none
+unfoldable pub placeOf : List Leg → ℕ → ℕ → ℕ
+placeOf legs count s = firstN (inSeries legs s) count
+
+abbrev pub present : List Leg → ℕ → ℕ → Bool
+present legs count s = ltb (placeOf legs count s) count
+
+abbrev pub legsOf : List Leg → ℕ → ℕ → List Leg
+legsOf legs count s = pick (present legs count s) (getD legs (placeOf legs count s) noLeg ∷ []) []
+
+unfoldable pub bySeries : List Leg → ℕ → List Leg
+bySeries legs count = joinN (legsOf legs count) 32
+
+-- six rows: the legs, and empty ones behind them
+unfoldable pub padded : List Leg → List Leg
+padded ls = take 6 (ls ++ replicate 6 noLeg)
+
+-- "The series of a strategy are a 32-bit set, so its leg count is the number of ones."
+unfoldable pub seriesSet : List Leg → ℕ → ℕ
+seriesSet legs count = setN (present legs count) 32
+
+-- the strategy that a definition gives
+unfoldable pub defined : List Leg → ℕ → Strategy
+defined legs count = record {
+  legs = padded (bySeries (lowestTerms legs count) count);
+  count = sizeOf (seriesSet legs count);
+  series = seriesSet legs count;
+  starter = 0;
+  begun = 0;
+  answered = false;
+}
+
+-- "series twice, or largest ratio over 3 × smallest"
+abbrev pub repeats : List Leg → ℕ → Bool
+repeats legs i = ltb (firstN (inSeries legs (seriesOf legs i)) i) i
+
+unfoldable pub twice : List Leg → ℕ → Bool
+twice legs count = anyN (repeats legs) count
+
+abbrev pub largestStep : List Leg → ℕ → ℕ → ℕ
+largestStep legs i m = max (ratioOf legs i) m
+
+abbrev pub smallestStep : List Leg → ℕ → ℕ → ℕ
+smallestStep legs i m = min (ratioOf legs i) m
+
+unfoldable pub lopsided : List Leg → ℕ → Bool
+lopsided legs count = ltb (3 * walk (smallestStep legs) 12 count) (walk (largestStep legs) 0 count)
+
+-- "The comparison with a held strategy leaves at the first leg that differs"
+unfoldable pub sameLeg : Leg → Leg → Bool
+sameLeg x y = pick (eqb (x .series) (y .series)) (pick (eqb (x .side) (y .side)) (eqb (x .ratio) (y .ratio)) false) false
+
+abbrev pub sameLegAt : Strategy → Strategy → ℕ → Bool
+sameLegAt s t i = sameLeg (legAt s i) (legAt t i)
+
+unfoldable pub sameLegs : Strategy → Strategy → Bool
+sameLegs s t = allN (sameLegAt s t) 6
+
+-- "an equal one answers its old number and takes no slot, else the next number from 0"
+abbrev pub sameAt : State → Strategy → ℕ → Bool
+sameAt b s k = sameLegs (strategyAt b k) s
+
+unfoldable pub numberOf : State → Strategy → ℕ
+numberOf b s = firstN (sameAt b s) (b .defined)
+
+abbrev pub held : State → Strategy → Bool
+held b s = ltb (numberOf b s) (b .defined)
+
+unfoldable pub define : Strategy → State → State
+define s b = pick (held b s) b (withStrategies b (set (b .strategies) (b .defined) s) (b .defined + 1))
+
+-- the shut legs of a strategy, whether all are open, and whether it holds a series
+unfoldable pub shutSet : State → ℕ → ℕ
+shutSet b k = minus (strategyAt b k .series) (b .opened)
+
+abbrev pub allOpen : State → ℕ → Bool
+allOpen b k = eqb (shutSet b k) 0
+
+abbrev pub holds : State → ℕ → ℕ → Bool
+holds b s k = has (strategyAt b k .series) s

@@ -1,0 +1,229 @@
+-- "The totals after a list": what is summed, from events, answers and records alone, and what is claimed of it.
+use mathlib.Core.Path.{_≡_}
+use mathlib.Core.Bool.{Bool, true, false}
+use mathlib.Core.List.{List, [], _∷_, _++_, map, List·Memᴰ}
+use Prim.Native.Nat.{ℕ, _+_, _*_, _/_}
+use lib.Dec.{eqb, leb}
+use lib.IntN.{ℤ, pos, _+ℤ_, _*ℤ_}
+use lib.Signed.{_≤ℤ_}
+use Rattle.base.specs.Pick.{pick}
+use Rattle.base.specs.Walks.{sumN}
+use Rattle.events.specs.declared.Event.{Event}
+use Rattle.events.specs.declared.Event.the-variants as E
+use Rattle.events.specs.declared.Reading.{Reading}
+use Rattle.events.specs.declared.Reading.the-variants as R
+use Rattle.events.specs.declared.Strategy.{Strategy as GivenStrategy}
+use Rattle.frames.specs.Frames.{readOf}
+use Rattle.rules.specs.declared.Leg.{Leg}
+use Rattle.rules.specs.declared.State.{State}
+use Rattle.rules.specs.State.{fresh}
+use Rattle.rules.specs.Strategies.{seriesOf, ratioOf, divisor}
+use Rattle.rules.specs.Given.{legsGiven}
+use Rattle.rules.specs.Step.{Outcome, step}
+use Rattle.rules.specs.Records.{Line, lineOf, cents}
+use Rattle.rules.specs.Lookups.{liveQuantity}
+
+-- "An event of the list is a frame of any bytes, with a record space of any length."
+pub record Sent : Type 0 where
+  pub frame : List ℕ
+  pub space : ℕ
+
+-- what came of it: the event, if the frame carries one, the answer and value, and the records as they are read at the answer
+pub record Entry : Type 0 where
+  pub reading : Reading
+  pub answer : ℕ
+  pub value : ℕ
+  pub lines : List Line
+
+-- each event meets the book that the one before left: the run is the fold of `step`
+unfoldable pub outcome : State → Sent → Outcome
+outcome b x = step b (x .frame) (x .space)
+
+unfoldable pub after : State → List Sent → State
+after b [] = b
+after b (x ∷ xs) = after (outcome b x .moved .state) xs
+
+abbrev pub logOf : Sent → Outcome → Entry
+logOf x o = record { reading = readOf (x .frame); answer = o .answer; value = o .value; lines = map lineOf (o .moved .records) }
+
+unfoldable pub run : State → List Sent → List Entry
+run b [] = []
+run b (x ∷ xs) = logOf x (outcome b x) ∷ run (outcome b x .moved .state) xs
+
+-- "The list's records are those its accepted events wrote": a refused event has none
+unfoldable pub linesOf : List Entry → List Line
+linesOf [] = []
+linesOf (x ∷ xs) = x .lines ++ linesOf xs
+
+-- sums over records
+unfoldable pub total : (Line → ℕ) → List Line → ℕ
+total w [] = 0
+total w (l ∷ ls) = w l + total w ls
+
+abbrev pub when : ℕ → ℕ → ℕ → ℕ
+when x y q = pick (eqb x y) q 0
+
+-- "Filled sums the quantities of its records 1, for a leg order of its records 2; cancelled, of its records 3."
+abbrev pub ofKind : ℕ → ℕ → Line → ℕ
+ofKind kind n l = when (l .kind) kind (when (l .number) n (l .quantity))
+
+unfoldable pub wholeFilled : ℕ → List Line → ℕ
+wholeFilled n ls = total (ofKind 1 n) ls
+
+unfoldable pub legFilled : ℕ → List Line → ℕ
+legFilled n ls = total (ofKind 2 n) ls
+
+unfoldable pub cancelled : ℕ → List Line → ℕ
+cancelled n ls = total (ofKind 3 n) ls
+
+-- "Contracts filled on a leg sum its records 2 in that series."
+abbrev pub onLeg : ℕ → ℕ → Line → ℕ
+onLeg n s l = when (l .place) s (ofKind 2 n l)
+
+unfoldable pub contractsOn : ℕ → ℕ → List Line → ℕ
+contractsOn n s ls = total (onLeg n s) ls
+
+-- "Bought sums a series' records 2 of side 0, sold those of side 1."
+abbrev pub inSeries : ℕ → ℕ → Line → ℕ
+inSeries s side l = when (l .kind) 2 (when (l .place) s (when (l .side) side (l .quantity)))
+
+unfoldable pub bought : ℕ → List Line → ℕ
+bought s ls = total (inSeries s 0) ls
+
+unfoldable pub sold : ℕ → List Line → ℕ
+sold s ls = total (inSeries s 1) ls
+
+-- "An order or sweep enters by an accepted event of kind 2, 3 or 4 whose value isn't 0. That value is its number; the event's units or
+-- contracts are what it entered." Beside these its side and its limit, a leg order's price.
+pub record Terms : Type 0 where
+  pub number : ℕ
+  pub quantity : ℕ
+  pub side : ℕ
+  pub limit : ℤ
+
+-- what an event brought in: a complex order or sweep with its strategy, a leg order, or nothing
+pub data Brought : Type 0 where
+  complex : Terms → ℕ → Brought
+  leg : Terms → Brought
+  nothing : Brought
+
+unfoldable pub enters : Event → ℕ → Brought
+enters (E.Strategy e) n = nothing
+enters (E.Order e) n = complex (record { number = n; quantity = e .units; side = e .side; limit = cents (e .level) }) (e .strategy)
+enters (E.Sweep e) n = complex (record { number = n; quantity = e .units; side = e .side; limit = cents (e .level) }) (e .strategy)
+enters (E.LegOrder e) n = leg (record { number = n; quantity = e .contracts; side = e .side; limit = pos (e .price) })
+enters (E.Cancel e) n = nothing
+enters (E.Series e) n = nothing
+enters (E.Clock e) n = nothing
+enters (E.DayEnd e) n = nothing
+
+unfoldable pub entersRead : Reading → ℕ → Brought
+entersRead (R.Refused n) v = nothing
+entersRead (R.Event e) v = pick (eqb v 0) nothing (enters e v)
+
+unfoldable pub brought : Entry → Brought
+brought x = pick (eqb (x .answer) 0) (entersRead (x .reading) (x .value)) nothing
+
+-- the list brought it in
+abbrev pub Came : Brought → List Entry → Type 0
+Came w log = List·Memᴰ w (map brought log)
+
+-- the number came in with no event of the list
+pub record Unknown (n : ℕ) (log : List Entry) : Type 0 where
+  pub complex : (w : Terms) (k : ℕ) → w .number ≡ n → Came (complex w k) log → ⊥
+  pub leg : (w : Terms) → w .number ≡ n → Came (leg w) log → ⊥
+
+-- records 1 to 3 of a number
+abbrev pub mentions : ℕ → Line → ℕ
+mentions n l = when (l .number) n (pick (leb (l .kind) 3) 1 0)
+
+-- "The ratio is that of the accepted kind 1 event that answered its strategy, divided as above; a series outside the strategy counts as a
+-- leg of ratio 0."
+abbrev pub ratioAt : List Leg → ℕ → ℕ → ℕ → ℕ
+ratioAt legs d s i = when (seriesOf legs i) s (ratioOf legs i / d)
+
+unfoldable pub ratioIn : GivenStrategy → ℕ → ℕ
+ratioIn e s = sumN (ratioAt (legsGiven e) (divisor (legsGiven e) (e .count)) s) (e .count)
+
+-- the accepted kind 1 event e of the list answered strategy k
+pub record Answered (e : GivenStrategy) (k : ℕ) (log : List Entry) : Type 0 where
+  pub entry : Entry
+  pub sent : List·Memᴰ entry log
+  pub reading : entry .reading ≡ R.Event (E.Strategy e)
+  pub answer : entry .answer ≡ 0
+  pub value : entry .value ≡ k
+
+pub record Defined (k : ℕ) (log : List Entry) : Type 0 where
+  pub event : GivenStrategy
+  pub answered : Answered event k log
+
+-- "worse than the limit (a leg order's price) if its price is above it for a buy, below it for a sell": not so
+pub record NotWorse (w : Terms) (l : Line) : Type 0 where
+  pub buy : w .side ≡ 0 → l .price ≤ℤ w .limit
+  pub sell : w .side ≡ 1 → w .limit ≤ℤ l .price
+
+-- "A fill is a record 1, or a leg order's record 2"
+abbrev pub isLeg : ℕ → Brought → Bool
+isLeg n (complex w k) = false
+isLeg n (leg w) = eqb (w .number) n
+isLeg n nothing = false
+
+unfoldable pub isLegNumber : List Entry → ℕ → Bool
+isLegNumber [] n = false
+isLegNumber (x ∷ xs) n = pick (isLeg n (brought x)) true (isLegNumber xs n)
+
+unfoldable pub isFill : List Entry → Line → Bool
+isFill log l = pick (eqb (l .kind) 1) true (pick (eqb (l .kind) 2) (isLegNumber log (l .number)) false)
+
+-- "Cash paid sums quantity × price over the fills of side 0, received over those of side 1."
+abbrev pub cashOf : List Entry → ℕ → Line → ℤ
+cashOf log side l = pick (isFill log l) (pick (eqb (l .side) side) (pos (l .quantity) *ℤ l .price) (pos 0)) (pos 0)
+
+unfoldable pub cash : List Entry → ℕ → List Line → ℤ
+cash log side [] = pos 0
+cash log side (l ∷ ls) = cashOf log side l +ℤ cash log side ls
+
+-- an accepted day end
+unfoldable pub isDayEnd : Reading → Bool
+isDayEnd (R.Refused n) = false
+isDayEnd (R.Event (E.Strategy e)) = false
+isDayEnd (R.Event (E.Order e)) = false
+isDayEnd (R.Event (E.Sweep e)) = false
+isDayEnd (R.Event (E.LegOrder e)) = false
+isDayEnd (R.Event (E.Cancel e)) = false
+isDayEnd (R.Event (E.Series e)) = false
+isDayEnd (R.Event (E.Clock e)) = false
+isDayEnd (R.Event (E.DayEnd e)) = true
+
+unfoldable pub endsDay : Entry → Bool
+endsDay x = pick (eqb (x .answer) 0) (isDayEnd (x .reading)) false
+
+-- "with nothing after an accepted day end": it may be the last
+abbrev pub OneDay : List Entry → Type 0
+OneDay [] = Unit {0}
+OneDay (x ∷ []) = Unit {0}
+OneDay (x ∷ (y ∷ ys)) = (endsDay x ≡ false) × OneDay (y ∷ ys)
+
+-- THE TOTALS of a list: `log` is what came of it, `end` the book that it left.
+pub record Totals (log : List Entry) (end : State) : Type 0 where
+  -- what entered is filled, cancelled or live
+  pub units : (w : Terms) (k : ℕ) → Came (complex w k) log →
+      w .quantity ≡ wholeFilled (w .number) (linesOf log) + cancelled (w .number) (linesOf log) + liveQuantity end (w .number)
+  pub contracts : (w : Terms) → Came (leg w) log →
+      w .quantity ≡ legFilled (w .number) (linesOf log) + cancelled (w .number) (linesOf log) + liveQuantity end (w .number)
+  -- "No other number has a record 1 to 3 or anything live"
+  pub others : (n : ℕ) → Unknown n log →
+      (total (mentions n) (linesOf log) ≡ 0) × (liveQuantity end n ≡ 0)
+  -- contracts on a leg are ratio × units, in every series; the strategy was defined by an event of the list
+  pub strategy : (w : Terms) (k : ℕ) → Came (complex w k) log → Defined k log
+  pub ratio : (w : Terms) (k : ℕ) → Came (complex w k) log → (e : GivenStrategy) → Answered e k log → (s : ℕ) →
+      contractsOn (w .number) s (linesOf log) ≡ ratioIn e s * wholeFilled (w .number) (linesOf log)
+  -- bought is sold, in every series
+  pub series : (s : ℕ) → bought s (linesOf log) ≡ sold s (linesOf log)
+  -- no fill is worse than its order's limit
+  pub limit : (w : Terms) (k : ℕ) → Came (complex w k) log → (l : Line) → List·Memᴰ l (linesOf log) →
+      l .kind ≡ 1 → l .number ≡ w .number → NotWorse w l
+  pub price : (w : Terms) → Came (leg w) log → (l : Line) → List·Memᴰ l (linesOf log) →
+      l .kind ≡ 2 → l .number ≡ w .number → NotWorse w l
+  -- cash paid is cash received
+  pub paid : cash log 0 (linesOf log) ≡ cash log 1 (linesOf log)

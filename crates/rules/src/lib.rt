@@ -1,0 +1,116 @@
+// The state of the book and its records, of which specs/ gives the rules.
+
+// One leg of a strategy. Its side is 0 where a buyer of the strategy buys the series, 1 where he sells it.
+pub struct Leg {
+    pub series: u8,
+    pub side: u8,
+    pub ratio: u8,
+}
+
+// A strategy: its legs by rising series, `count` of them; its series as a set of 32 bits; the number of the order that
+// started the running auction (0: none runs), the clock at its start, and whether an opposite sweep or waiting order was
+// accepted during it.
+pub struct Strategy {
+    pub legs: [Leg; 6],
+    pub count: u8,
+    pub series: u32,
+    pub starter: u32,
+    pub begun: u32,
+    pub answered: bool,
+}
+
+// A complex order, or a sweep (life 4). An entry of 0 units is empty. Its level is the limit in cents and 10,000,000 more.
+pub struct Entry {
+    pub number: u32,
+    pub member: u16,
+    pub strategy: u8,
+    pub side: u8,
+    pub class: u8,
+    pub life: u8,
+    pub units: u32,
+    pub level: u32,
+}
+
+// A leg order. One of 0 contracts is empty.
+pub struct LegOrder {
+    pub number: u32,
+    pub member: u16,
+    pub series: u8,
+    pub side: u8,
+    pub contracts: u32,
+    pub price: u32,
+}
+
+// The whole state: the tables, how many strategies are defined, the open series as a set of 32 bits, the last accepted
+// clock, the timer of auctions, and the last number given.
+pub struct State {
+    pub strategies: [Strategy; 16],
+    pub entries: [Entry; 32],
+    pub orders: [LegOrder; 32],
+    pub defined: u8,
+    pub opened: u32,
+    pub clock: u32,
+    pub timer: u32,
+    pub last: u32,
+}
+
+// What a record tells. A complex party's leg fill and a leg order's are both written 2, and both cancels 3.
+pub enum Kind {
+    WholeFill,
+    LegFill,
+    LegOrderFill,
+    Cancelled,
+    LegOrderCancelled,
+    AuctionBegun,
+    AuctionEnded,
+}
+
+pub struct Record {
+    pub kind: Kind,
+    pub number: u32,
+    pub place: u8,
+    pub side: u8,
+    pub quantity: u32,
+    pub level: u32,
+}
+
+// How a pass meets the holders of a limit: not at all, shared by groups, or by number alone.
+pub enum Allocation {
+    LegsOnly,
+    Shared,
+    Numbered,
+}
+
+// What an active order does next: nothing more, a fill by the legs, or fills at the best opposite limit, given as a level.
+pub enum Turn {
+    Stop,
+    ByLegs,
+    AtLimit(u32),
+}
+
+// An entry of a row of leg orders that a caller lends. One of 0 contracts is empty.
+pub struct OrderEntry {
+    pub series: u32,
+    pub side: u32,
+    pub contracts: u32,
+    pub price: u32,
+}
+
+// The best price of a series and side and its contracts, nothing, or a refusal.
+pub enum Depth {
+    Best(u32, u32),
+    Empty,
+    Refused(u32),
+}
+
+// The shut legs of a strategy: how many, and the lowest series; or a refusal.
+pub enum Shut {
+    Legs(u32, u32),
+    Refused(u32),
+}
+
+// The answer to an event: its value and the number of its records, or the refusal.
+pub enum Answer {
+    Accepted(u32, usize),
+    Refused(u32),
+}
