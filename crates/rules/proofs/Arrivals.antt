@@ -323,13 +323,13 @@ pub record Sweeping (b : State) (e : Entry) : Type 0 where
   pub room : (oldSweep b e < 32) ⊎ (sumN (isSweepAt b) 32 < 16)
 
 module _ (b : State) (e : Entry) (v : Valid b) (life : e .life ≡ 4) where
-  abbrev swept : State
+  abbrev pub swept : State
   swept = cancelEntry (oldSweep b e) b .state
 
-  swept-shrinks : Shrinks b swept
+  pub swept-shrinks : Shrinks b swept
   swept-shrinks = cancel-shrinks b (oldSweep b e)
 
-  swept-valid : Valid swept
+  pub swept-valid : Valid swept
   swept-valid =
       cancel-valid (oldSweep b e) (v .sound) (λ k. settled-nearly _ (v .settled k)) (λ k. v .settled k .openLegs)
       (λ k r p. omega (arith, p .life, old-sweep b e (p .slot) .1))
@@ -353,7 +353,7 @@ module _ (b : State) (e : Entry) (v : Valid b) (life : e .life ≡ 4) where
   swept-room : (oldSweep b e < 32) ⊎ (sumN (isSweepAt b) 32 < 16) → sumN (isSweepAt swept) 32 < 16
   swept-room = ⊎-elim swept-replaced (λ l. omega (arith, sum-mono (isSweepAt swept) (isSweepAt b) 32 (λ i _. sweep-le (swept-shrinks .entry i))))
 
-  swept-entering : live e ≡ true → Sweeping b e → Entering swept e
+  pub swept-entering : live e ≡ true → Sweeping b e → Entering swept e
   swept-entering t n = record {
     fit = n .fit;
     number = omega (arith, n .number, swept-shrinks .last);

@@ -6,7 +6,7 @@ use mathlib.Core.List.{List}
 use Prim.Native.Nat.{ℕ, suc, _+_, _^_, _≤_, _<_}
 use native.Mathlib.Nat.{le-refl}
 use native.Mathlib.Omega.{arith}
-use borrow.Author.Tests.{eqb-false, ne-eqb, not-true}
+use borrow.Author.Tests.{eqb-true, eqb-false, ne-eqb, not-true, not-false}
 use lib.Count.{onesIn}
 use lib.Dec.{eqb}
 use lib.ListN.{length, getD, replicate, length-set, length-replicate}
@@ -36,6 +36,18 @@ live-pos e h = let z : ¬ (e .units ≡ 0) = eqb-false _ 0 (not-true _ h) in ome
 pub pos-live : (e : Entry) → 0 < e .units → live e ≡ true
 unfolding live
 pos-live e h = ap not (ne-eqb (e .units) 0 (λ z. omega arith))
+
+pub dead-zero : (e : Entry) → live e ≡ false → e .units ≡ 0
+unfolding live
+dead-zero e h = eqb-true _ 0 (not-false _ h)
+
+pub order-pos : (o : LegOrder) → liveOrder o ≡ true → 0 < o .contracts
+unfolding liveOrder
+order-pos o h = let z : ¬ (o .contracts ≡ 0) = eqb-false _ 0 (not-true _ h) in omega arith
+
+pub pos-order : (o : LegOrder) → 0 < o .contracts → liveOrder o ≡ true
+unfolding liveOrder
+pos-order o h = ap not (ne-eqb (o .contracts) 0 (λ z. omega arith))
 
 none-live : live noEntry ≡ false
 unfolding live

@@ -22,3 +22,15 @@ pub mod LegLoad
 pub mod PassLoad
 pub mod Bound
 pub mod Room
+pub mod Positive
+pub mod Laws
+pub mod Accounts
+pub mod LegAccounts
+pub mod Steps
+pub mod Lists
+pub mod Numbers
+pub mod Levels
+pub mod Paper
+pub mod Ratios
+pub mod Origins
+pub mod Totals

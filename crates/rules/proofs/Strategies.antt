@@ -78,14 +78,14 @@ abbrev Rising : Leg → Leg → Type 0
 Rising x y = x .series < y .series
 
 module _ (legs : List Leg) (count : ℕ) (def : Definition legs count) where
-  abbrev lowest : List Leg
+  abbrev pub lowest : List Leg
   lowest = lowestTerms legs count
 
-  lowest-at : (i : ℕ) → i < count → getD lowest i noLeg ≡ dividedAt legs (divisor legs count) i
+  pub lowest-at : (i : ℕ) → i < count → getD lowest i noLeg ≡ dividedAt legs (divisor legs count) i
   unfolding lowestTerms
   lowest-at i h = table-slot (dividedAt legs (divisor legs count)) noLeg 6 i (omega (arith, def .six))
 
-  place-same : (s : ℕ) → placeOf lowest count s ≡ placeOf legs count s
+  pub place-same : (s : ℕ) → placeOf lowest count s ≡ placeOf legs count s
   unfolding placeOf
   place-same s = first-same _ _ count (λ i l. ap (λ (x : Leg). eqb (x .series) s) (lowest-at i l))
 
@@ -149,7 +149,7 @@ module _ (legs : List Leg) (count : ℕ) (def : Definition legs count) where
   unfolding seriesSet placed
   size-is = size-set (present legs count) 32 (le-refl 32)
 
-  length-is : length (bySeries lowest count) ≡ sizeOf (seriesSet legs count)
+  pub length-is : length (bySeries lowest count) ≡ sizeOf (seriesSet legs count)
   unfolding bySeries placed
   length-is =
       length-join (legsOf lowest count) 32
@@ -202,17 +202,17 @@ module _ (legs : List Leg) (count : ℕ) (def : Definition legs count) where
       (λ l. omega (arith, size-is, sum-two placed 32 b a (omega (arith, two-series)) (def .series 0 (omega arith)), p, q)) (lt-or-le a b)
 
   -- the rows
-  abbrev rows : List Leg
+  abbrev pub rows : List Leg
   rows = bySeries lowest count
 
   rows-are : Upto 32 rows
   unfolding bySeries
   rows-are = upto 32 (le-refl 32)
 
-  rows-le : length rows ≤ 6
+  pub rows-le : length rows ≤ 6
   rows-le = omega (arith, length-is, size-le, def .six)
 
-  padded-at : (i : ℕ) → i < length rows → getD (padded rows) i noLeg ≡ getD rows i noLeg
+  pub padded-at : (i : ℕ) → i < length rows → getD (padded rows) i noLeg ≡ getD rows i noLeg
   unfolding padded
   padded-at i h = getD-take 6 (rows ++ replicate 6 noLeg) i noLeg (omega (arith, rows-le)) ∙ List·getD-append rows (replicate 6 noLeg) noLeg i h
 

@@ -46,18 +46,18 @@ valid-fresh = fresh-valid
 
 -- Where nothing is refused, no cause applies.
 
-clear : (n : ℕ) (c : Bool) (cs : List Cause) → 0 < n → first ((n if c) ∷ cs) ≡ 0 → (c ≡ false) × (first cs ≡ 0)
+pub clear : (n : ℕ) (c : Bool) (cs : List Cause) → 0 < n → first ((n if c) ∷ cs) ≡ 0 → (c ≡ false) × (first cs ≡ 0)
 unfolding first pick
 clear n true cs h e = absurd (omega arith)
 clear n false cs h e = (refl, e)
 
 -- a test that a first one spares
-then-no : (t : Bool) {u : Bool} → pick t false u ≡ false → t ≡ false → u ≡ false
+pub then-no : (t : Bool) {u : Bool} → pick t false u ≡ false → t ≡ false → u ≡ false
 then-no t e f = sym (pick-false _ _ _ f) ∙ e
 
 -- Strategies.
 
-given-definition : (e : GivenStrategy) → FitGiven e → illFormed e ≡ false → Definition (legsGiven e) (e .count)
+pub given-definition : (e : GivenStrategy) → FitGiven e → illFormed e ≡ false → Definition (legsGiven e) (e .count)
 unfolding illFormed
 given-definition e f h = record {
   two = f .two;
@@ -126,7 +126,7 @@ strategy-valid b e v f h k =
 
 -- Orders and sweeps.
 
-known : (b : State) (k : ℕ) → undefined b k ≡ false → k < b .defined
+pub known : (b : State) (k : ℕ) → undefined b k ≡ false → k < b .defined
 unfolding undefined
 known b k h = leb-false _ _ h
 
@@ -150,7 +150,7 @@ legOrders-left b h = leb-false _ _ h
 no-sweep : (e : Entry) → e .life ≤ 3 → 0 < e .units → isSweep e ≡ 0
 no-sweep e h l = sweep-live e (pos-live e l) ∙ pick-false _ _ _ (ne-eqb (e .life) 4 (λ z. omega arith))
 
-order-entering : (b : State) (e : GivenOrder) → Sound b → FitOrderGiven e → undefined b (e .strategy) ≡ false → ordersFull b ≡ false → numbersOut b ≡ false → Entering b (orderGiven b e)
+pub order-entering : (b : State) (e : GivenOrder) → Sound b → FitOrderGiven e → undefined b (e .strategy) ≡ false → ordersFull b ≡ false → numbersOut b ≡ false → Entering b (orderGiven b e)
 unfolding orderGiven
 order-entering b e s f u o n = record {
   fit = record {
@@ -190,7 +190,7 @@ sweeping-of b e f u n p = record {
   room = p;
 }
 
-sweep-given : (b : State) (e : GivenSweep) → FitSweepGiven e → undefined b (e .strategy) ≡ false → noRoom b e ≡ false → sweepNumbersOut b e ≡ false → 0 < e .units → Sweeping b (sweepGiven b e)
+pub sweep-given : (b : State) (e : GivenSweep) → FitSweepGiven e → undefined b (e .strategy) ≡ false → noRoom b e ≡ false → sweepNumbersOut b e ≡ false → 0 < e .units → Sweeping b (sweepGiven b e)
 unfolding noRoom sweepNumbersOut
 sweep-given b e f u r n l =
     let some : eqb (e .units) 0 ≡ false = ne-eqb (e .units) 0 (λ z. omega arith) in
@@ -204,7 +204,7 @@ sweep-accept : (b : State) (e : GivenSweep) → Valid b → FitSweepGiven e → 
 unfolding accept sweepGiven
 sweep-accept b e v f u r o n = sweep-valid b (sweepGiven b e) v refl r (sweep-given b e f u o n)
 
-order-given : (b : State) (e : GivenLegOrder) → FitLegOrderGiven e → legOrdersFull b ≡ false → numbersOut b ≡ false → EnteringOrder b (legOrderGiven b e)
+pub order-given : (b : State) (e : GivenLegOrder) → FitLegOrderGiven e → legOrdersFull b ≡ false → numbersOut b ≡ false → EnteringOrder b (legOrderGiven b e)
 unfolding legOrderGiven
 order-given b e f o n = record {
   fit = record {

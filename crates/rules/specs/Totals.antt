@@ -29,7 +29,7 @@ pub record Sent : Type 0 where
   pub space : ℕ
 
 -- what came of it: the event, if the frame carries one, the answer and value, and the records as they are read at the answer
-pub record Entry : Type 0 where
+pub record Logged : Type 0 where
   pub reading : Reading
   pub answer : ℕ
   pub value : ℕ
@@ -43,15 +43,15 @@ unfoldable pub after : State → List Sent → State
 after b [] = b
 after b (x ∷ xs) = after (outcome b x .moved .state) xs
 
-abbrev pub logOf : Sent → Outcome → Entry
+abbrev pub logOf : Sent → Outcome → Logged
 logOf x o = record { reading = readOf (x .frame); answer = o .answer; value = o .value; lines = map lineOf (o .moved .records) }
 
-unfoldable pub run : State → List Sent → List Entry
+unfoldable pub run : State → List Sent → List Logged
 run b [] = []
 run b (x ∷ xs) = logOf x (outcome b x) ∷ run (outcome b x .moved .state) xs
 
 -- "The list's records are those its accepted events wrote": a refused event has none
-unfoldable pub linesOf : List Entry → List Line
+unfoldable pub linesOf : List Logged → List Line
 linesOf [] = []
 linesOf (x ∷ xs) = x .lines ++ linesOf xs
 
@@ -121,15 +121,15 @@ unfoldable pub entersRead : Reading → ℕ → Brought
 entersRead (R.Refused n) v = nothing
 entersRead (R.Event e) v = pick (eqb v 0) nothing (enters e v)
 
-unfoldable pub brought : Entry → Brought
+unfoldable pub brought : Logged → Brought
 brought x = pick (eqb (x .answer) 0) (entersRead (x .reading) (x .value)) nothing
 
 -- the list brought it in
-abbrev pub Came : Brought → List Entry → Type 0
+abbrev pub Came : Brought → List Logged → Type 0
 Came w log = List·Memᴰ w (map brought log)
 
 -- the number came in with no event of the list
-pub record Unknown (n : ℕ) (log : List Entry) : Type 0 where
+pub record Unknown (n : ℕ) (log : List Logged) : Type 0 where
   pub complex : (w : Terms) (k : ℕ) → w .number ≡ n → Came (complex w k) log → ⊥
   pub leg : (w : Terms) → w .number ≡ n → Came (leg w) log → ⊥
 
@@ -146,14 +146,14 @@ unfoldable pub ratioIn : GivenStrategy → ℕ → ℕ
 ratioIn e s = sumN (ratioAt (legsGiven e) (divisor (legsGiven e) (e .count)) s) (e .count)
 
 -- the accepted kind 1 event e of the list answered strategy k
-pub record Answered (e : GivenStrategy) (k : ℕ) (log : List Entry) : Type 0 where
-  pub entry : Entry
+pub record Answered (e : GivenStrategy) (k : ℕ) (log : List Logged) : Type 0 where
+  pub entry : Logged
   pub sent : List·Memᴰ entry log
   pub reading : entry .reading ≡ R.Event (E.Strategy e)
   pub answer : entry .answer ≡ 0
   pub value : entry .value ≡ k
 
-pub record Defined (k : ℕ) (log : List Entry) : Type 0 where
+pub record Defined (k : ℕ) (log : List Logged) : Type 0 where
   pub event : GivenStrategy
   pub answered : Answered event k log
 
@@ -168,18 +168,18 @@ isLeg n (complex w k) = false
 isLeg n (leg w) = eqb (w .number) n
 isLeg n nothing = false
 
-unfoldable pub isLegNumber : List Entry → ℕ → Bool
+unfoldable pub isLegNumber : List Logged → ℕ → Bool
 isLegNumber [] n = false
 isLegNumber (x ∷ xs) n = pick (isLeg n (brought x)) true (isLegNumber xs n)
 
-unfoldable pub isFill : List Entry → Line → Bool
+unfoldable pub isFill : List Logged → Line → Bool
 isFill log l = pick (eqb (l .kind) 1) true (pick (eqb (l .kind) 2) (isLegNumber log (l .number)) false)
 
 -- "Cash paid sums quantity × price over the fills of side 0, received over those of side 1."
-abbrev pub cashOf : List Entry → ℕ → Line → ℤ
+abbrev pub cashOf : List Logged → ℕ → Line → ℤ
 cashOf log side l = pick (isFill log l) (pick (eqb (l .side) side) (pos (l .quantity) *ℤ l .price) (pos 0)) (pos 0)
 
-unfoldable pub cash : List Entry → ℕ → List Line → ℤ
+unfoldable pub cash : List Logged → ℕ → List Line → ℤ
 cash log side [] = pos 0
 cash log side (l ∷ ls) = cashOf log side l +ℤ cash log side ls
 
@@ -195,17 +195,17 @@ isDayEnd (R.Event (E.Series e)) = false
 isDayEnd (R.Event (E.Clock e)) = false
 isDayEnd (R.Event (E.DayEnd e)) = true
 
-unfoldable pub endsDay : Entry → Bool
+unfoldable pub endsDay : Logged → Bool
 endsDay x = pick (eqb (x .answer) 0) (isDayEnd (x .reading)) false
 
 -- "with nothing after an accepted day end": it may be the last
-abbrev pub OneDay : List Entry → Type 0
+abbrev pub OneDay : List Logged → Type 0
 OneDay [] = Unit {0}
 OneDay (x ∷ []) = Unit {0}
 OneDay (x ∷ (y ∷ ys)) = (endsDay x ≡ false) × OneDay (y ∷ ys)
 
 -- THE TOTALS of a list: `log` is what came of it, `end` the book that it left.
-pub record Totals (log : List Entry) (end : State) : Type 0 where
+pub record Totals (log : List Logged) (end : State) : Type 0 where
   -- what entered is filled, cancelled or live
   pub units : (w : Terms) (k : ℕ) → Came (complex w k) log →
       w .quantity ≡ wholeFilled (w .number) (linesOf log) + cancelled (w .number) (linesOf log) + liveQuantity end (w .number)

@@ -1,0 +1,317 @@
+-- THE TOTALS AFTER A LIST, for every list of events of one day on a fresh book.
+use mathlib.Core.Path.{_≡_, refl, sym, _∙_, ap, subst}
+use mathlib.Core.Bool.{Bool, true, false}
+use mathlib.Core.List.{List, [], _∷_, map, List·Memᴰ, List·Memᴰ·head, List·Memᴰ·tail}
+use Prim.Native.Nat.{ℕ, _+_, _-_, _*_, _≤_}
+use native.Mathlib.Omega.{arith}
+use borrow.Author.Tests.{eqb-true, eqb-false, eq-eqb, ne-eqb, leb-true}
+use lib.Dec.{eqb}
+use lib.Signed.{_≤ℤ_}
+use Rattle.base.specs.Pick.{pick, pick-by, pick-true, pick-false}
+use Rattle.base.specs.Walks.{clash}
+use Rattle.events.specs.declared.Strategy.{Strategy as GivenStrategy}
+use Rattle.rules.specs.declared.State.{State}
+use Rattle.rules.specs.declared.Record.{Record}
+use Rattle.rules.specs.declared.Kind.{Kind}
+use Rattle.rules.specs.declared.Kind.the-variants.{WholeFill, LegFill, LegOrderFill, Cancelled, LegOrderCancelled, AuctionBegun, AuctionEnded}
+use Rattle.rules.specs.State.{fresh, strategyAt}
+use Rattle.rules.specs.Sides.{meets}
+use Rattle.rules.specs.Records.{kindNumber, cents, Line, lineOf}
+use Rattle.rules.specs.Lookups.{liveQuantity}
+use Rattle.rules.specs.Valid.{Valid}
+use Rattle.rules.specs.Totals.{Sent, Logged, outcome, after, logOf, run, linesOf, total, when, wholeFilled, legFilled, cancelled, contractsOn, bought, sold, Terms, Brought, complex, leg, nothing, brought, Came, Unknown, mentions, ratioIn, Answered, Defined, NotWorse, isLeg, isLegNumber, isFill, cash, OneDay, Totals}
+use Rattle.rules.proofs.Endings.{or-no}
+use Rattle.rules.proofs.Validity.{valid-fresh}
+use Rattle.rules.proofs.Laws.{tally, Law, noEntries, noOrders, ofSeries, ofCash, ofRatio, ofLimit, ofPrice, size, come, gone, ratioFor, onComplex, onLegOrder, onWhole, onTraded, when-yes}
+use Rattle.rules.proofs.Steps.{Row, entryRow, legRow, noRow, added, FitsRow}
+use Rattle.rules.proofs.Lists.{rowIn, next, termsOf, brought-row, recordsOf, enteredOf, lines-records}
+use Rattle.rules.proofs.Numbers.{About, a-units, a-contracts, a-noEntries, a-noOrders, a-ratio, a-limit, a-price, Quiet, quiet, apart-unknown, law-quiet, Entered, CameEntry, CameOrder, came-entry, came-order}
+use Rattle.rules.proofs.Levels.{cents-le, cents-price}
+use Rattle.rules.proofs.Paper.{tally-none, tally-mem, Written, written, met, units-lines, contracts-lines, mentions-lines, legs-lines, ratio-lines, bought-lines, sold-lines, fillKind, paid-lines}
+use Rattle.rules.proofs.Origins.{lean-fresh, settled-ratio, strategy-given}
+
+-- laws that no entry has to do with
+quiet-plain : (l : Law) → ((b : State) (r : Row) → (added l r ≡ 0) × FitsRow l b r) → (b : State) (xs : List Sent) → Quiet l b xs
+unfolding enteredOf
+quiet-plain l h b [] = record { none = refl; fitting = tt }
+quiet-plain l h b (x ∷ xs) =
+    let r = h b (rowIn b x) in
+    let q : Quiet l (next b x) xs = quiet-plain l h (next b x) xs in
+    record { none = omega (arith, r .0, q .none); fitting = (r .1, q .fitting) }
+
+plain-series : (s : ℕ) (b : State) (r : Row) → (added (ofSeries s) r ≡ 0) × FitsRow (ofSeries s) b r
+plain-series s b (entryRow e) = (refl, tt)
+plain-series s b (legRow o) = (refl, tt)
+plain-series s b noRow = (refl, tt)
+
+plain-cash : (b : State) (r : Row) → (added ofCash r ≡ 0) × FitsRow ofCash b r
+plain-cash b (entryRow e) = (refl, tt)
+plain-cash b (legRow o) = (refl, tt)
+plain-cash b noRow = (refl, tt)
+
+-- a number of which no leg order came
+no-leg : (n : ℕ) (b : State) (r : Row) → isLeg n (termsOf r) ≡ false → (added (noOrders n) r ≡ 0) × FitsRow (noOrders n) b r
+no-leg n b (entryRow e) h = (refl, tt)
+no-leg n b (legRow o) h = (refl, eqb-false (o .number) n h)
+no-leg n b noRow h = (refl, tt)
+
+quiet-legs : (n : ℕ) (b : State) (xs : List Sent) → isLegNumber (run b xs) n ≡ false → Quiet (noOrders n) b xs
+unfolding enteredOf run isLegNumber
+quiet-legs n b [] h = record { none = refl; fitting = tt }
+quiet-legs n b (x ∷ xs) h =
+    let p = or-no (isLeg n (brought (logOf x (outcome b x)))) h in
+    let r = no-leg n b (rowIn b x) (ap (isLeg n) (sym (brought-row b x)) ∙ p .0) in
+    let q : Quiet (noOrders n) (next b x) xs = quiet-legs n (next b x) xs (p .1) in
+    record { none = omega (arith, r .0, q .none); fitting = (r .1, q .fitting) }
+
+-- a number of which one came
+record LegCame (n : ℕ) (log : List Logged) : Type 0 where
+  pub terms : Terms
+  pub number : terms .number ≡ n
+  pub came : Came (leg terms) log
+
+leg-is : (n : ℕ) (w : Brought) (log : List Logged) (x : Logged) → brought x ≡ w → isLeg n w ≡ true → LegCame n (x ∷ log)
+leg-is n (complex t k) log x e h = absurd (let z : _≡_ {A = ℕ} 0 1 = cc in omega arith)
+leg-is n (leg t) log x e h = record { terms = t; number = eqb-true (t .number) n h; came = List·Memᴰ·head (sym e) }
+leg-is n nothing log x e h = absurd (let z : _≡_ {A = ℕ} 0 1 = cc in omega arith)
+
+leg-came : (n : ℕ) (log : List Logged) → isLegNumber log n ≡ true → LegCame n log
+unfolding isLegNumber
+leg-came n [] = λ h. absurd (clash h refl)
+leg-came n (x ∷ xs) =
+    pick-by (λ (t : Bool). t ≡ true → LegCame n (x ∷ xs)) (isLeg n (brought x))
+    (λ t h. leg-is n (brought x) xs x refl t)
+    (λ t h. later (leg-came n xs h))
+  where
+    later : LegCame n xs → LegCame n (x ∷ xs)
+    later c = record { terms = c .terms; number = c .number; came = List·Memᴰ·tail (c .came) }
+
+-- what kind of a record a line is
+whole-line : (k : Kind) → kindNumber k ≡ 1 → k ≡ WholeFill
+unfolding kindNumber
+whole-line WholeFill h = refl
+whole-line LegFill h = absurd (omega arith)
+whole-line LegOrderFill h = absurd (omega arith)
+whole-line Cancelled h = absurd (omega arith)
+whole-line LegOrderCancelled h = absurd (omega arith)
+whole-line AuctionBegun h = absurd (omega arith)
+whole-line AuctionEnded h = absurd (omega arith)
+
+-- a record 2 of a number with no record of a complex order or sweep
+traded-line : (k : Kind) (m : ℕ) → kindNumber k ≡ 2 → onComplex k (when m m 1) ≡ 0 → k ≡ LegOrderFill
+unfolding kindNumber
+traded-line WholeFill m h z = absurd (omega arith)
+traded-line LegFill m h z = absurd (omega (arith, when-yes m m 1 refl))
+traded-line LegOrderFill m h z = refl
+traded-line Cancelled m h z = absurd (omega arith)
+traded-line LegOrderCancelled m h z = absurd (omega arith)
+traded-line AuctionBegun m h z = absurd (omega arith)
+traded-line AuctionEnded m h z = absurd (omega arith)
+
+-- a price within a limit
+within-buy : (side limit level : ℕ) → side ≡ 0 → meets side limit level ≡ true → cents level ≤ℤ cents limit
+unfolding meets
+within-buy side limit level e h = cents-le level limit (leb-true level limit (sym (pick-true _ _ _ (eq-eqb side 0 e)) ∙ h))
+
+within-sell : (side limit level : ℕ) → side ≡ 1 → meets side limit level ≡ true → cents limit ≤ℤ cents level
+unfolding meets
+within-sell side limit level e h = cents-le limit level (leb-true limit level (sym (pick-false _ _ _ (ne-eqb side 0 (λ z. omega arith))) ∙ h))
+
+module _ (timer : ℕ) (low : 1 ≤ timer) (high : timer ≤ 5000) (xs : List Sent) (day : OneDay (run (fresh timer) xs)) where
+  abbrev log : List Logged
+  log = run (fresh timer) xs
+
+  abbrev end : State
+  end = after (fresh timer) xs
+
+  abbrev rs : List Record
+  rs = recordsOf (fresh timer) xs
+
+  v : Valid (fresh timer)
+  v = valid-fresh timer low high
+
+  lines : linesOf log ≡ map lineOf rs
+  lines = lines-records (fresh timer) xs
+
+  -- the laws of a complex order or sweep that came
+  module _ (w : Terms) (k : ℕ) (m : Came (complex w k) log) where
+    c : CameEntry timer xs w k
+    c = came-entry timer xs v day w k m
+
+    entry-law : {l : Law} → About (w .number) l → FitsRow l (c .entered .before) (entryRow (c .entry)) →
+        added l (entryRow (c .entry)) + tally (come l) rs ≡ tally (gone l) rs + size l end
+    entry-law a f = c .entered .law a (c .number) (omega (arith, c .number, c .entered .numbered .0)) f
+
+    no-orders : tally (come (noOrders (w .number))) rs ≡ 0
+    no-orders = omega (arith, entry-law (a-noOrders) tt, tally-none rs)
+
+    units-of : w .quantity ≡ wholeFilled (w .number) (linesOf log) + cancelled (w .number) (linesOf log) + liveQuantity end (w .number)
+    unfolding liveQuantity
+    units-of =
+        rw lines
+        (omega (arith, entry-law a-units tt, when-yes (c .entry .number) (w .number) (c .entry .units) (c .number), c .units, entry-law a-contracts tt, tally-none rs, units-lines (w .number) rs no-orders))
+
+    strategy-of : Defined k log
+    strategy-of =
+        let i : Entered timer xs (entryRow (c .entry)) = c .entered in
+        subst (λ (ys : List Sent). Defined k (run (fresh timer) ys)) (sym (i .is))
+        (strategy-given timer (i .prefix) (i .suffix) k v (i .day .0)
+        (let d : i .before .defined ≡ after (fresh timer) (i .prefix) .defined = ap (λ (b : State). b .defined) (i .at) in omega (arith, c .strategy, i .numbered .1)))
+
+    settled : (e : GivenStrategy) → Answered e k log → (s : ℕ) → ratioFor (strategyAt (c .entered .before) (c .entry .strategy)) s ≡ ratioIn e s
+    settled e a s =
+        let i : Entered timer xs (entryRow (c .entry)) = c .entered in
+        ap (λ (j : ℕ). ratioFor (strategyAt (i .before) j) s) (c .strategy)
+        ∙ ap (λ (b : State). ratioFor (strategyAt b k) s) (i .at)
+        ∙ settled-ratio (fresh timer) (i .prefix) (i .suffix) e k s v (lean-fresh timer) (i .day .0) (i .day .1)
+        (subst (λ (ys : List Sent). Answered e k (run (fresh timer) ys)) (i .is) a)
+        (let d : i .before .defined ≡ after (fresh timer) (i .prefix) .defined = ap (λ (b : State). b .defined) (i .at) in omega (arith, c .strategy, i .numbered .1))
+
+    ratio-of : (e : GivenStrategy) → Answered e k log → (s : ℕ) → contractsOn (w .number) s (linesOf log) ≡ ratioIn e s * wholeFilled (w .number) (linesOf log)
+    ratio-of e a s =
+        rw lines
+        (legs-lines (w .number) s (ratioIn e s) rs no-orders
+        ∙ (let q : tally (come (ofRatio (w .number) s (ratioIn e s))) rs ≡ tally (gone (ofRatio (w .number) s (ratioIn e s))) rs =
+        omega (arith, entry-law (a-ratio s (ratioIn e s)) (λ z. settled e a s)) in q)
+        ∙ ratio-lines (w .number) s (ratioIn e s) rs)
+
+    limits : tally (come (ofLimit (w .number) (c .entry .side) (c .entry .level))) rs ≡ 0
+    limits = omega (arith, entry-law (a-limit (c .entry .side) (c .entry .level)) (λ z. (refl, refl)), tally-none rs)
+
+    whole-met : (r : Record) → List·Memᴰ r rs → kindNumber (r .kind) ≡ 1 → r .number ≡ w .number → meets (c .entry .side) (c .entry .level) (r .level) ≡ true
+    whole-met r there kind number =
+        let z : onWhole (r .kind) (when (r .number) (w .number) (pick (meets (c .entry .side) (c .entry .level) (r .level)) 0 1)) ≡ 0 =
+        tally-mem (come (ofLimit (w .number) (c .entry .side) (c .entry .level))) r rs there limits in
+        let y : when (r .number) (w .number) (pick (meets (c .entry .side) (c .entry .level) (r .level)) 0 1) ≡ 0 = rw (whole-line (r .kind) kind) at z in
+        met _ (sym (when-yes (r .number) (w .number) _ number) ∙ y)
+
+    limit-of : (l : Line) → List·Memᴰ l (linesOf log) → l .kind ≡ 1 → l .number ≡ w .number → NotWorse w l
+    unfolding lineOf
+    limit-of l there kind number =
+        let x : Written l rs = written l rs (rw lines at there) in
+        let r : Record = x .of in
+        let ok : meets (c .entry .side) (c .entry .level) (r .level) ≡ true =
+        whole-met r (x .there) (sym (ap (λ (y : Line). y .kind) (x .is)) ∙ kind) (sym (ap (λ (y : Line). y .number) (x .is)) ∙ number) in
+        record {
+          buy = λ side. rw (ap (λ (y : Line). y .price) (x .is), ← (c .limit)) (within-buy (c .entry .side) (c .entry .level) (r .level) (c .side ∙ side) ok);
+          sell = λ side. rw (ap (λ (y : Line). y .price) (x .is), ← (c .limit)) (within-sell (c .entry .side) (c .entry .level) (r .level) (c .side ∙ side) ok);
+        }
+
+  -- the laws of a leg order that came
+  module _ (w : Terms) (m : Came (leg w) log) where
+    o : CameOrder timer xs w
+    o = came-order timer xs v day w m
+
+    order-law : {l : Law} → About (w .number) l → FitsRow l (o .entered .before) (legRow (o .order)) →
+        added l (legRow (o .order)) + tally (come l) rs ≡ tally (gone l) rs + size l end
+    order-law a f = o .entered .law a (o .number) (omega (arith, o .number, o .entered .numbered)) f
+
+    no-entries : tally (come (noEntries (w .number))) rs ≡ 0
+    no-entries = omega (arith, order-law (a-noEntries) tt, tally-none rs)
+
+    contracts-of : w .quantity ≡ legFilled (w .number) (linesOf log) + cancelled (w .number) (linesOf log) + liveQuantity end (w .number)
+    unfolding liveQuantity
+    contracts-of =
+        rw lines
+        (omega (arith, order-law a-contracts tt, when-yes (o .order .number) (w .number) (o .order .contracts) (o .number), o .contracts, order-law a-units tt, tally-none rs, contracts-lines (w .number) rs no-entries))
+
+    prices : tally (come (ofPrice (w .number) (o .order .side) (o .order .price))) rs ≡ 0
+    prices = omega (arith, order-law (a-price (o .order .side) (o .order .price)) (λ z. (refl, refl)), tally-none rs)
+
+    traded-met : (r : Record) → List·Memᴰ r rs → kindNumber (r .kind) ≡ 2 → r .number ≡ w .number → meets (o .order .side) (10_000_000 + o .order .price) (r .level) ≡ true
+    traded-met r there kind number =
+        let z : onTraded (r .kind) (when (r .number) (w .number) (pick (meets (o .order .side) (10_000_000 + o .order .price) (r .level)) 0 1)) ≡ 0 =
+        tally-mem (come (ofPrice (w .number) (o .order .side) (o .order .price))) r rs there prices in
+        let n : onComplex (r .kind) (when (r .number) (w .number) 1) ≡ 0 = tally-mem (come (noEntries (w .number))) r rs there no-entries in
+        let y : when (r .number) (w .number) (pick (meets (o .order .side) (10_000_000 + o .order .price) (r .level)) 0 1) ≡ 0 =
+        rw (traded-line (r .kind) (r .number) kind (subst (λ (i : ℕ). onComplex (r .kind) (when (r .number) i 1) ≡ 0) (sym number) n)) at z in
+        met _ (sym (when-yes (r .number) (w .number) _ number) ∙ y)
+
+    price-of : (l : Line) → List·Memᴰ l (linesOf log) → l .kind ≡ 2 → l .number ≡ w .number → NotWorse w l
+    unfolding lineOf
+    price-of l there kind number =
+        let x : Written l rs = written l rs (rw lines at there) in
+        let r : Record = x .of in
+        let ok : meets (o .order .side) (10_000_000 + o .order .price) (r .level) ≡ true =
+        traded-met r (x .there) (sym (ap (λ (y : Line). y .kind) (x .is)) ∙ kind) (sym (ap (λ (y : Line). y .number) (x .is)) ∙ number) in
+        let p : cents (10_000_000 + o .order .price) ≡ w .limit = cents-price (o .order .price) ∙ o .limit in
+        record {
+          buy = λ side. rw (ap (λ (y : Line). y .price) (x .is), ← p) (within-buy (o .order .side) (10_000_000 + o .order .price) (r .level) (o .side ∙ side) ok);
+          sell = λ side. rw (ap (λ (y : Line). y .price) (x .is), ← p) (within-sell (o .order .side) (10_000_000 + o .order .price) (r .level) (o .side ∙ side) ok);
+        }
+
+  -- no other number
+  other-law : (n : ℕ) → Unknown n log → {l : Law} → About n l → tally (come l) rs ≡ tally (gone l) rs + size l end
+  other-law n u {l} a = law-quiet l timer xs v (quiet a (fresh timer) xs (apart-unknown n (fresh timer) xs u))
+
+  others-of : (n : ℕ) → Unknown n log → (total (mentions n) (linesOf log) ≡ 0) × (liveQuantity end n ≡ 0)
+  unfolding liveQuantity
+  others-of n u = (
+    rw lines (omega (arith, mentions-lines n rs, other-law n u a-noEntries, other-law n u a-noOrders, tally-none rs)),
+    omega (arith, other-law n u a-units, other-law n u a-contracts, tally-none rs),
+  )
+
+  -- bought is sold
+  series-of : (s : ℕ) → bought s (linesOf log) ≡ sold s (linesOf log)
+  series-of s =
+      rw lines
+      (omega (arith, bought-lines s rs, sold-lines s rs, law-quiet (ofSeries s) timer xs v (quiet-plain (ofSeries s) (plain-series s) (fresh timer) xs)))
+
+  -- which records are fills
+  part-number : (n : ℕ) (t : Bool) → isLegNumber log n ≡ t → (r : Record) → List·Memᴰ r rs → r .kind ≡ LegFill → r .number ≡ n → t ≡ false
+  part-number n false e r there kind number = refl
+  part-number n true e r there kind number =
+      let l : LegCame n log = leg-came n log e in
+      let z : onComplex (r .kind) (when (r .number) (l .terms .number) 1) ≡ 0 = tally-mem (come (noEntries (l .terms .number))) r rs there (no-entries (l .terms) (l .came)) in
+      let y : when (r .number) (l .terms .number) 1 ≡ 0 = rw kind at z in
+      absurd (omega (arith, when-yes (r .number) (l .terms .number) 1 (number ∙ sym (l .number))))
+
+  traded-number : (n : ℕ) (t : Bool) → isLegNumber log n ≡ t → (r : Record) → List·Memᴰ r rs → r .kind ≡ LegOrderFill → r .number ≡ n → t ≡ true
+  traded-number n true e r there kind number = refl
+  traded-number n false e r there kind number =
+      let none : tally (come (noOrders n)) rs ≡ 0 = omega (arith, law-quiet (noOrders n) timer xs v (quiet-legs n (fresh timer) xs e), tally-none rs) in
+      let z : onLegOrder (r .kind) (when (r .number) n 1) ≡ 0 = tally-mem (come (noOrders n)) r rs there none in
+      let y : when (r .number) n 1 ≡ 0 = rw kind at z in
+      absurd (omega (arith, when-yes (r .number) n 1 number))
+
+  fill-by : (r : Record) → List·Memᴰ r rs → (k : Kind) → r .kind ≡ k → pick (eqb (kindNumber k) 1) true (pick (eqb (kindNumber k) 2) (isLegNumber log (r .number)) false) ≡ fillKind k
+  unfolding kindNumber pick
+  fill-by r there WholeFill e = refl
+  fill-by r there LegFill e = part-number (r .number) (isLegNumber log (r .number)) refl r there e refl
+  fill-by r there LegOrderFill e = traded-number (r .number) (isLegNumber log (r .number)) refl r there e refl
+  fill-by r there Cancelled e = refl
+  fill-by r there LegOrderCancelled e = refl
+  fill-by r there AuctionBegun e = refl
+  fill-by r there AuctionEnded e = refl
+
+  fills : (r : Record) → List·Memᴰ r rs → isFill log (lineOf r) ≡ fillKind (r .kind)
+  unfolding isFill lineOf
+  fills r there = fill-by r there (r .kind) refl
+
+  paid-of : cash log 0 (linesOf log) ≡ cash log 1 (linesOf log)
+  paid-of =
+      rw lines (paid-lines log rs fills (let e : tally (come ofCash) rs ≡ tally (gone ofCash) rs = omega (arith, law-quiet ofCash timer xs v (quiet-plain ofCash plain-cash (fresh timer) xs)) in e))
+
+  claims : Totals log end
+  claims = record {
+    units = units-of;
+    contracts = contracts-of;
+    others = others-of;
+    strategy = strategy-of;
+    ratio = ratio-of;
+    series = series-of;
+    limit = limit-of;
+    price = price-of;
+    paid = paid-of;
+  }
+
+-- THE TOTALS AFTER A LIST: for every list of events sent to a fresh book, of any bytes and with record spaces of any length, with nothing
+-- after an accepted day end.
+pub totals :
+    (timer : ℕ) →
+    1 ≤ timer →
+    timer ≤ 5000 →
+    (xs : List Sent) →
+    OneDay (run (fresh timer) xs) →
+    Totals (run (fresh timer) xs) (after (fresh timer) xs)
+totals timer low high xs day = claims timer low high xs day
