@@ -1,0 +1,81 @@
+use Rattle.auctions.specs.Auctions.{Passed, numbered, passed-first, passed-next, passed-here, passed-all}
+use Rattle.rules.specs.Auctions.{starterSlot}
+use Rattle.base.specs.Pick.{told}
+use Prim.Native.Nat.{_≤_, _-_}
+use borrow.Author.Needs.{needs}
+use native.Mathlib.Omega.{arith}
+use Rattle.auctions.proofs.starter_slot.Statement.{statement}
+use Rattle.auctions.proofs.starter_slot.Tie as tie
+use Rattle.auctions.proofs.starter_slot.Reads as reads
+use Rattle.auctions.proofs.starter_slot.Lts as lts
+use Rattle.auctions.proofs.is_number.Reads as is-number-reads
+
+abbrev Inv-loop : tie.InvT-loop
+Inv-loop k n es i₀ i = (i ≤ 32) × Passed (numbered es k n) i
+
+abbrev μ-loop : tie.MeasureT-loop
+μ-loop k n es i₀ i = 32 - i
+
+-- src/lib.rt:51:13
+mul-s : tie.Need-mul-s Inv-loop μ-loop
+mul-s c = omega arith
+
+-- src/lib.rt:51:13
+element-copy-out-s : tie.Need-element-copy-out-s Inv-loop μ-loop
+element-copy-out-s c = omega arith
+
+-- src/lib.rt:55:5
+loop-holds : tie.Need-loop-holds Inv-loop μ-loop
+loop-holds c = (omega arith, passed-first _)
+
+-- src/lib.rt:56:28
+mul-is-number : tie.Need-mul-is-number Inv-loop μ-loop
+mul-is-number c = omega arith
+
+-- src/lib.rt:56:28
+array-copy-out-is-number : tie.Need-array-copy-out-is-number Inv-loop μ-loop
+array-copy-out-is-number c = omega arith
+
+-- src/lib.rt:56:12
+is-number-requires : tie.Need-is-number-requires Inv-loop μ-loop
+is-number-requires c κs = search needs
+
+-- src/lib.rt:57:13
+returns : tie.Need-returns Inv-loop μ-loop
+unfolding starterSlot
+returns c = passed-here _ _ 32 (c .before .before .before .before .loop .inv .1) (c .before .before .before .loop-test .taken) (told (c .before .is-number .ensures) (c .if1 .taken))
+
+-- src/lib.rt:59:9
+add-i : tie.Need-add-i Inv-loop μ-loop
+add-i c = omega arith
+
+-- src/lib.rt:55:5
+loop-less : tie.Need-loop-less Inv-loop μ-loop
+loop-less c = omega arith
+
+-- src/lib.rt:55:5
+loop-again : tie.Need-loop-again Inv-loop μ-loop
+loop-again c = (omega arith, passed-next _ _ (c .before .before .before .before .loop .inv .1) (told (c .before .is-number .ensures) (c .if1 .left)))
+
+-- src/lib.rt:47:1
+returns-2 : tie.Need-returns-2 Inv-loop μ-loop
+unfolding starterSlot
+returns-2 c = passed-all _ (c .before .loop .i) 32 (c .before .loop .inv .1) (omega arith)
+
+pub starter-slot-spec : {M : Type 1} → statement M
+starter-slot-spec =
+    tie.close
+    (tie.spec
+    Inv-loop
+    μ-loop
+    mul-s
+    element-copy-out-s
+    loop-holds
+    mul-is-number
+    array-copy-out-is-number
+    is-number-requires
+    returns
+    add-i
+    loop-less
+    loop-again
+    returns-2)

@@ -1,0 +1,213 @@
+// Auctions: their start, their answer, what lapses at their end, and their end without fills.
+ghost use mathlib.Core.Path.{_≡_};
+ghost use mathlib.Core.Bool.{false};
+ghost use Prim.Native.Nat.{_+_, _*_, _-_, _<_, _≤_};
+ghost use lib.Dec.{eqb};
+ghost use lib.ListN.{length, getD, set};
+ghost use Rattle.base.specs.Pick.{pick};
+ghost use Rattle.rules.specs.State.{entryAt, strategyAt};
+ghost use Rattle.rules.specs.Moves.{each};
+ghost use Rattle.rules.specs.Auctions.{liveIn, putAuction, begin, close, starterSlot, answer, lapses, cancelLapsed, endUnfilled};
+ghost use Rattle.records.specs.Space.{Wrote, Room};
+ghost use Rattle.records.specs.Done.{Done};
+ghost use Rattle.ranges.specs.Fit.{Fit};
+ghost use Rattle.auctions.specs.Auctions.{begunRecord, endedRecord};
+ghost use Rattle.auctions.specs.Ranged.{Ranged};
+use fills::cancel_entry;
+use records::After;
+use records::push;
+use rules::Entry;
+use rules::Kind;
+use rules::Record;
+use rules::State;
+use sides::other;
+
+// Whether an entry is live and of strategy k.
+pub fn live_in(k: usize, e: Entry) -> bool
+    ensures { λ r. ⌜ r ≡ liveIn k e ⌝ }
+{
+    if e.units == 0 {
+        return false;
+    }
+    let s = e.strategy as usize;
+    s == k
+}
+
+// Whether an entry is live, of strategy k and of number n.
+fn is_number(k: usize, n: u32, e: Entry) -> bool
+    ensures { λ r. ⌜ r ≡ pick (liveIn k e) (eqb (e .number) n) false ⌝ }
+{
+    if live_in(k, e) {
+        return e.number == n;
+    }
+    false
+}
+
+// The slot of the order that started the auction of strategy k, 32 where it is gone.
+pub fn starter_slot(b: State, k: usize) -> usize
+    requires { ⌜ k < 16 ⌝ }
+    ensures { λ r. ⌜ r ≡ starterSlot b k ⌝ }
+{
+    let s = b.strategies[k];
+    let n = s.starter;
+    let es = b.entries;
+    let mut i: usize = 0;
+    while i < 32 {
+        if is_number(k, n, es[i]) {
+            return i;
+        }
+        i += 1;
+    }
+    32
+}
+
+// The auction of strategy k, changed: its starter, the clock at its start, whether it was answered.
+fn put_auction(b: State, k: usize, n: u32, t: u32, a: bool) -> State
+    requires { ⌜ k < 16 ⌝ }
+    ensures { λ c. ⌜ c ≡ putAuction b k n t a ⌝ }
+{
+    let mut s = b.strategies[k];
+    s.starter = n;
+    s.begun = t;
+    s.answered = a;
+    let mut c = b;
+    c.strategies[k] = s;
+    c
+}
+
+fn begun_record(e: Entry) -> Record
+    ensures { λ r. ⌜ r ≡ begunRecord e ⌝ }
+{
+    Record {
+        kind: Kind::AuctionBegun,
+        number: e.number,
+        place: e.strategy,
+        side: e.side,
+        quantity: e.units,
+        level: e.level,
+    }
+}
+
+// Entry i starts the auction of its strategy.
+pub fn begin(b: State, i: usize, space: &mut [i32], n: usize) -> After
+    requires { ⌜ (i < 32) × Fit b ⌝ }
+    requires { ⌜ Room (now space) n (begin i b .records) ⌝ }
+    ensures { λ t. ⌜ Done (now (space .entry)) (now (space .exit)) n (t .count) (t .state) (begin i b) ⌝ }
+{
+    let e = b.entries[i];
+    let r = begun_record(e);
+    let m = push(space, n, r);
+    let k = e.strategy as usize;
+    let c = put_auction(b, k, e.number, b.clock, false);
+    After { state: c, count: m }
+}
+
+fn ended_record(n: u32, k: u8) -> Record
+    ensures { λ r. ⌜ r ≡ endedRecord n k ⌝ }
+{
+    Record {
+        kind: Kind::AuctionEnded,
+        number: n,
+        place: k,
+        side: 0,
+        quantity: 0,
+        level: 10000000,
+    }
+}
+
+// The auction of strategy k is over.
+fn close(b: State, k: usize, space: &mut [i32], n: usize) -> After
+    requires { ⌜ (k < 16) × (strategyAt b k .starter ≤ 100000) ⌝ }
+    requires { ⌜ Room (now space) n (close k b .records) ⌝ }
+    ensures { λ t. ⌜ Done (now (space .entry)) (now (space .exit)) n (t .count) (t .state) (close k b) ⌝ }
+{
+    let s = b.strategies[k];
+    let r = ended_record(s.starter, k as u8);
+    let m = push(space, n, r);
+    let c = put_auction(b, k, 0, 0, false);
+    After { state: c, count: m }
+}
+
+// The side of the entry at a slot, 0 past the last.
+fn side_at(b: State, i: usize) -> u8
+    requires { ⌜ Fit b ⌝ }
+    ensures { λ r. ⌜ r ≡ entryAt b i .side ⌝ }
+{
+    if i < 32 {
+        let e = b.entries[i];
+        return e.side;
+    }
+    0
+}
+
+// An opposite sweep or waiting order of that side was accepted during the auction of strategy k.
+pub fn answer(b: State, k: usize, side: u8) -> State
+    requires { ⌜ (k < 16) × Fit b ⌝ }
+    ensures { λ c. ⌜ c ≡ answer k side b ⌝ }
+{
+    let i = starter_slot(b, k);
+    let x = side_at(b, i);
+    let y = other(side);
+    if x == y {
+        let s = b.strategies[k];
+        return put_auction(b, k, s.starter, s.begun, true);
+    }
+    b
+}
+
+// Whether an entry is cancelled at the end of the auction of strategy k: a response, an immediate or a sweep.
+fn lapses(k: usize, e: Entry) -> bool
+    ensures { λ r. ⌜ r ≡ lapses k e ⌝ }
+{
+    if live_in(k, e) {
+        if e.life == 1 {
+            return true;
+        }
+        if e.life == 2 {
+            return true;
+        }
+        return e.life == 4;
+    }
+    false
+}
+
+fn cancel_lapsed(b: State, k: usize, i: usize, space: &mut [i32], n: usize) -> After
+    requires { ⌜ (i < 32) × Fit b ⌝ }
+    requires { ⌜ Room (now space) n (cancelLapsed k i b .records) ⌝ }
+    ensures { λ t. ⌜ Done (now (space .entry)) (now (space .exit)) n (t .count) (t .state) (cancelLapsed k i b) ⌝ }
+{
+    let e = b.entries[i];
+    if lapses(k, e) {
+        return cancel_entry(b, i, space, n);
+    }
+    After { state: b, count: n }
+}
+
+// By number.
+fn cancel_lapses(b: State, k: usize, space: &mut [i32], n: usize) -> After
+    requires { ⌜ Fit b ⌝ }
+    requires { ⌜ Room (now space) n (each (cancelLapsed k) 32 b .records) ⌝ }
+    ensures { λ t. ⌜ Done (now (space .entry)) (now (space .exit)) n (t .count) (t .state) (each (cancelLapsed k) 32 b) ⌝ }
+{
+    let mut c = b;
+    let mut m = n;
+    let mut i: usize = 0;
+    while i < 32 {
+        let t = cancel_lapsed(c, k, i, space, m);
+        c = t.state;
+        m = t.count;
+        i += 1;
+    }
+    After { state: c, count: m }
+}
+
+// The auction of strategy k ends without fills: the cancels, then its record.
+pub fn end_unfilled(b: State, k: usize, space: &mut [i32], n: usize) -> After
+    requires { ⌜ (k < 16) × Ranged b ⌝ }
+    requires { ⌜ Room (now space) n (endUnfilled k b .records) ⌝ }
+    ensures { λ t. ⌜ Done (now (space .entry)) (now (space .exit)) n (t .count) (t .state) (endUnfilled k b) ⌝ }
+{
+    let x = cancel_lapses(b, k, space, n);
+    let c = x.state;
+    close(c, k, space, x.count)
+}

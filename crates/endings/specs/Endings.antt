@@ -1,0 +1,80 @@
+-- The rules of the end of an auction by what the code tests, and the ranges that they keep.
+use mathlib.Core.Path.{_≡_, refl, sym, _∙_, ap}
+use mathlib.Core.Bool.{Bool, true, false, not}
+use mathlib.Core.List.{List}
+use Prim.Native.Nat.{ℕ, zero, suc, _+_, _≤_, _<_}
+use native.Mathlib.Omega.{arith}
+use lib.Dec.{eqb}
+use lib.IntN.{ℤ}
+use lib.ListN.{length, List·getD-eq-default}
+use Rattle.base.specs.Pick.{pick, tests}
+use Rattle.rules.specs.declared.Entry.{Entry}
+use Rattle.rules.specs.declared.State.{State}
+use Rattle.rules.specs.declared.Allocation.{Allocation}
+use Rattle.rules.specs.declared.Allocation.the-variants.{Shared, Numbered}
+use Rattle.rules.specs.State.{noEntry, entryAt, strategyAt}
+use Rattle.rules.specs.Moves.{Moved, still, each}
+use Rattle.rules.specs.Strategies.{holds}
+use Rattle.rules.specs.Passes.{pass, turn}
+use Rattle.rules.specs.Auctions.{running, starterSlot, starterPass, later, laterPass, endUnfilled, endAuction, due, endDue, endHolding}
+use Rattle.rules.proofs.Control.{each-kept, starterPass-kept, laterPass-kept, shrinks-kept}
+use Rattle.records.specs.Done.{Done}
+use Rattle.ranges.specs.Fit.{Fit, fit-done}
+use Rattle.auctions.specs.Ranged.{Ranged, ranged-kept, ranged-done}
+
+-- a pass of no entry
+pub pass-past : (way : Allocation) (legs : Bool) (a : ℕ) (b : State) → length (b .entries) ≡ 32 → 32 ≤ a → pass way legs a b ≡ still b
+unfolding pass each
+pass-past way legs a b n h =
+    let e : entryAt b a ≡ noEntry = List·getD-eq-default (b .entries) noEntry {n = a} (omega arith) in
+    ap (λ (x : Entry). each (turn way legs a) (x .units) b) e
+
+module _ (k : ℕ) (b : State) {a : ℕ} (p : a ≡ starterSlot b k) where
+  pub starter-gone : length (b .entries) ≡ 32 → 32 ≤ a → starterPass k b ≡ still b
+  unfolding starterPass
+  starter-gone n h = rw (← p) (pass-past Shared _ a b n h)
+
+  pub starter-here : {legs : Bool} → legs ≡ not (strategyAt b k .answered) → starterPass k b ≡ pass Shared legs a b
+  unfolding starterPass
+  starter-here l = rw (p, l)
+
+module _ (k n i : ℕ) (b : State) where
+  pub later-not : later k n (entryAt b i) ≡ false → laterPass k n i b ≡ still b
+  unfolding laterPass
+  later-not e = search tests
+
+  pub later-yes : {legs : Bool} → later k n (entryAt b i) ≡ true → legs ≡ not (eqb (entryAt b i .life) 4) → laterPass k n i b ≡ pass Numbered legs i b
+  unfolding laterPass
+  later-yes e l = rw l (search tests)
+
+module _ (k : ℕ) (b : State) where
+  pub due-not : due b k ≡ false → endDue k b ≡ still b
+  unfolding endDue
+  due-not e = search tests
+
+  pub due-yes : due b k ≡ true → endDue k b ≡ endAuction k b
+  unfolding endDue
+  due-yes e = search tests
+
+module _ (s k : ℕ) (b : State) where
+  pub holding-idle : running b k ≡ false → endHolding s k b ≡ still b
+  unfolding endHolding
+  holding-idle r = search tests
+
+  pub holding-not : running b k ≡ true → holds b s k ≡ false → endHolding s k b ≡ still b
+  unfolding endHolding
+  holding-not r h = search tests
+
+  pub holding-ends : running b k ≡ true → holds b s k ≡ true → endHolding s k b ≡ endUnfilled k b
+  unfolding endHolding
+  holding-ends r h = search tests
+
+-- the ranges after the passes
+pub fit-later : (k n i : ℕ) (b : State) {c : State} {sp sq : List ℤ} {p q : ℕ} → Fit b → Done sp sq p q c (each (laterPass k n) i b) → Fit c
+fit-later k n i b f d = fit-done d (each-kept shrinks-kept (laterPass k n) (laterPass-kept shrinks-kept k n) i b (f .orderRows)) f
+
+pub ranged-starter : (k : ℕ) (b : State) {c : State} {sp sq : List ℤ} {p q : ℕ} → Ranged b → Done sp sq p q c (starterPass k b) → Ranged c
+ranged-starter k b r d = ranged-done d (starterPass-kept ranged-kept k b) r
+
+pub ranged-later : (k n i : ℕ) (b : State) {c : State} {sp sq : List ℤ} {p q : ℕ} → Ranged b → Done sp sq p q c (each (laterPass k n) i b) → Ranged c
+ranged-later k n i b r d = ranged-done d (each-kept ranged-kept (laterPass k n) (laterPass-kept ranged-kept k n) i b) r

@@ -1,0 +1,161 @@
+// The end of an auction: the starter's pass, the others' by number, the cancels and its record.
+ghost use mathlib.Core.Path.{_≡_};
+ghost use mathlib.Core.Bool.{not};
+ghost use Prim.Native.Nat.{_+_, _*_, _-_, _/_, _%_, _^_, _<_, _≤_};
+ghost use lib.ListN.{length, getD};
+ghost use Rattle.rules.specs.Moves.{each};
+ghost use Rattle.rules.specs.Strategies.{holds};
+ghost use Rattle.rules.specs.Auctions.{running, starterPass, later, laterPass, endAuction, due, endDue, endHolding};
+ghost use Rattle.records.specs.Space.{Wrote, Room};
+ghost use Rattle.records.specs.Done.{Done};
+ghost use Rattle.ranges.specs.Fit.{Fit};
+ghost use Rattle.auctions.specs.Ranged.{Ranged};
+use auctions::end_unfilled;
+use auctions::live_in;
+use auctions::starter_slot;
+use passes::pass;
+use records::After;
+use rules::Allocation;
+use rules::Entry;
+use rules::State;
+
+fn no(x: bool) -> bool
+    ensures { λ r. ⌜ r ≡ not x ⌝ }
+{
+    if x {
+        return false;
+    }
+    true
+}
+
+// Whether an auction runs in strategy k.
+pub fn running(b: State, k: usize) -> bool
+    requires { ⌜ k < 16 ⌝ }
+    ensures { λ r. ⌜ r ≡ running b k ⌝ }
+{
+    let s = b.strategies[k];
+    if s.starter == 0 {
+        return false;
+    }
+    true
+}
+
+// Whether strategy k holds a series.
+pub fn holds(b: State, s: u8, k: usize) -> bool
+    requires { ⌜ (s < 32) × (k < 16) ⌝ }
+    ensures { λ r. ⌜ r ≡ holds b s k ⌝ }
+{
+    let t = b.strategies[k];
+    let x = (t.series >> s as u32) % 2;
+    x == 1
+}
+
+// The starter's shared pass, legs barred if an opposite sweep or waiting order was accepted meanwhile.
+fn starter_pass(b: State, k: usize, space: &mut [i32], n: usize) -> After
+    requires { ⌜ (k < 16) × Fit b ⌝ }
+    requires { ⌜ Room (now space) n (starterPass k b .records) ⌝ }
+    ensures { λ t. ⌜ Done (now (space .entry)) (now (space .exit)) n (t .count) (t .state) (starterPass k b) ⌝ }
+{
+    let a = starter_slot(b, k);
+    if a < 32 {
+        let s = b.strategies[k];
+        let legs = no(s.answered);
+        return pass(Allocation::Shared, legs, b, a, space, n);
+    }
+    After { state: b, count: n }
+}
+
+// Whether an entry of strategy k was accepted after number n.
+fn later(k: usize, n: u32, e: Entry) -> bool
+    ensures { λ r. ⌜ r ≡ later k n e ⌝ }
+{
+    if live_in(k, e) {
+        return n < e.number;
+    }
+    false
+}
+
+// A numbered pass of an entry accepted meanwhile; sweeps never use legs.
+fn later_pass(b: State, k: usize, n: u32, i: usize, space: &mut [i32], m: usize) -> After
+    requires { ⌜ (i < 32) × Fit b ⌝ }
+    requires { ⌜ Room (now space) m (laterPass k n i b .records) ⌝ }
+    ensures { λ t. ⌜ Done (now (space .entry)) (now (space .exit)) m (t .count) (t .state) (laterPass k n i b) ⌝ }
+{
+    let e = b.entries[i];
+    if later(k, n, e) {
+        let legs = no(e.life == 4);
+        return pass(Allocation::Numbered, legs, b, i, space, m);
+    }
+    After { state: b, count: m }
+}
+
+// By number.
+fn later_passes(b: State, k: usize, n: u32, space: &mut [i32], m: usize) -> After
+    requires { ⌜ Fit b ⌝ }
+    requires { ⌜ Room (now space) m (each (laterPass k n) 32 b .records) ⌝ }
+    ensures { λ t. ⌜ Done (now (space .entry)) (now (space .exit)) m (t .count) (t .state) (each (laterPass k n) 32 b) ⌝ }
+{
+    let mut c = b;
+    let mut o = m;
+    let mut i: usize = 0;
+    while i < 32 {
+        let t = later_pass(c, k, n, i, space, o);
+        c = t.state;
+        o = t.count;
+        i += 1;
+    }
+    After { state: c, count: o }
+}
+
+// The auction of strategy k ends.
+pub fn end_auction(b: State, k: usize, space: &mut [i32], n: usize) -> After
+    requires { ⌜ (k < 16) × Ranged b ⌝ }
+    requires { ⌜ Room (now space) n (endAuction k b .records) ⌝ }
+    ensures { λ t. ⌜ Done (now (space .entry)) (now (space .exit)) n (t .count) (t .state) (endAuction k b) ⌝ }
+{
+    let s = b.strategies[k];
+    let x = starter_pass(b, k, space, n);
+    let c = x.state;
+    let y = later_passes(c, k, s.starter, space, x.count);
+    let d = y.state;
+    end_unfilled(d, k, space, y.count)
+}
+
+// Whether an auction of strategy k was begun at least the timer ago.
+fn due(b: State, k: usize) -> bool
+    requires { ⌜ (k < 16) × Ranged b ⌝ }
+    ensures { λ r. ⌜ r ≡ due b k ⌝ }
+{
+    if running(b, k) {
+        let s = b.strategies[k];
+        let t = s.begun + b.timer;
+        return t <= b.clock;
+    }
+    false
+}
+
+pub fn end_due(b: State, k: usize, space: &mut [i32], n: usize) -> After
+    requires { ⌜ (k < 16) × Ranged b ⌝ }
+    requires { ⌜ Room (now space) n (endDue k b .records) ⌝ }
+    ensures { λ t. ⌜ Done (now (space .entry)) (now (space .exit)) n (t .count) (t .state) (endDue k b) ⌝ }
+{
+    if due(b, k) {
+        return end_auction(b, k, space, n);
+    }
+    After { state: b, count: n }
+}
+
+// A shut series ends the auction of a strategy that holds it, without fills.
+pub fn end_holding(b: State, s: u8, k: usize, space: &mut [i32], n: usize) -> After
+    requires { ⌜ (s < 32) × (k < 16) × Ranged b ⌝ }
+    requires { ⌜ Room (now space) n (endHolding s k b .records) ⌝ }
+    ensures { λ t. ⌜ Done (now (space .entry)) (now (space .exit)) n (t .count) (t .state) (endHolding s k b) ⌝ }
+{
+    if running(b, k) {
+        if holds(b, s, k) {
+            return end_unfilled(b, k, space, n);
+        }
+        return After { state: b, count: n };
+    }
+    After { state: b, count: n }
+}

@@ -1,0 +1,232 @@
+// Fills of whole against whole, the ways that the holders of one limit are met, and cancels.
+ghost use mathlib.Core.Path.{_≡_};
+ghost use Prim.Native.Nat.{_+_, _*_, _-_, _<_, _≤_};
+ghost use lib.ListN.{length, getD};
+ghost use Rattle.base.specs.Walks.{joinN};
+ghost use Rattle.rules.specs.Fills.{wholeRecord, legRecord, legRecordAt, partyRecords, cutEntry, cut, wholeFill, cancelRecord, cancelEntry};
+ghost use Rattle.rules.specs.Passes.{give, giveInTurn, giveGroup, giveShared};
+ghost use Rattle.rules.specs.Valid.{FitLeg, FitEntry};
+ghost use Rattle.records.specs.Space.{Wrote, Room};
+ghost use Rattle.records.specs.Done.{Done};
+ghost use Rattle.ranges.specs.Most.{AtMost};
+ghost use Rattle.ranges.specs.Fit.{FitLegs, Fit};
+use quotas::in_turn;
+use quotas::share;
+use quotas::sizes;
+use records::After;
+use records::less;
+use records::push;
+use records::with_entry;
+use rules::Entry;
+use rules::Kind;
+use rules::Leg;
+use rules::Record;
+use rules::State;
+use rules::Strategy;
+use sides::leg_side;
+
+fn whole_record(e: Entry, q: u32, level: u32) -> Record
+    ensures { λ r. ⌜ r ≡ wholeRecord e q level ⌝ }
+{
+    Record {
+        kind: Kind::WholeFill,
+        number: e.number,
+        place: e.strategy,
+        side: e.side,
+        quantity: q,
+        level: level,
+    }
+}
+
+fn leg_record(e: Entry, q: u32, price: u32, l: Leg) -> Record
+    requires { ⌜ (q ≤ 9999) × (price ≤ 99999) × FitLeg l ⌝ }
+    ensures { λ r. ⌜ r ≡ legRecord e q price l ⌝ }
+{
+    let side = leg_side(e.side, l);
+    let ratio = l.ratio as u32;
+    Record {
+        kind: Kind::LegFill,
+        number: e.number,
+        place: l.series,
+        side: side,
+        quantity: ratio * q,
+        level: 10000000 + price,
+    }
+}
+
+// A complex party's leg fills, by leg.
+fn leg_records(
+    space: &mut [i32],
+    n: usize,
+    e: Entry,
+    s: Strategy,
+    q: u32,
+    prices: [u32; 6],
+) -> usize
+    requires { ⌜ FitEntry e × FitLegs s × (q ≤ 9999) × AtMost 99999 prices ⌝ }
+    requires { ⌜ Room (now space) n (joinN (legRecordAt e (s .legs) q prices) (s .count)) ⌝ }
+    ensures { λ m. ⌜ Wrote (now (space .entry)) (now (space .exit)) n m (joinN (legRecordAt e (s .legs) q prices) (s .count)) ⌝ }
+{
+    let legs = s.legs;
+    let count = s.count as usize;
+    let mut m = n;
+    let mut i: usize = 0;
+    while i < count {
+        let r = leg_record(e, q, prices[i], legs[i]);
+        m = push(space, m, r);
+        i += 1;
+    }
+    m
+}
+
+// A complex party's records of a fill: its whole fill, then its leg fills.
+pub fn party_records(
+    space: &mut [i32],
+    n: usize,
+    e: Entry,
+    s: Strategy,
+    q: u32,
+    level: u32,
+    prices: [u32; 6],
+) -> usize
+    requires { ⌜ FitEntry e × FitLegs s × (q ≤ 9999) × (level ≤ 20000000) × AtMost 99999 prices ⌝ }
+    requires { ⌜ Room (now space) n (partyRecords e s q level prices) ⌝ }
+    ensures { λ m. ⌜ Wrote (now (space .entry)) (now (space .exit)) n m (partyRecords e s q level prices) ⌝ }
+{
+    let r = whole_record(e, q, level);
+    let m = push(space, n, r);
+    leg_records(space, m, e, s, q, prices)
+}
+
+fn cut_entry(e: Entry, q: u32) -> Entry
+    ensures { λ f. ⌜ f ≡ cutEntry e q ⌝ }
+{
+    let mut f = e;
+    f.units = less(e.units, q);
+    f
+}
+
+// q units taken from entry i.
+pub fn cut(b: State, i: usize, q: u32) -> State
+    requires { ⌜ i < 32 ⌝ }
+    ensures { λ c. ⌜ c ≡ cut b i q ⌝ }
+{
+    let e = b.entries[i];
+    let f = cut_entry(e, q);
+    with_entry(b, i, f)
+}
+
+// Entries a (active) and h fill q units of each other at a net.
+pub fn whole_fill(
+    b: State,
+    a: usize,
+    h: usize,
+    level: u32,
+    q: u32,
+    space: &mut [i32],
+    n: usize,
+) -> After
+    requires { ⌜ (a < 32) × (h < 32) × Fit b × (level ≤ 20000000) × (q ≤ 9999) ⌝ }
+    requires { ⌜ Room (now space) n (wholeFill b a h level q .records) ⌝ }
+    ensures { λ t. ⌜ Done (now (space .entry)) (now (space .exit)) n (t .count) (t .state) (wholeFill b a h level q) ⌝ }
+{
+    if q == 0 {
+        return After { state: b, count: n };
+    }
+    let e = b.entries[a];
+    let f = b.entries[h];
+    let k = e.strategy as usize;
+    let s = b.strategies[k];
+    let prices: [u32; 6] = [0; 6];
+    let m = party_records(space, n, e, s, q, level, prices);
+    let o = party_records(space, m, f, s, q, level, prices);
+    let c = cut(b, a, q);
+    let d = cut(c, h, q);
+    After { state: d, count: o }
+}
+
+// Entry a meets each slot for its quota.
+fn give(b: State, a: usize, level: u32, qs: [u32; 32], space: &mut [i32], n: usize) -> After
+    requires { ⌜ (a < 32) × Fit b × (level ≤ 20000000) × AtMost 9999 qs ⌝ }
+    requires { ⌜ Room (now space) n (give a level qs b .records) ⌝ }
+    ensures { λ t. ⌜ Done (now (space .entry)) (now (space .exit)) n (t .count) (t .state) (give a level qs b) ⌝ }
+{
+    let mut c = b;
+    let mut m = n;
+    let mut i: usize = 0;
+    while i < 32 {
+        let t = whole_fill(c, a, i, level, qs[i], space, m);
+        c = t.state;
+        m = t.count;
+        i += 1;
+    }
+    After { state: c, count: m }
+}
+
+// The holders of group g (3: all) by number.
+pub fn give_in_turn(b: State, a: usize, level: u32, g: u8, space: &mut [i32], n: usize) -> After
+    requires { ⌜ (a < 32) × Fit b × (level ≤ 20000000) ⌝ }
+    requires { ⌜ Room (now space) n (giveInTurn a level g b .records) ⌝ }
+    ensures { λ t. ⌜ Done (now (space .entry)) (now (space .exit)) n (t .count) (t .state) (giveInTurn a level g b) ⌝ }
+{
+    let e = b.entries[a];
+    let es = b.entries;
+    let xs = sizes(es, e, level, g);
+    let qs = in_turn(e.units, xs);
+    give(b, a, level, qs, space, n)
+}
+
+// The holders of group g, shared where they hold more than what remains.
+fn give_group(b: State, a: usize, level: u32, g: u8, space: &mut [i32], n: usize) -> After
+    requires { ⌜ (a < 32) × Fit b × (level ≤ 20000000) ⌝ }
+    requires { ⌜ Room (now space) n (giveGroup a level g b .records) ⌝ }
+    ensures { λ t. ⌜ Done (now (space .entry)) (now (space .exit)) n (t .count) (t .state) (giveGroup a level g b) ⌝ }
+{
+    let e = b.entries[a];
+    let es = b.entries;
+    let xs = sizes(es, e, level, g);
+    let qs = share(e.units, xs);
+    give(b, a, level, qs, space, n)
+}
+
+// Customers by number; then sweeps and market makers; then broker-dealers.
+pub fn give_shared(b: State, a: usize, level: u32, space: &mut [i32], n: usize) -> After
+    requires { ⌜ (a < 32) × Fit b × (level ≤ 20000000) ⌝ }
+    requires { ⌜ Room (now space) n (giveShared a level b .records) ⌝ }
+    ensures { λ t. ⌜ Done (now (space .entry)) (now (space .exit)) n (t .count) (t .state) (giveShared a level b) ⌝ }
+{
+    let x = give_in_turn(b, a, level, 0, space, n);
+    let c = x.state;
+    let y = give_group(c, a, level, 1, space, x.count);
+    let d = y.state;
+    give_group(d, a, level, 2, space, y.count)
+}
+
+fn cancel_record(e: Entry) -> Record
+    ensures { λ r. ⌜ r ≡ cancelRecord e ⌝ }
+{
+    Record {
+        kind: Kind::Cancelled,
+        number: e.number,
+        place: 0,
+        side: e.side,
+        quantity: e.units,
+        level: 10000000,
+    }
+}
+
+// All that is live of entry i.
+pub fn cancel_entry(b: State, i: usize, space: &mut [i32], n: usize) -> After
+    requires { ⌜ (i < 32) × Fit b ⌝ }
+    requires { ⌜ Room (now space) n (cancelEntry i b .records) ⌝ }
+    ensures { λ t. ⌜ Done (now (space .entry)) (now (space .exit)) n (t .count) (t .state) (cancelEntry i b) ⌝ }
+{
+    let e = b.entries[i];
+    if e.units == 0 {
+        return After { state: b, count: n };
+    }
+    let r = cancel_record(e);
+    let m = push(space, n, r);
+    let c = cut(b, i, e.units);
+    After { state: c, count: m }
+}

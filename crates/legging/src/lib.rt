@@ -1,0 +1,223 @@
+// Fills of whole against legs.
+ghost use mathlib.Core.Path.{_≡_};
+ghost use Prim.Native.Nat.{_+_, _*_, _-_, _<_, _≤_};
+ghost use lib.ListN.{length, getD};
+ghost use Rattle.base.specs.All.{All};
+ghost use Rattle.base.specs.Walks.{joinN};
+ghost use Rattle.rules.specs.Fills.{legQuotas, orderRecord, orderRow, orderRows, orderRecords, cutOrder, cutOrders, takeLegs, legFill};
+ghost use Rattle.rules.specs.Passes.{readyNet};
+ghost use Rattle.rules.specs.Valid.{FitOrder};
+ghost use Rattle.records.specs.Space.{Wrote, Room};
+ghost use Rattle.records.specs.Done.{Done};
+ghost use Rattle.ranges.specs.Most.{AtMost};
+ghost use Rattle.ranges.specs.Fit.{FitLegs, Fit};
+ghost use Rattle.legging.specs.Legging.{OneLeg, AllLegs};
+use fills::cut;
+use fills::party_records;
+use nets::leg_net;
+use nets::lots;
+use nets::net_of;
+use nets::prices;
+use nets::ready;
+use nets::units_of;
+use quotas::in_turn;
+use records::After;
+use records::less;
+use records::push;
+use records::with_orders;
+use rules::Kind;
+use rules::Leg;
+use rules::LegOrder;
+use rules::Record;
+use rules::State;
+use rules::Strategy;
+use sides::leg_side;
+use sides::other;
+
+// The leg orders left, and the next free place for records.
+struct Cuts {
+    rows: [LegOrder; 32],
+    count: usize,
+}
+
+// The quotas of one leg, by number, for c contracts at a price.
+fn leg_quotas(os: [LegOrder; 32], side: u8, c: u32, price: u32, l: Leg) -> [u32; 32]
+    ensures { λ qs. ⌜ qs ≡ legQuotas os side c price l ⌝ }
+{
+    let on = other(leg_side(side, l));
+    let xs = lots(os, l.series, on, price);
+    in_turn(c, xs)
+}
+
+fn order_record(o: LegOrder, q: u32, price: u32) -> Record
+    requires { ⌜ price ≤ 99999 ⌝ }
+    ensures { λ r. ⌜ r ≡ orderRecord o q price ⌝ }
+{
+    Record {
+        kind: Kind::LegOrderFill,
+        number: o.number,
+        place: o.series,
+        side: o.side,
+        quantity: q,
+        level: 10000000 + price,
+    }
+}
+
+// No record of 0 contracts.
+fn order_row(space: &mut [i32], n: usize, o: LegOrder, q: u32, price: u32) -> usize
+    requires { ⌜ FitOrder o × (q ≤ 200000) × (price ≤ 99999) ⌝ }
+    requires { ⌜ Room (now space) n (orderRow o q price) ⌝ }
+    ensures { λ m. ⌜ Wrote (now (space .entry)) (now (space .exit)) n m (orderRow o q price) ⌝ }
+{
+    if q == 0 {
+        return n;
+    }
+    let r = order_record(o, q, price);
+    push(space, n, r)
+}
+
+// The leg orders' records of one leg, by number.
+fn order_rows(space: &mut [i32], n: usize, os: [LegOrder; 32], qs: [u32; 32], price: u32) -> usize
+    requires { ⌜ All FitOrder os × AtMost 200000 qs × (price ≤ 99999) ⌝ }
+    requires { ⌜ Room (now space) n (joinN (orderRows os qs price) 32) ⌝ }
+    ensures { λ m. ⌜ Wrote (now (space .entry)) (now (space .exit)) n m (joinN (orderRows os qs price) 32) ⌝ }
+{
+    let mut m = n;
+    let mut i: usize = 0;
+    while i < 32 {
+        m = order_row(space, m, os[i], qs[i], price);
+        i += 1;
+    }
+    m
+}
+
+fn cut_order(o: LegOrder, q: u32) -> LegOrder
+    ensures { λ p. ⌜ p ≡ cutOrder o q ⌝ }
+{
+    let mut p = o;
+    p.contracts = less(o.contracts, q);
+    p
+}
+
+// The leg orders with quotas taken from them.
+fn cut_orders(os: [LegOrder; 32], qs: [u32; 32]) -> [LegOrder; 32]
+    ensures { λ ps. ⌜ ps ≡ cutOrders os qs ⌝ }
+{
+    let mut ps = os;
+    let mut i: usize = 0;
+    while i < 32 {
+        ps[i] = cut_order(os[i], qs[i]);
+        i += 1;
+    }
+    ps
+}
+
+// What q units take on one leg: quotas from the orders as they stood, their records, and the cuts.
+fn one_leg(
+    c: Cuts,
+    os: [LegOrder; 32],
+    side: u8,
+    q: u32,
+    price: u32,
+    l: Leg,
+    space: &mut [i32],
+) -> Cuts
+    requires { ⌜ All FitOrder os × (l .ratio ≤ 12) × (q ≤ 9999) × (price ≤ 99999) ⌝ }
+    requires { ⌜ Room (now space) (c .count) (joinN (orderRows os (legQuotas os side (l .ratio * q) price l) price) 32) ⌝ }
+    ensures { λ d. ⌜ OneLeg (now (space .entry)) (now (space .exit)) (c .count) (d .count) (c .rows) (d .rows) os side q price l ⌝ }
+{
+    let ratio = l.ratio as u32;
+    let qs = leg_quotas(os, side, ratio * q, price, l);
+    let m = order_rows(space, c.count, os, qs, price);
+    let rows = c.rows;
+    let left = cut_orders(rows, qs);
+    Cuts {
+        rows: left,
+        count: m,
+    }
+}
+
+// Leg after leg.
+fn all_legs(
+    os: [LegOrder; 32],
+    side: u8,
+    q: u32,
+    s: Strategy,
+    ps: [u32; 6],
+    space: &mut [i32],
+    n: usize,
+) -> Cuts
+    requires { ⌜ All FitOrder os × FitLegs s × (q ≤ 9999) × AtMost 99999 ps ⌝ }
+    requires { ⌜ Room (now space) n (joinN (orderRecords os side q (s .legs) ps) (s .count)) ⌝ }
+    ensures { λ c. ⌜ AllLegs (now (space .entry)) (now (space .exit)) n (c .count) (c .rows) os side q (s .legs) ps (s .count) ⌝ }
+{
+    let count = s.count as usize;
+    let legs = s.legs;
+    let mut c = Cuts { rows: os, count: n };
+    let mut i: usize = 0;
+    while i < count {
+        c = one_leg(c, os, side, q, ps[i], legs[i], space);
+        i += 1;
+    }
+    c
+}
+
+// Entry a takes q units from the legs at these prices: its own records, then the leg orders'.
+fn take_legs(
+    b: State,
+    a: usize,
+    s: Strategy,
+    ps: [u32; 6],
+    q: u32,
+    space: &mut [i32],
+    n: usize,
+) -> After
+    requires { ⌜ (a < 32) × Fit b × FitLegs s × (q ≤ 9999) × AtMost 99999 ps ⌝ }
+    requires { ⌜ Room (now space) n (takeLegs b a s ps q .records) ⌝ }
+    ensures { λ t. ⌜ Done (now (space .entry)) (now (space .exit)) n (t .count) (t .state) (takeLegs b a s ps q) ⌝ }
+{
+    let e = b.entries[a];
+    let os = b.orders;
+    let level = net_of(s, ps);
+    let m = party_records(space, n, e, s, q, level, ps);
+    let c = all_legs(os, e.side, q, s, ps, space, m);
+    let rows = c.rows;
+    let d = cut(b, a, q);
+    let f = with_orders(d, rows);
+    After {
+        state: f,
+        count: c.count,
+    }
+}
+
+// Entry a at the leg net: as many units as it has and the best prices hold.
+pub fn leg_fill(b: State, a: usize, space: &mut [i32], n: usize) -> After
+    requires { ⌜ (a < 32) × Fit b ⌝ }
+    requires { ⌜ Room (now space) n (legFill a b .records) ⌝ }
+    ensures { λ t. ⌜ Done (now (space .entry)) (now (space .exit)) n (t .count) (t .state) (legFill a b) ⌝ }
+{
+    let e = b.entries[a];
+    let k = e.strategy as usize;
+    let s = b.strategies[k];
+    let os = b.orders;
+    let legs = s.legs;
+    let ps = prices(os, e.side, legs);
+    let q = units_of(os, e.side, s, ps, e.units);
+    take_legs(b, a, s, ps, q, space, n)
+}
+
+// The leg net of entry a where the legs may be used and are ready, else 0.
+pub fn ready_net(legs: bool, b: State, a: usize) -> u32
+    requires { ⌜ (a < 32) × Fit b ⌝ }
+    ensures { λ r. ⌜ r ≡ readyNet legs a b ⌝ }
+{
+    if legs {
+        if ready(b, a) {
+            let e = b.entries[a];
+            let k = e.strategy as usize;
+            return leg_net(b, e.side, k);
+        }
+        return 0;
+    }
+    0
+}

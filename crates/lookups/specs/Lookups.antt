@@ -1,0 +1,98 @@
+-- Depth over the book's own table, and the laws of the lookups.
+use mathlib.Core.Path.{_≡_, sym, _∙_, ap}
+use mathlib.Core.List.{List}
+use Prim.Native.Nat.{ℕ, _-_, _*_, _^_, _≤_, _<_}
+use native.Mathlib.Omega.{arith}
+use lib.Bits.{bitAnd}
+use lib.Count.{ones, trailingZeros}
+use lib.Dec.{eqb, ltb}
+use Rattle.base.specs.Pick.{pick, pick-all, tests}
+use Rattle.base.specs.All.{All}
+use Rattle.base.specs.Walks.{sumN, slot, sum-le}
+use Rattle.base.specs.Sets.{lowestOf}
+use Rattle.base.specs.SetLaws.{minus-and, minus-lt, size-ones}
+use Rattle.rules.specs.declared.Entry.{Entry}
+use Rattle.rules.specs.declared.LegOrder.{LegOrder}
+use Rattle.rules.specs.declared.State.{State}
+use Rattle.rules.specs.declared.Depth.{Depth}
+use Rattle.rules.specs.declared.Depth.the-variants as D
+use Rattle.rules.specs.declared.Shut.the-variants as S
+use Rattle.rules.specs.State.{entryAt, orderAt, strategyAt}
+use Rattle.rules.specs.Strategies.{shutSet}
+use Rattle.rules.specs.Nets.{priceOf, lots}
+use Rattle.rules.specs.Refusals.{undefined}
+use Rattle.rules.specs.Lookups.{unitsOfNumber, contractsOfNumber, depthOf, shutLegs}
+use Rattle.rules.specs.Valid.{FitEntry, FitOrder}
+use Rattle.nets.specs.declared.Best.{Best}
+use Rattle.ranges.specs.Fit.{fit-entry, fit-order}
+use Rattle.nets.specs.Nets.{contractsAt, contracts-lots}
+use Rattle.nets.specs.Best.{bestOf}
+
+-- "3 if series or side is out of range"
+unfoldable pub bookDepth : List LegOrder → ℕ → ℕ → Depth
+bookDepth os s side = pick (ltb 31 s) (D.Refused 3) (pick (ltb 1 side) (D.Refused 3) (depthOf os s side))
+
+-- what an entry, and a leg order, holds under a number
+unfoldable pub unitsIf : ℕ → Entry → ℕ
+unitsIf n e = pick (eqb (e .number) n) (e .units) 0
+
+unfoldable pub contractsIf : ℕ → LegOrder → ℕ
+contractsIf n o = pick (eqb (o .number) n) (o .contracts) 0
+
+-- laws
+
+pub units-most : (n : ℕ) (e : Entry) → FitEntry e → unitsIf n e ≤ 9999
+unfolding unitsIf
+units-most n e f = pick-all (λ (x : ℕ). x ≤ 9999) _ (f .units) (omega arith)
+
+pub contracts-most : (n : ℕ) (o : LegOrder) → FitOrder o → contractsIf n o ≤ 9999
+unfolding contractsIf
+contracts-most n o f = pick-all (λ (x : ℕ). x ≤ 9999) _ (f .contracts) (omega arith)
+
+pub sum-units-most : (b : State) (n : ℕ) → All FitEntry (b .entries) → (k : ℕ) → sumN (unitsOfNumber b n) k ≤ k * 9999
+unfolding unitsIf
+sum-units-most b n a k = sum-le (unitsOfNumber b n) 9999 (λ i. units-most n (entryAt b i) (fit-entry a i)) k
+
+pub sum-contracts-most : (b : State) (n : ℕ) → All FitOrder (b .orders) → (k : ℕ) → sumN (contractsOfNumber b n) k ≤ k * 9999
+unfolding contractsIf
+sum-contracts-most b n a k = sum-le (contractsOfNumber b n) 9999 (λ i. contracts-most n (orderAt b i) (fit-order a i)) k
+
+-- depth by what the code tests
+module _ (os : List LegOrder) (s side : ℕ) where
+  pub depth-series : 31 < s → D.Refused 3 ≡ bookDepth os s side
+  unfolding bookDepth
+  depth-series h = search tests
+
+  pub depth-side : s ≤ 31 → 1 < side → D.Refused 3 ≡ bookDepth os s side
+  unfolding bookDepth
+  depth-side h g = search tests
+
+  module _ (h : s ≤ 31) (g : side ≤ 1) {b : Best} (e : b ≡ bestOf os s side) where
+    price-is : priceOf os s side ≡ b .price
+    unfolding bestOf
+    price-is = sym (ap (λ (x : Best). x .price) e)
+
+    contracts-is : sumN (slot (lots os s side (b .price))) 32 ≡ b .contracts
+    unfolding bestOf
+    contracts-is = sym (contracts-lots os s side (b .price)) ∙ ap (contractsAt os s side) (sym price-is) ∙ sym (ap (λ (x : Best). x .contracts) e)
+
+    pub depth-empty : b .price ≡ 0 → D.Empty ≡ bookDepth os s side
+    unfolding bookDepth depthOf
+    depth-empty z = rw price-is (search tests)
+
+    pub depth-best : ¬ (b .price ≡ 0) → D.Best (b .price) (b .contracts) ≡ bookDepth os s side
+    unfolding bookDepth depthOf
+    depth-best z = rw (price-is, contracts-is) (search tests)
+
+-- the shut legs by what the code tests
+pub shut-is : (b : State) (k : ℕ) → strategyAt b k .series < 2 ^ 32 → b .opened < 2 ^ 32 → bitAnd (strategyAt b k .series) (4294967295 - b .opened) ≡ shutSet b k
+unfolding shutSet
+shut-is b k h g = minus-and (strategyAt b k .series) (b .opened) h g
+
+pub shut-undefined : (b : State) (k : ℕ) → b .defined ≤ k → S.Refused 4 ≡ shutLegs b k
+unfolding shutLegs undefined
+shut-undefined b k h = search tests
+
+pub shut-legs : (b : State) (k x : ℕ) → k < b .defined → x ≡ shutSet b k → S.Legs (ones x) (trailingZeros 32 x) ≡ shutLegs b k
+unfolding shutLegs undefined lowestOf shutSet
+shut-legs b k x h e = rw (e, ← size-ones (shutSet b k) (minus-lt _ _)) (search tests)

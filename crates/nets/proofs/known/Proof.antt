@@ -1,0 +1,67 @@
+use Rattle.rules.specs.Nets.{known, pricedAt}
+use Rattle.base.specs.Walks.{allN, all-none, all-more, all-stop}
+use borrow.Author.Tests.{lt-ltb, le-ltb}
+use mathlib.Core.Bool.{true}
+use mathlib.Core.Path.{_≡_, refl, sym, _∙_}
+use Prim.Native.Nat.{_≤_, _-_}
+use borrow.Author.Needs.{needs}
+use native.Mathlib.Omega.{arith}
+use Rattle.nets.proofs.known.Statement.{statement}
+use Rattle.nets.proofs.known.Tie as tie
+use Rattle.nets.proofs.known.Reads as reads
+use Rattle.nets.proofs.known.Lts as lts
+
+abbrev Inv-loop : tie.InvT-loop
+Inv-loop count ps i₀ i = (i ≤ count) × (allN (pricedAt ps) i ≡ true)
+
+abbrev μ-loop : tie.MeasureT-loop
+μ-loop count ps i₀ i = count - i
+
+-- src/lib.rt:119:5
+loop-holds : tie.Need-loop-holds Inv-loop μ-loop
+loop-holds c = (omega arith, all-none _)
+
+-- src/lib.rt:120:16
+mul-if1 : tie.Need-mul-if1 Inv-loop μ-loop
+mul-if1 c = omega arith
+
+-- src/lib.rt:120:16
+array-read-if1 : tie.Need-array-read-if1 Inv-loop μ-loop
+array-read-if1 c = omega arith
+
+-- src/lib.rt:121:13
+add-i : tie.Need-add-i Inv-loop μ-loop
+add-i c = omega arith
+
+-- src/lib.rt:119:5
+loop-less : tie.Need-loop-less Inv-loop μ-loop
+loop-less c = omega arith
+
+-- src/lib.rt:119:5
+loop-again : tie.Need-loop-again Inv-loop μ-loop
+loop-again c = (omega arith, all-more _ _ (c .before .before .loop .inv .1) (lt-ltb _ _ (c .if1 .taken)))
+
+-- src/lib.rt:123:13
+returns : tie.Need-returns Inv-loop μ-loop
+unfolding known
+returns c = sym (all-stop _ _ _ (c .before .loop-test .taken) (le-ltb _ _ (c .if1 .left)))
+
+-- src/lib.rt:114:1
+returns-2 : tie.Need-returns-2 Inv-loop μ-loop
+unfolding known
+returns-2 c = let e : c .before .loop .i ≡ c .before .before .args .count = omega arith in sym (rw e at (c .before .loop .inv .1))
+
+pub known-spec : {M : Type 1} → statement M
+known-spec =
+    tie.close
+    (tie.spec
+    Inv-loop
+    μ-loop
+    loop-holds
+    mul-if1
+    array-read-if1
+    add-i
+    loop-less
+    loop-again
+    returns
+    returns-2)

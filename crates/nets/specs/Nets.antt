@@ -1,0 +1,105 @@
+-- Bounds of prices, contracts and nets, and the rules by what the code tests.
+use mathlib.Core.Path.{_≡_, refl, sym, _∙_, ap}
+use mathlib.Core.Bool.{Bool, true, false, not}
+use mathlib.Core.List.{List}
+use Prim.Native.Nat.{ℕ, zero, suc, _+_, _*_, _-_, _/_, _≤_, _<_, min}
+use native.Mathlib.Nat.{mul-le-mul}
+use native.Mathlib.Omega.{arith}
+use borrow.Author.Tests.{ne-eqb}
+use lib.Dec.{eqb, ltb}
+use lib.ListN.{getD, length}
+use Rattle.base.specs.Pick.{pick, pick-all, pick-true, pick-false, tests}
+use Rattle.base.specs.All.{All}
+use Rattle.base.specs.Walks.{sumN, slot, table, walk, sum-le, sum-same, table-slot}
+use Rattle.rules.specs.declared.Leg.{Leg}
+use Rattle.rules.specs.declared.Strategy.{Strategy}
+use Rattle.rules.specs.declared.LegOrder.{LegOrder}
+use Rattle.rules.specs.declared.State.{State}
+use Rattle.rules.specs.State.{noLeg, noOrder, entryAt, strategyOf}
+use Rattle.rules.specs.Sides.{other, legSide, better, bestPrice}
+use Rattle.rules.specs.Nets.{stands, priceWith, priceStep, priceOf, lot, lotAt, lots, legPrice, priceAt, prices, known, weight, weightAt, weighed, netOf, unitsOf}
+use Rattle.rules.specs.Passes.{ready}
+use Rattle.rules.specs.Valid.{FitLeg, FitOrder}
+use Rattle.ranges.specs.Most.{AtMost, table-most}
+use Rattle.ranges.specs.Fit.{FitLegs, fit-leg, fit-order}
+
+-- the contracts of a series and side at a price
+unfoldable pub contractsAt : List LegOrder → ℕ → ℕ → ℕ → ℕ
+contractsAt os s side price = sumN (lotAt os s side price) 32
+
+-- they are the sum over the lots
+pub contracts-lots : (os : List LegOrder) (s side price : ℕ) → contractsAt os s side price ≡ sumN (slot (lots os s side price)) 32
+unfolding contractsAt lots
+contracts-lots os s side price = sum-same _ _ 32 (λ i h. sym (table-slot (lotAt os s side price) 0 32 i h))
+
+pub weight-fits : (r x : ℕ) → r ≤ 12 → x ≤ 99_999 → r * x ≤ 1_199_988
+weight-fits r x a b = mul-le-mul a b
+
+pub weight-most : (w : ℕ) (l : Leg) (x : ℕ) → l .ratio ≤ 12 → x ≤ 99_999 → weight w l x ≤ 1_199_988
+unfolding weight
+weight-most w l x a b =
+    let P : ℕ → Type 0 = λ (y : ℕ). y ≤ 1_199_988 in
+    let f : P (l .ratio * x) = weight-fits (l .ratio) x a b in
+    pick-all P _ (pick-all P _ f (omega arith)) (pick-all P _ (omega arith) f)
+
+pub weighed-most : (w : ℕ) (legs : List Leg) (ps : List ℕ) → All FitLeg legs → AtMost 99_999 ps → (k : ℕ) → weighed w legs ps k ≤ k * 1_199_988
+unfolding weighed
+weighed-most w legs ps a m k = sum-le (weightAt w legs ps) 1_199_988 (λ i. weight-most w (getD legs i noLeg) (slot ps i) (fit-leg a i .ratio) (m .at i)) k
+
+-- a net is between -7,199,928 and 7,199,928 cents
+pub net-most : (s : Strategy) (ps : List ℕ) → FitLegs s → AtMost 99_999 ps → netOf s ps ≤ 17_199_928
+unfolding netOf
+net-most s ps f m =
+    pick-all (λ (y : ℕ). y ≤ 17_199_928) _ (omega (arith, weighed-most 0 (s .legs) ps (f .legs) m (s .count), f .count)) (omega arith)
+
+pub lot-most : (s side price : ℕ) (o : LegOrder) → FitOrder o → lot s side price o ≤ 9999
+unfolding lot
+lot-most s side price o f = let P : ℕ → Type 0 = λ (y : ℕ). y ≤ 9999 in pick-all P _ (pick-all P _ (f .contracts) (omega arith)) (omega arith)
+
+pub lots-most : (os : List LegOrder) (s side price : ℕ) → All FitOrder os → AtMost 9999 (lots os s side price)
+unfolding lots
+lots-most os s side price a = table-most (lotAt os s side price) 9999 (λ i. lot-most s side price (getD os i noOrder) (fit-order a i)) 32
+
+pub contracts-most : (os : List LegOrder) (s side price : ℕ) → All FitOrder os → (k : ℕ) → sumN (lotAt os s side price) k ≤ k * 9999
+contracts-most os s side price a k = sum-le (lotAt os s side price) 9999 (λ i. lot-most s side price (getD os i noOrder) (fit-order a i)) k
+
+best-most : (side p q c : ℕ) → p ≤ c → q ≤ c → bestPrice side p q ≤ c
+unfolding bestPrice
+best-most side p q c a b = let P : ℕ → Type 0 = λ (y : ℕ). y ≤ c in pick-all P _ b (pick-all P _ b a)
+
+pub price-most : (os : List LegOrder) (s side : ℕ) → All FitOrder os → (k : ℕ) → walk (priceStep os s side) 0 k ≤ 99_999
+unfolding walk priceWith
+price-most os s side a zero = omega arith
+price-most os s side a (suc k) =
+    let P : ℕ → Type 0 = λ (y : ℕ). y ≤ 99_999 in
+    let h : P (walk (priceStep os s side) 0 k) = price-most os s side a k in
+    pick-all P _ (best-most side _ _ 99_999 h (fit-order a k .price)) h
+
+pub prices-most : (os : List LegOrder) (side : ℕ) (legs : List Leg) → All FitOrder os → AtMost 99_999 (prices os side legs)
+unfolding prices legPrice priceOf
+prices-most os side legs a = table-most (priceAt os side legs) 99_999 (λ i. price-most os (getD legs i noLeg .series) (other (legSide side (getD legs i noLeg))) a 32) 6
+
+-- the net by what the code tests
+module _ (s : Strategy) (ps : List ℕ) where
+  pub net-unknown : known ps (s .count) ≡ false → 0 ≡ netOf s ps
+  unfolding netOf
+  net-unknown k = search tests
+
+  pub net-known : known ps (s .count) ≡ true → {buys sells : ℕ} → buys ≡ weighed 0 (s .legs) ps (s .count) → sells ≡ weighed 1 (s .legs) ps (s .count)
+      → 10_000_000 + buys - sells ≡ netOf s ps
+  unfolding netOf
+  net-known k p q = rw (p, q) (search tests)
+
+-- readiness by the units that the code has found
+module _ (a : ℕ) (b : State) {ps : List ℕ} {n : ℕ} (p : ps ≡ prices (b .orders) (entryAt b a .side) (strategyOf b (entryAt b a) .legs))
+    (q : n ≡ unitsOf (b .orders) (entryAt b a .side) (strategyOf b (entryAt b a)) ps 1) where
+  units-are : unitsOf (b .orders) (entryAt b a .side) (strategyOf b (entryAt b a)) (prices (b .orders) (entryAt b a .side) (strategyOf b (entryAt b a) .legs)) 1 ≡ n
+  units-are = rw (← p) (sym q)
+
+  pub ready-not : n ≡ 0 → false ≡ ready a b
+  unfolding ready
+  ready-not e = rw (units-are, e)
+
+  pub ready-yes : ¬ (n ≡ 0) → true ≡ ready a b
+  unfolding ready
+  ready-yes e = rw (units-are, ne-eqb n 0 e)

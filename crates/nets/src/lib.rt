@@ -1,0 +1,289 @@
+// Best prices of the leg orders, nets, and the units that the legs give.
+ghost use mathlib.Core.Path.{_≡_};
+ghost use Prim.Native.Nat.{_+_, _*_, _-_, _/_, _<_, _≤_, min};
+ghost use lib.ListN.{length, getD};
+ghost use Rattle.base.specs.All.{All};
+ghost use Rattle.base.specs.Walks.{sumN, slot, table};
+ghost use Rattle.rules.specs.Nets.{stands, priceWith, priceOf, lot, lots, legPrice, prices, known, weight, weighed, netOf, legUnits, unitsOf, legNet};
+ghost use Rattle.rules.specs.Valid.{FitLeg, FitEntry, FitOrder};
+ghost use Rattle.ranges.specs.Most.{AtMost};
+ghost use Rattle.ranges.specs.Fit.{FitLegs};
+ghost use Rattle.nets.specs.Nets.{contractsAt};
+ghost use Rattle.nets.specs.Best.{Priced, bestOf, bestWith};
+ghost use Rattle.rules.specs.Passes.{ready};
+use records::least;
+use rules::Leg;
+use rules::LegOrder;
+use rules::State;
+use rules::Strategy;
+use sides::best_price;
+use sides::leg_side;
+use sides::other;
+
+// A best price and the contracts at it.
+pub struct Best {
+    pub price: u32,
+    pub contracts: u32,
+}
+
+// Whether a leg order stands in that series and side.
+pub fn stands(s: u8, side: u8, o: LegOrder) -> bool
+    ensures { λ r. ⌜ r ≡ stands s side o ⌝ }
+{
+    if o.contracts == 0 {
+        return false;
+    }
+    if o.series != s {
+        return false;
+    }
+    o.side == side
+}
+
+fn price_with(s: u8, side: u8, p: u32, o: LegOrder) -> u32
+    ensures { λ r. ⌜ r ≡ priceWith s side p o ⌝ }
+{
+    if stands(s, side, o) {
+        return best_price(side, p, o.price);
+    }
+    p
+}
+
+// The best price of a series and side, 0 where no order stands there.
+pub fn price_of(os: [LegOrder; 32], s: u8, side: u8) -> u32
+    ensures { λ p. ⌜ p ≡ priceOf os s side ⌝ }
+{
+    let mut p: u32 = 0;
+    let mut i: usize = 0;
+    while i < 32 {
+        p = price_with(s, side, p, os[i]);
+        i += 1;
+    }
+    p
+}
+
+fn lot(s: u8, side: u8, price: u32, o: LegOrder) -> u32
+    ensures { λ r. ⌜ r ≡ lot s side price o ⌝ }
+{
+    if stands(s, side, o) {
+        if o.price == price {
+            return o.contracts;
+        }
+        return 0;
+    }
+    0
+}
+
+// What each leg order holds of a series and side at a price.
+pub fn lots(os: [LegOrder; 32], s: u8, side: u8, price: u32) -> [u32; 32]
+    ensures { λ xs. ⌜ xs ≡ lots os s side price ⌝ }
+{
+    let mut xs: [u32; 32] = [0; 32];
+    let mut i: usize = 0;
+    while i < 32 {
+        xs[i] = lot(s, side, price, os[i]);
+        i += 1;
+    }
+    xs
+}
+
+// The contracts of a series and side at a price.
+pub fn contracts_at(os: [LegOrder; 32], s: u8, side: u8, price: u32) -> u32
+    requires { ⌜ All FitOrder os ⌝ }
+    ensures { λ n. ⌜ n ≡ contractsAt os s side price ⌝ }
+{
+    let mut n: u32 = 0;
+    let mut i: usize = 0;
+    while i < 32 {
+        n += lot(s, side, price, os[i]);
+        i += 1;
+    }
+    n
+}
+
+// The best price that a complex party of that side meets on a leg.
+fn leg_price(os: [LegOrder; 32], side: u8, l: Leg) -> u32
+    ensures { λ p. ⌜ p ≡ legPrice os side l ⌝ }
+{
+    let on = other(leg_side(side, l));
+    price_of(os, l.series, on)
+}
+
+pub fn prices(os: [LegOrder; 32], side: u8, legs: [Leg; 6]) -> [u32; 6]
+    ensures { λ ps. ⌜ ps ≡ prices os side legs ⌝ }
+{
+    let mut ps: [u32; 6] = [0; 6];
+    let mut i: usize = 0;
+    while i < 6 {
+        ps[i] = leg_price(os, side, legs[i]);
+        i += 1;
+    }
+    ps
+}
+
+// Whether no price is missing.
+fn known(ps: [u32; 6], count: usize) -> bool
+    requires { ⌜ count ≤ 6 ⌝ }
+    ensures { λ r. ⌜ r ≡ known ps count ⌝ }
+{
+    let mut i: usize = 0;
+    while i < count {
+        if 0 < ps[i] {
+            i += 1;
+        } else {
+            return false;
+        }
+    }
+    true
+}
+
+// Ratio × price of a leg, in the sum over the buy legs (w 0) and in that over the sell legs (w 1).
+fn weight(w: u8, l: Leg, price: u32) -> u32
+    requires { ⌜ (l .ratio ≤ 12) × (price ≤ 99999) ⌝ }
+    ensures { λ r. ⌜ r ≡ weight w l price ⌝ }
+{
+    let ratio = l.ratio as u32;
+    if l.side == 0 {
+        if w == 0 {
+            return ratio * price;
+        }
+        return 0;
+    }
+    if w == 0 {
+        return 0;
+    }
+    ratio * price
+}
+
+fn weighed(w: u8, legs: [Leg; 6], ps: [u32; 6], count: usize) -> u32
+    requires { ⌜ (count ≤ 6) × All FitLeg legs × AtMost 99999 ps ⌝ }
+    ensures { λ r. ⌜ r ≡ weighed w legs ps count ⌝ }
+{
+    let mut n: u32 = 0;
+    let mut i: usize = 0;
+    while i < count {
+        n += weight(w, legs[i], ps[i]);
+        i += 1;
+    }
+    n
+}
+
+// The net of the buy legs less the sell legs, as a level; 0 where it is unknown.
+pub fn net_of(s: Strategy, ps: [u32; 6]) -> u32
+    requires { ⌜ FitLegs s × AtMost 99999 ps ⌝ }
+    ensures { λ r. ⌜ r ≡ netOf s ps ⌝ }
+{
+    let count = s.count as usize;
+    let legs = s.legs;
+    if known(ps, count) {
+        let buys = weighed(0, legs, ps, count);
+        let sells = weighed(1, legs, ps, count);
+        return 10000000 + buys - sells;
+    }
+    0
+}
+
+// Rounded down.
+fn whole_units(contracts: u32, ratio: u32) -> u32
+    requires { ⌜ 0 < ratio ⌝ }
+    ensures { λ n. ⌜ n ≡ contracts / ratio ⌝ }
+{
+    contracts / ratio
+}
+
+// The units of a leg's ratio that its contracts at a price give, rounded down.
+fn leg_units(os: [LegOrder; 32], side: u8, price: u32, l: Leg) -> u32
+    requires { ⌜ All FitOrder os × (0 < l .ratio) ⌝ }
+    ensures { λ n. ⌜ n ≡ legUnits os side price l ⌝ }
+{
+    let on = other(leg_side(side, l));
+    let n = contracts_at(os, l.series, on, price);
+    whole_units(n, l.ratio as u32)
+}
+
+// The units that the legs give at these prices, at most `most`.
+pub fn units_of(os: [LegOrder; 32], side: u8, s: Strategy, ps: [u32; 6], most: u32) -> u32
+    requires { ⌜ All FitOrder os × FitLegs s ⌝ }
+    ensures { λ n. ⌜ n ≡ unitsOf os side s ps most ⌝ }
+{
+    let count = s.count as usize;
+    let legs = s.legs;
+    let mut n = most;
+    let mut i: usize = 0;
+    while i < count {
+        let units = leg_units(os, side, ps[i], legs[i]);
+        n = least(units, n);
+        i += 1;
+    }
+    n
+}
+
+// The pair with one order more: it starts afresh at a better price.
+fn best_with(s: u8, side: u8, b: Best, o: LegOrder) -> Best
+    requires { ⌜ (b .contracts ≤ 319968) × (o .contracts ≤ 9999) ⌝ }
+    ensures { λ r. ⌜ r ≡ bestWith s side b o ⌝ }
+{
+    if stands(s, side, o) {
+        let p = best_price(side, b.price, o.price);
+        if p == b.price {
+            if o.price == b.price {
+                return Best {
+                    price: b.price,
+                    contracts: b.contracts + o.contracts,
+                };
+            }
+            return b;
+        }
+        return Best {
+            price: o.price,
+            contracts: o.contracts,
+        };
+    }
+    b
+}
+
+// The best price of a series and side with the contracts at it, in one walk.
+pub fn best_of(os: [LegOrder; 32], s: u8, side: u8) -> Best
+    requires { ⌜ All FitOrder os × Priced os ⌝ }
+    ensures { λ b. ⌜ b ≡ bestOf os s side ⌝ }
+{
+    let mut b = Best {
+        price: 0,
+        contracts: 0,
+    };
+    let mut i: usize = 0;
+    while i < 32 {
+        b = best_with(s, side, b, os[i]);
+        i += 1;
+    }
+    b
+}
+
+// The leg net that a complex party of that side meets: the offer net for a buy, the bid net for a sell.
+pub fn leg_net(b: State, side: u8, k: usize) -> u32
+    requires { ⌜ (k < 16) × All FitOrder (b .orders) × All FitLegs (b .strategies) ⌝ }
+    ensures { λ r. ⌜ r ≡ legNet b side k ⌝ }
+{
+    let s = b.strategies[k];
+    let os = b.orders;
+    let legs = s.legs;
+    let ps = prices(os, side, legs);
+    net_of(s, ps)
+}
+
+// Whether the legs give one unit to the entry at slot a.
+pub fn ready(b: State, a: usize) -> bool
+    requires { ⌜ (a < 32) × All FitOrder (b .orders) × All FitLegs (b .strategies) × All FitEntry (b .entries) ⌝ }
+    ensures { λ r. ⌜ r ≡ ready a b ⌝ }
+{
+    let e = b.entries[a];
+    let k = e.strategy as usize;
+    let s = b.strategies[k];
+    let os = b.orders;
+    let legs = s.legs;
+    let ps = prices(os, e.side, legs);
+    let n = units_of(os, e.side, s, ps, 1);
+    if n == 0 {
+        return false;
+    }
+    true
+}

@@ -1,0 +1,82 @@
+-- The turns of a pass: their levels are in range, they shrink the state, and none moves after one that stops.
+use mathlib.Core.Path.{_≡_, refl}
+use mathlib.Core.Bool.{Bool, true, false}
+use mathlib.Core.List.{List}
+use Prim.Native.Nat.{ℕ, zero, suc, _+_, _-_, _≤_, _<_}
+use native.Mathlib.Nat.{zero-add, suc-add}
+use native.Mathlib.Omega.{arith}
+use borrow.Author.Tests.{eqb-true, eqb-false}
+use lib.Dec.{eqb}
+use lib.IntN.{ℤ}
+use Rattle.base.specs.Pick.{pick, pick-all}
+use Rattle.base.specs.All.{All}
+use Rattle.rules.specs.declared.Entry.{Entry}
+use Rattle.rules.specs.declared.State.{State}
+use Rattle.rules.specs.declared.Allocation.{Allocation}
+use Rattle.rules.specs.declared.Allocation.the-variants.{LegsOnly, Shared, Numbered}
+use Rattle.rules.specs.declared.Turn.{Turn}
+use Rattle.rules.specs.declared.Turn.the-variants.{Stop, ByLegs, AtLimit}
+use Rattle.rules.specs.State.{entryAt}
+use Rattle.rules.specs.Moves.{Moved, still, and-then, each}
+use Rattle.rules.specs.Passes.{bestOpposite, opposite, turnAt, turnOf, take, turn}
+use Rattle.rules.specs.Valid.{FitEntry}
+use Rattle.rules.proofs.Control.{each-kept, turn-kept, shrinks-kept}
+use Rattle.rules.proofs.Turns.{then-still, opposite-holder}
+use Rattle.records.specs.Done.{Done}
+use Rattle.ranges.specs.Fit.{Fit, fit-entry, fit-done}
+
+unfoldable pub stopsAt : Turn → Bool
+stopsAt Stop = true
+stopsAt ByLegs = false
+stopsAt (AtLimit level) = false
+
+unfoldable pub turnLevel : Turn → ℕ
+turnLevel Stop = 0
+turnLevel ByLegs = 0
+turnLevel (AtLimit level) = level
+
+-- laws
+
+best-most : (es : List Entry) (e : Entry) → All FitEntry es → bestOpposite es e ≤ 20_000_000
+best-most es e a = by (eqb (bestOpposite es e) 0) refl
+  where
+    by : (t : Bool) → eqb (bestOpposite es e) 0 ≡ t → bestOpposite es e ≤ 20_000_000
+    by true g = omega (arith, eqb-true (bestOpposite es e) 0 g)
+    by false g = let h = opposite-holder es e (eqb-false (bestOpposite es e) 0 g) in omega (arith, h .level, fit-entry a (h .at) .level)
+
+opposite-most : (way : Allocation) (a : ℕ) (b : State) → Fit b → opposite way a b ≤ 20_000_000
+unfolding opposite
+opposite-most LegsOnly a b f = omega arith
+opposite-most Shared a b f = best-most (b .entries) (entryAt b a) (f .entries)
+opposite-most Numbered a b f = best-most (b .entries) (entryAt b a) (f .entries)
+
+pub turn-most : (way : Allocation) (legs : Bool) (a : ℕ) (b : State) → Fit b → turnLevel (turnOf way legs a b) ≤ 20_000_000
+unfolding turnOf turnAt turnLevel
+turn-most way legs a b f =
+    let P : Turn → Type 0 = λ (t : Turn). turnLevel t ≤ 20_000_000 in
+    pick-all P _ (omega arith)
+    (pick-all P _ (pick-all P _ (omega arith) (omega arith)) (pick-all P _ (omega arith) (pick-all P _ (opposite-most way a b f) (omega arith))))
+
+-- the ranges after some turns
+pub fit-turns : (way : Allocation) (legs : Bool) (a i : ℕ) (b : State) {c : State} {sp sq : List ℤ} {n m : ℕ} → Fit b → Done sp sq n m c (each (turn way legs a) i b) → Fit c
+fit-turns way legs a i b f d = fit-done d (each-kept shrinks-kept (turn way legs a) (turn-kept shrinks-kept way legs a) i b (f .orderRows)) f
+
+stop-still : (way : Allocation) (a : ℕ) (b : State) (t : Turn) → stopsAt t ≡ true → take way a t b ≡ still b
+unfolding stopsAt take
+stop-still way a b Stop e = refl
+stop-still way a b ByLegs e = absurd (let z : _≡_ {A = ℕ} 0 1 = cc in omega arith)
+stop-still way a b (AtLimit level) e = absurd (let z : _≡_ {A = ℕ} 0 1 = cc in omega arith)
+
+-- where nothing moves at any later slot
+pub idle : (f : ℕ → State → Moved) (b : State) (i : ℕ) → ((j : ℕ) → f j (each f i b .state) ≡ still (each f i b .state)) → (d : ℕ) → each f (d + i) b ≡ each f i b
+unfolding each
+idle f b i h zero = rw zero-add
+idle f b i h (suc d) = let e = idle f b i h d in rw (suc-add, e) (then-still (each f i b) (f (d + i)) (h (d + i)))
+
+-- from a turn that stops nothing moves
+pub pass-stops : (way : Allocation) (legs : Bool) (a k i : ℕ) (b c : State) → i ≤ k → c ≡ each (turn way legs a) i b .state → stopsAt (turnOf way legs a c) ≡ true
+    → each (turn way legs a) k b ≡ each (turn way legs a) i b
+pass-stops way legs a k i b c h e s =
+    let g : stopsAt (turnOf way legs a (each (turn way legs a) i b .state)) ≡ true = rw e at s in
+    let q : k ≡ k - i + i = omega arith in
+    rw q (idle (turn way legs a) b i (λ j. stop-still way a (each (turn way legs a) i b .state) (turnOf way legs a (each (turn way legs a) i b .state)) g) (k - i))

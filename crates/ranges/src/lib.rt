@@ -1,0 +1,1 @@
+// Ranges of the state that the code relies on; they stand in specs/.

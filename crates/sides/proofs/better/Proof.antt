@@ -1,0 +1,21 @@
+use Rattle.rules.specs.Sides.{better}
+use Rattle.base.specs.Pick.{tests, told}
+use borrow.Author.Needs.{needs}
+use native.Mathlib.Omega.{arith}
+use Rattle.sides.proofs.better.Statement.{statement}
+use Rattle.sides.proofs.better.Tie as tie
+use Rattle.sides.proofs.better.Reads as reads
+use Rattle.sides.proofs.better.Lts as lts
+
+-- src/lib.rt:40:9
+returns : tie.Need-returns
+unfolding better
+returns c = search tests
+
+-- src/lib.rt:36:1
+returns-2 : tie.Need-returns-2
+unfolding better
+returns-2 c = search tests
+
+pub better-spec : {M : Type 1} → statement M
+better-spec = tie.close (tie.spec returns returns-2)

@@ -1,0 +1,26 @@
+use Rattle.rules.specs.Sides.{legSide}
+use Rattle.base.specs.Pick.{tests, told}
+use native.Mathlib.Omega.{arith}
+use borrow.Author.Needs.{needs}
+use Rattle.sides.proofs.leg_side.Statement.{statement}
+use Rattle.sides.proofs.leg_side.Tie as tie
+use Rattle.sides.proofs.leg_side.Reads as reads
+use Rattle.sides.proofs.leg_side.Lts as lts
+use Rattle.sides.proofs.other.Reads as other-reads
+
+-- src/lib.rt:20:9
+returns : tie.Need-returns
+unfolding legSide
+returns c = search tests
+
+-- src/lib.rt:22:5
+other-requires : tie.Need-other-requires
+other-requires c κs = search needs
+
+-- src/lib.rt:16:1
+returns-2 : tie.Need-returns-2
+unfolding legSide
+returns-2 c = rw (c .other .ensures) (search tests)
+
+pub leg-side-spec : {M : Type 1} → statement M
+leg-side-spec = tie.close (tie.spec returns other-requires returns-2)

@@ -1,0 +1,21 @@
+use Rattle.rules.specs.Sides.{meets}
+use Rattle.base.specs.Pick.{tests, told}
+use borrow.Author.Needs.{needs}
+use native.Mathlib.Omega.{arith}
+use Rattle.sides.proofs.meets.Statement.{statement}
+use Rattle.sides.proofs.meets.Tie as tie
+use Rattle.sides.proofs.meets.Reads as reads
+use Rattle.sides.proofs.meets.Lts as lts
+
+-- src/lib.rt:30:9
+returns : tie.Need-returns
+unfolding meets
+returns c = search tests
+
+-- src/lib.rt:26:1
+returns-2 : tie.Need-returns-2
+unfolding meets
+returns-2 c = search tests
+
+pub meets-spec : {M : Type 1} → statement M
+meets-spec = tie.close (tie.spec returns returns-2)

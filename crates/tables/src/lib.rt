@@ -1,0 +1,1 @@
+// Laws of tables of rows; they stand in specs/.

@@ -1,0 +1,30 @@
+use Rattle.terms.specs.Terms.{smallest-most}
+use Rattle.rules.specs.Strategies.{lopsided}
+use native.Mathlib.Omega.{arith}
+use borrow.Author.Needs.{needs}
+use Rattle.terms.proofs.lopsided.Statement.{statement}
+use Rattle.terms.proofs.lopsided.Tie as tie
+use Rattle.terms.proofs.lopsided.Reads as reads
+use Rattle.terms.proofs.lopsided.Lts as lts
+use Rattle.terms.proofs.largest.Reads as largest-reads
+use Rattle.terms.proofs.smallest.Reads as smallest-reads
+
+-- src/lib.rt:133:9
+smallest-requires : tie.Need-smallest-requires
+smallest-requires c κs = search needs
+
+-- src/lib.rt:134:9
+largest-requires : tie.Need-largest-requires
+largest-requires c κs = search needs
+
+-- src/lib.rt:135:5
+mul-result : tie.Need-mul-result
+mul-result c = rw (c .before .smallest .ensures) (omega (arith, smallest-most (c .before .before .args .legs) (c .before .before .args .count)))
+
+-- src/lib.rt:129:1
+returns : tie.Need-returns
+unfolding lopsided
+returns c = rw (c .before .smallest .ensures, c .largest .ensures)
+
+pub lopsided-spec : {M : Type 1} → statement M
+lopsided-spec = tie.close (tie.spec smallest-requires largest-requires mul-result returns)

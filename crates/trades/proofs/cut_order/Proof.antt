@@ -1,0 +1,17 @@
+use borrow.Author.Needs.{needs}
+use Rattle.trades.proofs.cut_order.Statement.{statement}
+use Rattle.trades.proofs.cut_order.Tie as tie
+use Rattle.trades.proofs.cut_order.Reads as reads
+use Rattle.trades.proofs.cut_order.Lts as lts
+use Rattle.records.proofs.less.Reads as less-reads
+
+-- src/lib.rt:41:5
+less-requires : tie.Need-less-requires
+less-requires c κs = search needs
+
+-- src/lib.rt:37:1
+returns : tie.Need-returns
+returns c = rw (c .less .ensures)
+
+pub cut-order-spec : {M : Type 1} → statement M
+cut-order-spec = tie.close (tie.spec less-requires returns)

@@ -1,0 +1,150 @@
+-- Laws of the trade of a leg order, and of its cancel.
+use mathlib.Core.Path.{_≡_, refl, sym, _∙_, ap}
+use mathlib.Core.Bool.{Bool, true, false}
+use mathlib.Core.List.{List, [], _∷_, append-nil}
+use Prim.Native.Nat.{ℕ, zero, suc, _+_, _-_, _≤_, _<_, min}
+use native.Mathlib.Nat.{zero-add, suc-add}
+use native.Mathlib.Omega.{arith}
+use borrow.Author.Tests.{eq-eqb, ne-eqb, lt-ltb, le-ltb}
+use lib.Dec.{eqb, ltb}
+use lib.IntN.{ℤ}
+use Rattle.base.specs.Pick.{pick, pick-all, pick-true, pick-false}
+use Rattle.base.specs.All.{All, all-set}
+use Rattle.rules.specs.declared.LegOrder.{LegOrder}
+use Rattle.rules.specs.declared.Record.{Record}
+use Rattle.rules.specs.declared.State.{State}
+use Rattle.rules.specs.State.{orderAt, withOrders}
+use Rattle.rules.specs.Moves.{Moved, still, and-then, each}
+use Rattle.rules.specs.Fills.{orderRecord, cutOrder, cutLeg, legTrade, cancelLegRecord, cancelOrder}
+use Rattle.rules.specs.Events.{bestOrder, tradeOnce, tradeAll}
+use Rattle.rules.specs.Valid.{FitOrder}
+use Rattle.records.specs.Space.{Small, Wrote, Room}
+use Rattle.records.specs.Done.{Done, done-of, room-of}
+use Rattle.ranges.specs.Fit.{fit-order}
+use Rattle.legs.specs.Search.{best-order-most}
+
+-- the records of a trade of q contracts at the resting price
+abbrev pub tradeRecords : LegOrder → LegOrder → ℕ → List Record
+tradeRecords o p q = orderRecord o q (p .price) ∷ (orderRecord p q (p .price) ∷ [])
+
+-- the slot that the order at slot a trades with next: 32 where it has nothing left or none meets it
+unfoldable pub nextTrade : ℕ → State → ℕ
+nextTrade a b = pick (eqb (orderAt b a .contracts) 0) 32 (bestOrder b (orderAt b a))
+
+-- laws
+
+pub order-small : (o : LegOrder) (q price : ℕ) → FitOrder o → q ≤ 9999 → price ≤ 99_999 → Small (orderRecord o q price)
+order-small o q price f g h = record { number = f .number; quantity = omega arith; level = omega arith }
+
+pub cancel-small : (o : LegOrder) → FitOrder o → Small (cancelLegRecord o)
+cancel-small o f = record { number = f .number; quantity = omega (arith, f .contracts); level = omega arith }
+
+-- orders that fit still fit when contracts are taken
+cut-order-fits : (o : LegOrder) (q : ℕ) → FitOrder o → FitOrder (cutOrder o q)
+cut-order-fits o q f = record { number = f .number; member = f .member; series = f .series; side = f .side; contracts = omega (arith, f .contracts); price = f .price }
+
+cut-fits : (b : State) (i q : ℕ) → All FitOrder (b .orders) → All FitOrder (cutLeg b i q .orders)
+unfolding cutLeg withOrders
+cut-fits b i q a = all-set _ (cut-order-fits (orderAt b i) q (fit-order a i)) a i
+
+trade-fits : (b : State) (a h : ℕ) → All FitOrder (b .orders) → All FitOrder (legTrade b a h .state .orders)
+unfolding legTrade
+trade-fits b a h f = cut-fits _ h _ (cut-fits b a _ f)
+
+once-fits : (a i : ℕ) (b : State) → All FitOrder (b .orders) → All FitOrder (tradeOnce a i b .state .orders)
+unfolding tradeOnce
+once-fits a i b f =
+    let P : Moved → Type 0 = λ (m : Moved). All FitOrder (m .state .orders) in
+    pick-all P _ f (pick-all P _ (trade-fits b a _ f) f)
+
+pub trades-fit : (a i : ℕ) (b : State) → All FitOrder (b .orders) → All FitOrder (each (tradeOnce a) i b .state .orders)
+unfolding each and-then
+trades-fit a zero b f = f
+trades-fit a (suc i) b f = once-fits a i _ (trades-fit a i b f)
+
+-- ONE TRADE
+module _ (b : State) (a h : ℕ) {q : ℕ} (e : q ≡ min (orderAt b a .contracts) (orderAt b h .contracts)) where
+  pub trade-room : {sp : List ℤ} {n : ℕ} → Room sp n (legTrade b a h .records) → Room sp n (tradeRecords (orderAt b a) (orderAt b h) q)
+  unfolding legTrade
+  trade-room r = rw e r
+
+  pub trade-done : {sp sq : List ℤ} {n m : ℕ} {c d : State} → Wrote sp sq n m (tradeRecords (orderAt b a) (orderAt b h) q) → c ≡ cutLeg b a q → d ≡ cutLeg c h q
+      → Done sp sq n m d (legTrade b a h)
+  unfolding legTrade
+  trade-done w f g = record { wrote = rw e at w; state = g ∙ ap (λ (x : State). cutLeg x h q) f ∙ ap (λ (x : ℕ). cutLeg (cutLeg b a x) h x) e }
+
+  pub trade-few : All FitOrder (b .orders) → q ≤ 9999
+  trade-few f = omega (arith, e, fit-order f a .contracts)
+
+-- ALL TRADES
+pub next-none : (a : ℕ) (b : State) → orderAt b a .contracts ≡ 0 → 32 ≡ nextTrade a b
+unfolding nextTrade
+next-none a b e = sym (pick-true _ _ _ (eq-eqb _ _ e))
+
+pub next-some : (a : ℕ) (b : State) {h : ℕ} → ¬ (orderAt b a .contracts ≡ 0) → h ≡ bestOrder b (orderAt b a) → h ≡ nextTrade a b
+unfolding nextTrade
+next-some a b e g = g ∙ sym (pick-false _ _ _ (ne-eqb _ _ e))
+
+pub next-most : (a : ℕ) (b : State) → nextTrade a b ≤ 32
+unfolding nextTrade
+next-most a b = pick-all (λ (x : ℕ). x ≤ 32) _ (omega arith) (best-order-most b (orderAt b a))
+
+pub once-trades : (a i : ℕ) (b : State) → nextTrade a b < 32 → tradeOnce a i b ≡ legTrade b a (nextTrade a b)
+unfolding nextTrade tradeOnce pick
+once-trades a i b = go (eqb (orderAt b a .contracts) 0)
+  where
+    go : (t : Bool) → pick t 32 (bestOrder b (orderAt b a)) < 32
+        → pick t (still b) (pick (ltb (bestOrder b (orderAt b a)) 32) (legTrade b a (bestOrder b (orderAt b a))) (still b)) ≡ legTrade b a (pick t 32 (bestOrder b (orderAt b a)))
+    go true l = absurd (omega arith)
+    go false l = pick-true _ _ _ (lt-ltb _ 32 l)
+
+pub once-still : (a i : ℕ) (b : State) → 32 ≤ nextTrade a b → tradeOnce a i b ≡ still b
+unfolding nextTrade tradeOnce pick
+once-still a i b = go (eqb (orderAt b a .contracts) 0)
+  where
+    go : (t : Bool) → 32 ≤ pick t 32 (bestOrder b (orderAt b a))
+        → pick t (still b) (pick (ltb (bestOrder b (orderAt b a)) 32) (legTrade b a (bestOrder b (orderAt b a))) (still b)) ≡ still b
+    go true l = refl
+    go false l = pick-false _ _ _ (le-ltb _ 32 l)
+
+then-still : (x : Moved) (f : State → Moved) → f (x .state) ≡ still (x .state) → and-then x f ≡ x
+unfolding and-then
+then-still x f e = rw (e, append-nil)
+
+idle : (f : ℕ → State → Moved) (b : State) (i : ℕ) → ((j : ℕ) → f j (each f i b .state) ≡ still (each f i b .state)) → (d : ℕ) → each f (d + i) b ≡ each f i b
+unfolding each
+idle f b i h zero = rw zero-add
+idle f b i h (suc d) = let e = idle f b i h d in rw (suc-add, e) (then-still (each f i b) (f (d + i)) (h (d + i)))
+
+-- from the first turn on that does not trade nothing moves
+pub trades-stop : (a i : ℕ) (b c : State) {h : ℕ} → i ≤ 32 → c ≡ each (tradeOnce a) i b .state → h ≡ nextTrade a c → h ≡ 32 → tradeAll a b ≡ each (tradeOnce a) i b
+unfolding tradeAll
+trades-stop a i b c l e g z =
+    let q : 32 ≡ 32 - i + i = omega arith in
+    let s : 32 ≤ nextTrade a (each (tradeOnce a) i b .state) = rw (← e) (omega (arith, g, z)) in
+    ap (λ (k : ℕ). each (tradeOnce a) k b) q ∙ idle (tradeOnce a) b i (λ j. once-still a j (each (tradeOnce a) i b .state) s) (32 - i)
+
+-- a turn that trades
+pub trade-turn : (a i : ℕ) (c : State) {h : ℕ} → h ≡ nextTrade a c → ¬ (h ≡ 32) → tradeOnce a i c ≡ legTrade c a h
+trade-turn a i c e z = once-trades a i c (let l : nextTrade a c < 32 = omega (arith, e, z, next-most a c) in l) ∙ ap (legTrade c a) (sym e)
+
+-- CANCEL
+pub cancel-none : (i : ℕ) (b : State) → orderAt b i .contracts ≡ 0 → cancelOrder i b ≡ still b
+unfolding cancelOrder
+cancel-none i b e = pick-true _ _ _ (eq-eqb _ _ e)
+
+pub cancel-is : (i : ℕ) (b : State) → ¬ (orderAt b i .contracts ≡ 0)
+    → cancelOrder i b ≡ record { state = cutLeg b i (orderAt b i .contracts); records = cancelLegRecord (orderAt b i) ∷ [] }
+unfolding cancelOrder
+cancel-is i b e = pick-false _ _ _ (ne-eqb _ _ e)
+
+pub cancel-room : (i : ℕ) (b : State) {sp : List ℤ} {n : ℕ} → ¬ (orderAt b i .contracts ≡ 0) → Room sp n (cancelOrder i b .records) → Room sp n (cancelLegRecord (orderAt b i) ∷ [])
+cancel-room i b e r = room-of (cancel-is i b e) r
+
+pub cancel-done : (i : ℕ) (b : State) {sp sq : List ℤ} {n m : ℕ} {c : State} → ¬ (orderAt b i .contracts ≡ 0)
+    → Wrote sp sq n m (cancelLegRecord (orderAt b i) ∷ []) → c ≡ cutLeg b i (orderAt b i .contracts) → Done sp sq n m c (cancelOrder i b)
+cancel-done i b e w g = done-of (cancel-is i b e) (record { wrote = w; state = g })
+
+-- the orders of a state that turns have led to fit
+pub fit-after : (a i : ℕ) (b : State) {sp sq : List ℤ} {n m : ℕ} {c : State} → All FitOrder (b .orders) → Done sp sq n m c (each (tradeOnce a) i b) → All FitOrder (c .orders)
+fit-after a i b f d = rw (d .state) (trades-fit a i b f)

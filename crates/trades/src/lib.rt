@@ -1,0 +1,143 @@
+// Trades of a leg order with opposite ones, and its cancel, with their records.
+ghost use mathlib.Core.Path.{_≡_};
+ghost use Prim.Native.Nat.{_+_, _<_, _≤_};
+ghost use Rattle.base.specs.All.{All};
+ghost use Rattle.rules.specs.Fills.{orderRecord, cutOrder, cutLeg, legTrade, cancelLegRecord, cancelOrder};
+ghost use Rattle.rules.specs.Events.{tradeAll};
+ghost use Rattle.rules.specs.Valid.{FitOrder};
+ghost use Rattle.records.specs.Space.{Wrote, Room};
+ghost use Rattle.records.specs.Done.{Done};
+ghost use Rattle.trades.specs.Trades.{tradeRecords, nextTrade};
+use legs::best_order;
+use records::After;
+use records::least;
+use records::less;
+use records::push;
+use rules::Kind;
+use rules::LegOrder;
+use rules::Record;
+use rules::State;
+
+// A leg order's record of a fill of q contracts.
+pub fn order_record(o: LegOrder, q: u32, price: u32) -> Record
+    requires { ⌜ price ≤ 99999 ⌝ }
+    ensures { λ r. ⌜ r ≡ orderRecord o q price ⌝ }
+{
+    Record {
+        kind: Kind::LegOrderFill,
+        number: o.number,
+        place: o.series,
+        side: o.side,
+        quantity: q,
+        level: 10000000 + price,
+    }
+}
+
+pub fn cut_order(o: LegOrder, q: u32) -> LegOrder
+    ensures { λ p. ⌜ p ≡ cutOrder o q ⌝ }
+{
+    let mut p = o;
+    p.contracts = less(o.contracts, q);
+    p
+}
+
+// The leg order at slot i loses q contracts.
+fn cut_leg(b: State, i: usize, q: u32) -> State
+    requires { ⌜ i < 32 ⌝ }
+    ensures { λ c. ⌜ c ≡ cutLeg b i q ⌝ }
+{
+    let o = b.orders[i];
+    let mut c = b;
+    c.orders[i] = cut_order(o, q);
+    c
+}
+
+// The two records of a trade at the resting price, the incoming order's first.
+fn report(space: &mut [i32], n: usize, o: LegOrder, p: LegOrder, q: u32) -> usize
+    requires { ⌜ FitOrder o × FitOrder p × (q ≤ 9999) ⌝ }
+    requires { ⌜ Room (now space) n (tradeRecords o p q) ⌝ }
+    ensures { λ m. ⌜ Wrote (now (space .entry)) (now (space .exit)) n m (tradeRecords o p q) ⌝ }
+{
+    let r = order_record(o, q, p.price);
+    let m = push(space, n, r);
+    let s = order_record(p, q, p.price);
+    push(space, m, s)
+}
+
+// One trade of the leg order at slot a with the one at slot h.
+fn leg_trade(b: State, a: usize, h: usize, space: &mut [i32], n: usize) -> After
+    requires { ⌜ (a < 32) × (h < 32) × All FitOrder (b .orders) ⌝ }
+    requires { ⌜ Room (now space) n (legTrade b a h .records) ⌝ }
+    ensures { λ t. ⌜ Done (now (space .entry)) (now (space .exit)) n (t .count) (t .state) (legTrade b a h) ⌝ }
+{
+    let o = b.orders[a];
+    let p = b.orders[h];
+    let q = least(o.contracts, p.contracts);
+    let m = report(space, n, o, p, q);
+    let c = cut_leg(b, a, q);
+    let d = cut_leg(c, h, q);
+    After { state: d, count: m }
+}
+
+// The slot that the leg order at slot a trades with next, 32 where there is none.
+fn next_trade(b: State, a: usize) -> usize
+    requires { ⌜ a < 32 ⌝ }
+    ensures { λ h. ⌜ h ≡ nextTrade a b ⌝ }
+{
+    let o = b.orders[a];
+    if o.contracts == 0 {
+        return 32;
+    }
+    best_order(b, o)
+}
+
+// The trades of the leg order at slot a, until none meets it or nothing of it is left.
+pub fn trade_all(b: State, a: usize, space: &mut [i32], n: usize) -> After
+    requires { ⌜ (a < 32) × All FitOrder (b .orders) ⌝ }
+    requires { ⌜ Room (now space) n (tradeAll a b .records) ⌝ }
+    ensures { λ t. ⌜ Done (now (space .entry)) (now (space .exit)) n (t .count) (t .state) (tradeAll a b) ⌝ }
+{
+    let mut c = b;
+    let mut m = n;
+    let mut i: usize = 0;
+    while i < 32 {
+        let h = next_trade(c, a);
+        if h == 32 {
+            return After { state: c, count: m };
+        }
+        let t = leg_trade(c, a, h, space, m);
+        c = t.state;
+        m = t.count;
+        i += 1;
+    }
+    After { state: c, count: m }
+}
+
+fn cancel_leg_record(o: LegOrder) -> Record
+    ensures { λ r. ⌜ r ≡ cancelLegRecord o ⌝ }
+{
+    Record {
+        kind: Kind::LegOrderCancelled,
+        number: o.number,
+        place: 0,
+        side: o.side,
+        quantity: o.contracts,
+        level: 10000000,
+    }
+}
+
+// The cancel of all that is live of the leg order at slot i.
+pub fn cancel_order(b: State, i: usize, space: &mut [i32], n: usize) -> After
+    requires { ⌜ (i < 32) × All FitOrder (b .orders) ⌝ }
+    requires { ⌜ Room (now space) n (cancelOrder i b .records) ⌝ }
+    ensures { λ t. ⌜ Done (now (space .entry)) (now (space .exit)) n (t .count) (t .state) (cancelOrder i b) ⌝ }
+{
+    let o = b.orders[i];
+    if o.contracts == 0 {
+        return After { state: b, count: n };
+    }
+    let r = cancel_leg_record(o);
+    let m = push(space, n, r);
+    let c = cut_leg(b, i, o.contracts);
+    After { state: c, count: m }
+}
