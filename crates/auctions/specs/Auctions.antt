@@ -1,9 +1,9 @@
 -- The rules of auctions by what the code tests, and their records.
-use mathlib.Core.Path.{_≡_, refl, sym, ap}
+use mathlib.Core.Path.{_≡_, sym}
 use mathlib.Core.Bool.{Bool, true, false}
 use mathlib.Core.Logic.{_⊎_, inl, inr}
 use mathlib.Core.List.{List}
-use Prim.Native.Nat.{ℕ, zero, suc, _+_, _≤_, _<_}
+use Prim.Native.Nat.{ℕ, suc, _+_, _≤_, _<_}
 use native.Mathlib.Omega.{arith}
 use lib.Dec.{eqb}
 use lib.IntN.{ℤ}
@@ -15,7 +15,7 @@ use Rattle.rules.specs.declared.State.{State}
 use Rattle.rules.specs.declared.Record.{Record}
 use Rattle.rules.specs.declared.Kind.the-variants.{AuctionBegun, AuctionEnded}
 use Rattle.rules.specs.State.{noEntry, entryAt, strategyAt}
-use Rattle.rules.specs.Moves.{Moved, still, each}
+use Rattle.rules.specs.Moves.{still, each}
 use Rattle.rules.specs.Sides.{other}
 use Rattle.rules.specs.Fills.{cancelEntry}
 use Rattle.rules.specs.Auctions.{liveIn, putAuction, starterSlot, answer, lapses, cancelLapsed}

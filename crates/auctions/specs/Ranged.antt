@@ -1,22 +1,22 @@
 -- The ranges of running auctions, beside those of the rows. Every move keeps both.
-use mathlib.Core.Path.{_≡_, refl}
 use mathlib.Core.Bool.{Bool}
 use mathlib.Core.List.{List}
 use Prim.Native.Nat.{ℕ, _≤_}
 use native.Mathlib.Omega.{arith}
 use lib.IntN.{ℤ}
-use lib.ListN.{set}
 use Rattle.base.specs.Pick.{pick-all}
+use Rattle.base.specs.All.{all-at, all-map}
 use Rattle.rules.specs.declared.Strategy.{Strategy}
 use Rattle.rules.specs.declared.State.{State}
-use Rattle.rules.specs.State.{noStrategy, entryAt, strategyAt, withEntries, withOrders, withStrategies}
-use Rattle.rules.specs.Moves.{Moved, still, and-then}
+use Rattle.rules.specs.State.{noStrategy, strategyAt, withEntries, withOrders, withStrategies}
+use Rattle.rules.specs.Moves.{Moved, and-then}
 use Rattle.rules.specs.Fills.{cut, cutLeg, wholeFill, takeLegs, legFill, legTrade, cancelEntry, cancelOrder}
+use Rattle.rules.specs.Valid.{Sound}
 use Rattle.rules.specs.Auctions.{withAuction, putAuction, begin, close, answer}
 use Rattle.rules.proofs.Shrinks.{Shrinks, set-by, whole-shrinks, legs-shrinks, trade-shrinks, cancel-shrinks, cancelOrder-shrinks, begin-shrinks, close-shrinks, answer-shrinks}
 use Rattle.rules.proofs.Control.{Kept}
 use Rattle.records.specs.Done.{Done}
-use Rattle.ranges.specs.Fit.{Fit, fit-entry, fit-shrinks}
+use Rattle.ranges.specs.Fit.{Fit, fit-entry, fit-sound, fit-shrinks}
 
 -- an auction: the number of its starter, and the clock at its start
 pub record FitAuction (s : Strategy) : Type 0 where
@@ -85,6 +85,18 @@ ranged-kept = record {
   begins = λ b i r. ranged (begin-shrinks b i) (begin-auctions b i r) r;
   closes = λ b k r. ranged (close-shrinks b k) (close-auctions b k r) r;
   answers = λ b k side r. ranged (answer-shrinks b k side) (answer-auctions b k side r) r;
+}
+
+no-auction : FitAuction noStrategy
+no-auction = record { starter = omega arith; begun = omega arith }
+
+-- a sound state
+pub ranged-sound : {b : State} → Sound b → Ranged b
+ranged-sound s = record {
+  fit = fit-sound s;
+  auction = λ k. all-at {P = FitAuction} noStrategy no-auction (all-map (λ t f. record { starter = f .starter; begun = f .begun }) (s .strategies)) k;
+  clock = s .clock;
+  timer = s .timer .1;
 }
 
 -- the state that a function left

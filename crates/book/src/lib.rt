@@ -1,10 +1,15 @@
 // The book of complex orders. Its state is private, so that no other crate can make a book.
 ghost use mathlib.Core.Path.{_≡_};
 ghost use Rattle.rules.specs.State.{fresh, freeStrategy};
+ghost use Rattle.rules.specs.Lookups.{liveQuantity, shutLegs};
+ghost use Rattle.rules.specs.Valid.{Valid};
+ghost use Rattle.lookups.specs.Lookups.{bookDepth};
 ghost use Rattle.book.specs.Books.{First};
+use rules::Depth;
 use rules::Entry;
 use rules::Leg;
 use rules::LegOrder;
+use rules::Shut;
 use rules::State;
 use rules::Strategy;
 
@@ -85,5 +90,33 @@ impl Book {
         ensures { λ b. ⌜ First b ⌝ }
     {
         Book { state: fresh(5000) }
+    }
+
+    // The live quantity of a number, 0 if none.
+    pub fn live_quantity(self, number: u32) -> u32
+        requires { ⌜ Valid (self .state) ⌝ }
+        ensures { λ r. ⌜ r ≡ liveQuantity (self .state) number ⌝ }
+    {
+        let state = self.state;
+        lookups::live_quantity(state, number)
+    }
+
+    // The shut legs of a strategy: how many, and the lowest series.
+    pub fn shut_legs(self, strategy: u32) -> Shut
+        requires { ⌜ Valid (self .state) ⌝ }
+        ensures { λ r. ⌜ r ≡ shutLegs (self .state) strategy ⌝ }
+    {
+        let state = self.state;
+        lookups::shut_legs(state, strategy)
+    }
+
+    // The best price of a series and side, and its contracts.
+    pub fn depth(self, series: u32, side: u32) -> Depth
+        requires { ⌜ Valid (self .state) ⌝ }
+        ensures { λ r. ⌜ r ≡ bookDepth (self .state .orders) series side ⌝ }
+    {
+        let state = self.state;
+        let orders = state.orders;
+        lookups::depth(orders, series, side)
     }
 }

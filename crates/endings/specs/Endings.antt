@@ -1,19 +1,19 @@
 -- The rules of the end of an auction by what the code tests, and the ranges that they keep.
-use mathlib.Core.Path.{_≡_, refl, sym, _∙_, ap}
+use mathlib.Core.Path.{_≡_, ap}
 use mathlib.Core.Bool.{Bool, true, false, not}
 use mathlib.Core.List.{List}
-use Prim.Native.Nat.{ℕ, zero, suc, _+_, _≤_, _<_}
+use Prim.Native.Nat.{ℕ, _≤_}
 use native.Mathlib.Omega.{arith}
 use lib.Dec.{eqb}
 use lib.IntN.{ℤ}
 use lib.ListN.{length, List·getD-eq-default}
-use Rattle.base.specs.Pick.{pick, tests}
+use Rattle.base.specs.Pick.{tests}
 use Rattle.rules.specs.declared.Entry.{Entry}
 use Rattle.rules.specs.declared.State.{State}
 use Rattle.rules.specs.declared.Allocation.{Allocation}
 use Rattle.rules.specs.declared.Allocation.the-variants.{Shared, Numbered}
 use Rattle.rules.specs.State.{noEntry, entryAt, strategyAt}
-use Rattle.rules.specs.Moves.{Moved, still, each}
+use Rattle.rules.specs.Moves.{still, each}
 use Rattle.rules.specs.Strategies.{holds}
 use Rattle.rules.specs.Passes.{pass, turn}
 use Rattle.rules.specs.Auctions.{running, starterSlot, starterPass, later, laterPass, endUnfilled, endAuction, due, endDue, endHolding}

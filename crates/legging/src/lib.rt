@@ -4,7 +4,7 @@ ghost use Prim.Native.Nat.{_+_, _*_, _-_, _<_, _≤_};
 ghost use lib.ListN.{length, getD};
 ghost use Rattle.base.specs.All.{All};
 ghost use Rattle.base.specs.Walks.{joinN};
-ghost use Rattle.rules.specs.Fills.{legQuotas, orderRecord, orderRow, orderRows, orderRecords, cutOrder, cutOrders, takeLegs, legFill};
+ghost use Rattle.rules.specs.Fills.{legQuotas, orderRow, orderRows, orderRecords, cutOrder, cutOrders, takeLegs, legFill};
 ghost use Rattle.rules.specs.Passes.{readyNet};
 ghost use Rattle.rules.specs.Valid.{FitOrder};
 ghost use Rattle.records.specs.Space.{Wrote, Room};
@@ -22,10 +22,8 @@ use nets::ready;
 use nets::units_of;
 use quotas::in_turn;
 use records::After;
-use records::less;
 use records::push;
 use records::with_orders;
-use rules::Kind;
 use rules::Leg;
 use rules::LegOrder;
 use rules::Record;
@@ -33,6 +31,8 @@ use rules::State;
 use rules::Strategy;
 use sides::leg_side;
 use sides::other;
+use trades::cut_order;
+use trades::order_record;
 
 // The leg orders left, and the next free place for records.
 struct Cuts {
@@ -47,20 +47,6 @@ fn leg_quotas(os: [LegOrder; 32], side: u8, c: u32, price: u32, l: Leg) -> [u32;
     let on = other(leg_side(side, l));
     let xs = lots(os, l.series, on, price);
     in_turn(c, xs)
-}
-
-fn order_record(o: LegOrder, q: u32, price: u32) -> Record
-    requires { ⌜ price ≤ 99999 ⌝ }
-    ensures { λ r. ⌜ r ≡ orderRecord o q price ⌝ }
-{
-    Record {
-        kind: Kind::LegOrderFill,
-        number: o.number,
-        place: o.series,
-        side: o.side,
-        quantity: q,
-        level: 10000000 + price,
-    }
 }
 
 // No record of 0 contracts.
@@ -89,14 +75,6 @@ fn order_rows(space: &mut [i32], n: usize, os: [LegOrder; 32], qs: [u32; 32], pr
         i += 1;
     }
     m
-}
-
-fn cut_order(o: LegOrder, q: u32) -> LegOrder
-    ensures { λ p. ⌜ p ≡ cutOrder o q ⌝ }
-{
-    let mut p = o;
-    p.contracts = less(o.contracts, q);
-    p
 }
 
 // The leg orders with quotas taken from them.

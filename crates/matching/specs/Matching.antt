@@ -1,8 +1,8 @@
 -- The rules of the match and of the passes by legs only, by what the code tests, and the ranges that they keep.
-use mathlib.Core.Path.{_≡_, refl, sym, _∙_, ap}
-use mathlib.Core.Bool.{Bool, true, false}
+use mathlib.Core.Path.{_≡_, refl, ap}
+use mathlib.Core.Bool.{true, false}
 use mathlib.Core.List.{List}
-use Prim.Native.Nat.{ℕ, zero, suc, _+_, _-_, _^_, _≤_, _<_, min}
+use Prim.Native.Nat.{ℕ, _-_, _^_, _≤_, _<_, min}
 use native.Mathlib.Omega.{arith}
 use borrow.Author.Tests.{ltb-true, lt-ltb, le-ltb}
 use lib.Bits.{bitAnd}
@@ -10,16 +10,14 @@ use lib.Dec.{eqb, ltb}
 use lib.IntN.{ℤ}
 use Rattle.base.specs.Pick.{pick, pick-all, pick-yes, tests}
 use Rattle.base.specs.SetLaws.{minus-and}
-use Rattle.base.specs.Walks.{walk}
-use Rattle.rules.specs.declared.Entry.{Entry}
 use Rattle.rules.specs.declared.State.{State}
 use Rattle.rules.specs.declared.Allocation.the-variants.{LegsOnly}
 use Rattle.rules.specs.State.{entryAt, strategyAt}
-use Rattle.rules.specs.Moves.{Moved, still, each}
+use Rattle.rules.specs.Moves.{still, each}
 use Rattle.rules.specs.Strategies.{shutSet, allOpen, holds}
 use Rattle.rules.specs.Fills.{wholeFill}
 use Rattle.rules.specs.Passes.{pass}
-use Rattle.rules.specs.Auctions.{running, dayOrder, legPass, legPassesIn, ahead, bestStep, bestSlot, crossed, matchOnce, matchAll, matchIn}
+use Rattle.rules.specs.Auctions.{running, dayOrder, legPass, legPassesIn, ahead, bestSlot, crossed, matchOnce, matchAll, matchIn}
 use Rattle.rules.proofs.Control.{each-kept, legPass-kept, legPassesIn-kept, matchOnce-kept, shrinks-kept}
 use Rattle.records.specs.Done.{Done}
 use Rattle.ranges.specs.Fit.{Fit, fit-entry, fit-done}

@@ -2,13 +2,13 @@
 use mathlib.Core.Path.{_≡_, refl}
 use mathlib.Core.Bool.{Bool, true, false}
 use mathlib.Core.List.{List}
-use Prim.Native.Nat.{ℕ, zero, suc, _+_, _-_, _≤_, _<_}
+use Prim.Native.Nat.{ℕ, zero, suc, _+_, _-_, _≤_}
 use native.Mathlib.Nat.{zero-add, suc-add}
 use native.Mathlib.Omega.{arith}
 use borrow.Author.Tests.{eqb-true, eqb-false}
 use lib.Dec.{eqb}
 use lib.IntN.{ℤ}
-use Rattle.base.specs.Pick.{pick, pick-all}
+use Rattle.base.specs.Pick.{pick-all}
 use Rattle.base.specs.All.{All}
 use Rattle.rules.specs.declared.Entry.{Entry}
 use Rattle.rules.specs.declared.State.{State}
@@ -17,7 +17,7 @@ use Rattle.rules.specs.declared.Allocation.the-variants.{LegsOnly, Shared, Numb
 use Rattle.rules.specs.declared.Turn.{Turn}
 use Rattle.rules.specs.declared.Turn.the-variants.{Stop, ByLegs, AtLimit}
 use Rattle.rules.specs.State.{entryAt}
-use Rattle.rules.specs.Moves.{Moved, still, and-then, each}
+use Rattle.rules.specs.Moves.{Moved, still, each}
 use Rattle.rules.specs.Passes.{bestOpposite, opposite, turnAt, turnOf, take, turn}
 use Rattle.rules.specs.Valid.{FitEntry}
 use Rattle.rules.proofs.Control.{each-kept, turn-kept, shrinks-kept}

@@ -17,7 +17,7 @@ use Rattle.rules.specs.declared.Entry.{Entry}
 use Rattle.rules.specs.declared.LegOrder.{LegOrder}
 use Rattle.rules.specs.declared.State.{State}
 use Rattle.rules.specs.State.{entryAt, orderAt, strategyAt}
-use Rattle.rules.specs.Strategies.{twice, lopsided, held}
+use Rattle.rules.specs.Strategies.{twice, overThreefold, held}
 use Rattle.rules.specs.Auctions.{running}
 use Rattle.rules.specs.Events.{live, liveOrder, oldSweep}
 use Rattle.rules.specs.Given.{legsGiven, strategyGiven, sweepGiven}
@@ -43,7 +43,7 @@ undefined b k = leb (b .defined) k
 
 -- 5: "series twice, or largest ratio over 3 × smallest"
 unfoldable pub illFormed : GivenStrategy → Bool
-illFormed e = pick (twice (legsGiven e) (e .count)) true (lopsided (legsGiven e) (e .count))
+illFormed e = pick (twice (legsGiven e) (e .count)) true (overThreefold (legsGiven e) (e .count))
 
 -- 6: "series of a leg order not open"
 abbrev pub notOpen : State → ℕ → Bool

@@ -82,8 +82,8 @@ largestStep legs i m = max (ratioOf legs i) m
 abbrev pub smallestStep : List Leg → ℕ → ℕ → ℕ
 smallestStep legs i m = min (ratioOf legs i) m
 
-unfoldable pub lopsided : List Leg → ℕ → Bool
-lopsided legs count = ltb (3 * walk (smallestStep legs) 12 count) (walk (largestStep legs) 0 count)
+unfoldable pub overThreefold : List Leg → ℕ → Bool
+overThreefold legs count = ltb (3 * walk (smallestStep legs) 12 count) (walk (largestStep legs) 0 count)
 
 -- "The comparison with a held strategy leaves at the first leg that differs"
 unfoldable pub sameLeg : Leg → Leg → Bool

@@ -3,7 +3,7 @@ ghost use mathlib.Core.Path.{_≡_};
 ghost use Prim.Native.Nat.{_*_, _/_, _%_, _<_, _≤_, max};
 ghost use Rattle.base.specs.Gcd.{gcd};
 ghost use Rattle.base.specs.Walks.{walk};
-ghost use Rattle.rules.specs.Strategies.{divisor, lowestTerms, placeOf, twice, largestStep, smallestStep, lopsided};
+ghost use Rattle.rules.specs.Strategies.{divisor, lowestTerms, placeOf, twice, largestStep, smallestStep, overThreefold};
 ghost use Rattle.terms.specs.Terms.{Given};
 use records::least;
 use rules::Leg;
@@ -126,9 +126,9 @@ fn smallest(legs: [Leg; 6], count: usize) -> u32
 }
 
 // Whether the largest ratio is over 3 × the smallest.
-pub fn lopsided(legs: [Leg; 6], count: usize) -> bool
+pub fn over_threefold(legs: [Leg; 6], count: usize) -> bool
     requires { ⌜ count ≤ 6 ⌝ }
-    ensures { λ r. ⌜ r ≡ lopsided legs count ⌝ }
+    ensures { λ r. ⌜ r ≡ overThreefold legs count ⌝ }
 {
     let small = smallest(legs, count);
     let large = largest(legs, count);

@@ -2,7 +2,6 @@ use Rattle.endings.specs.Endings.{ranged-starter, ranged-later}
 use Rattle.records.specs.Done.{done-then, room-then, room-after}
 use Rattle.rules.specs.Auctions.{endAuction}
 use borrow.Author.Needs.{needs}
-use native.Mathlib.Omega.{arith}
 use Rattle.endings.proofs.end_auction.Statement.{statement}
 use Rattle.endings.proofs.end_auction.Tie as tie
 use Rattle.endings.proofs.end_auction.Reads as reads

@@ -5,7 +5,6 @@ use Rattle.rules.specs.Moves.{each}
 use Rattle.records.specs.Done.{Done, each-first, each-next, room-each, done-length}
 use Rattle.rules.specs.Auctions.{laterPass}
 use Rattle.endings.specs.Endings.{fit-later}
-use borrow.Author.Needs.{needs}
 use Rattle.endings.proofs.later_passes.Statement.{statement}
 use Rattle.endings.proofs.later_passes.Tie as tie
 use Rattle.endings.proofs.later_passes.Reads as reads

@@ -1,4 +1,3 @@
-use borrow.Author.Needs.{needs}
 use Rattle.endings.proofs.no.Statement.{statement}
 use Rattle.endings.proofs.no.Tie as tie
 use Rattle.endings.proofs.no.Reads as reads

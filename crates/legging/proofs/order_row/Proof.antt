@@ -6,7 +6,7 @@ use Rattle.legging.proofs.order_row.Tie as tie
 use Rattle.legging.proofs.order_row.Reads as reads
 use Rattle.legging.proofs.order_row.Lts as lts
 use Rattle.records.proofs.push.Reads as push-reads
-use Rattle.legging.proofs.order_record.Reads as order-record-reads
+use Rattle.trades.proofs.order_record.Reads as order-record-reads
 
 -- src/lib.rt:57:9
 returns : tie.Need-returns

@@ -4,7 +4,6 @@ use native.Mathlib.Omega.{arith}
 use Rattle.base.specs.Walks.{walk, walk-first, walk-next}
 use Rattle.rules.specs.Auctions.{bestStep, bestSlot}
 use Rattle.matching.specs.Matching.{best-most}
-use borrow.Author.Needs.{needs}
 use Rattle.matching.proofs.best_slot.Statement.{statement}
 use Rattle.matching.proofs.best_slot.Tie as tie
 use Rattle.matching.proofs.best_slot.Reads as reads

@@ -5,7 +5,6 @@ use Rattle.rules.specs.Moves.{each}
 use Rattle.records.specs.Done.{Done, each-first, each-next, room-each, done-length}
 use Rattle.rules.specs.Auctions.{legPassesIn, legPasses}
 use Rattle.matching.specs.Matching.{fit-strategies}
-use borrow.Author.Needs.{needs}
 use Rattle.matching.proofs.leg_passes.Statement.{statement}
 use Rattle.matching.proofs.leg_passes.Tie as tie
 use Rattle.matching.proofs.leg_passes.Reads as reads

@@ -5,7 +5,6 @@ use Rattle.rules.specs.Moves.{each}
 use Rattle.records.specs.Done.{Done, each-first, each-next, room-each, done-length}
 use Rattle.rules.specs.Auctions.{legPass}
 use Rattle.matching.specs.Matching.{fit-passes}
-use borrow.Author.Needs.{needs}
 use Rattle.matching.proofs.leg_passes_of.Statement.{statement}
 use Rattle.matching.proofs.leg_passes_of.Tie as tie
 use Rattle.matching.proofs.leg_passes_of.Reads as reads

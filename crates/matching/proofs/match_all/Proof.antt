@@ -6,7 +6,6 @@ use Rattle.records.specs.Done.{Done, each-first, each-next, room-each, done-len
 use Rattle.rules.specs.Auctions.{matchOnce, matchAll}
 use Rattle.records.specs.Done.{done-of, room-of}
 use Rattle.matching.specs.Matching.{match-turn, fit-matches}
-use borrow.Author.Needs.{needs}
 use Rattle.matching.proofs.match_all.Statement.{statement}
 use Rattle.matching.proofs.match_all.Tie as tie
 use Rattle.matching.proofs.match_all.Reads as reads

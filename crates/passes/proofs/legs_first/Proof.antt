@@ -1,5 +1,5 @@
 use Rattle.rules.specs.Passes.{legsFirst}
-use Rattle.base.specs.Pick.{tests, told}
+use Rattle.base.specs.Pick.{tests}
 use borrow.Author.Needs.{needs}
 use Rattle.passes.proofs.legs_first.Statement.{statement}
 use Rattle.passes.proofs.legs_first.Tie as tie

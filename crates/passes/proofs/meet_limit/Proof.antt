@@ -1,7 +1,7 @@
 use Rattle.rules.specs.Passes.{meetLimit}
 use Rattle.rules.specs.declared.Allocation.{Allocation}
 use Rattle.records.specs.Done.{done-still, done-of, room-of}
-use mathlib.Core.Path.{sym, ap, _∙_}
+use mathlib.Core.Path.{ap}
 use borrow.Author.Needs.{needs}
 use Rattle.passes.proofs.meet_limit.Statement.{statement}
 use Rattle.passes.proofs.meet_limit.Tie as tie

@@ -6,7 +6,7 @@ use Rattle.passes.specs.Passes.{fit-turns, turn-most, pass-stops}
 use Rattle.records.specs.Done.{Done, each-first, each-next, room-each, done-length, done-of}
 use Rattle.base.specs.Pick.{told}
 use Prim.Native.Nat.{_≤_, _-_}
-use mathlib.Core.Path.{_≡_, sym, _∙_, ap}
+use mathlib.Core.Path.{_≡_}
 use borrow.Author.Needs.{needs}
 use native.Mathlib.Omega.{arith}
 use Rattle.passes.proofs.pass.Statement.{statement}

@@ -3,7 +3,7 @@ use Rattle.passes.specs.Passes.{turnLevel}
 use Rattle.rules.specs.declared.Turn.{Turn}
 use Rattle.records.specs.Done.{done-still, done-of, room-of}
 use Prim.Native.Nat.{_≤_}
-use mathlib.Core.Path.{sym, ap, _∙_, subst}
+use mathlib.Core.Path.{ap, subst}
 use borrow.Author.Needs.{needs}
 use Rattle.passes.proofs.take.Statement.{statement}
 use Rattle.passes.proofs.take.Tie as tie

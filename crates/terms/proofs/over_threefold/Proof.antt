@@ -1,11 +1,11 @@
 use Rattle.terms.specs.Terms.{smallest-most}
-use Rattle.rules.specs.Strategies.{lopsided}
+use Rattle.rules.specs.Strategies.{overThreefold}
 use native.Mathlib.Omega.{arith}
 use borrow.Author.Needs.{needs}
-use Rattle.terms.proofs.lopsided.Statement.{statement}
-use Rattle.terms.proofs.lopsided.Tie as tie
-use Rattle.terms.proofs.lopsided.Reads as reads
-use Rattle.terms.proofs.lopsided.Lts as lts
+use Rattle.terms.proofs.over_threefold.Statement.{statement}
+use Rattle.terms.proofs.over_threefold.Tie as tie
+use Rattle.terms.proofs.over_threefold.Reads as reads
+use Rattle.terms.proofs.over_threefold.Lts as lts
 use Rattle.terms.proofs.largest.Reads as largest-reads
 use Rattle.terms.proofs.smallest.Reads as smallest-reads
 
@@ -23,8 +23,8 @@ mul-result c = rw (c .before .smallest .ensures) (omega (arith, smallest-most (c
 
 -- src/lib.rt:129:1
 returns : tie.Need-returns
-unfolding lopsided
+unfolding overThreefold
 returns c = rw (c .before .smallest .ensures, c .largest .ensures)
 
-pub lopsided-spec : {M : Type 1} → statement M
-lopsided-spec = tie.close (tie.spec smallest-requires largest-requires mul-result returns)
+pub over-threefold-spec : {M : Type 1} → statement M
+over-threefold-spec = tie.close (tie.spec smallest-requires largest-requires mul-result returns)
