@@ -31,6 +31,7 @@ running b k = not (eqb (strategyAt b k .starter) 0)
 abbrev pub withAuction : Strategy → ℕ → ℕ → Bool → Strategy
 withAuction s n t a = record { legs = s .legs; count = s .count; series = s .series; starter = n; begun = t; answered = a }
 
+-- the state with the auction of strategy k changed so
 unfoldable pub putAuction : State → ℕ → ℕ → ℕ → Bool → State
 putAuction b k n t a = withStrategies b (set (b .strategies) k (withAuction (strategyAt b k) n t a)) (b .defined)
 
@@ -54,6 +55,7 @@ close k b = record {
 abbrev pub isNumber : State → ℕ → ℕ → ℕ → Bool
 isNumber b k n i = pick (liveIn k (entryAt b i)) (eqb (entryAt b i .number) n) false
 
+-- the slot of the running auction's starter
 unfoldable pub starterSlot : State → ℕ → ℕ
 starterSlot b k = firstN (isNumber b k (strategyAt b k .starter)) 32
 
@@ -67,6 +69,7 @@ answer k side b =
 unfoldable pub lapses : ℕ → Entry → Bool
 lapses k e = pick (liveIn k e) (pick (eqb (e .life) 1) true (pick (eqb (e .life) 2) true (eqb (e .life) 4))) false
 
+-- .. by number: the one at slot i, if it lapses
 unfoldable pub cancelLapsed : ℕ → ℕ → State → Moved
 cancelLapsed k i b = pick (lapses k (entryAt b i)) (cancelEntry i b) (still b)
 
@@ -82,9 +85,11 @@ starterPass k b = pass Shared (not (strategyAt b k .answered)) (starterSlot b k)
 unfoldable pub later : ℕ → ℕ → Entry → Bool
 later k n e = pick (liveIn k e) (ltb n (e .number)) false
 
+-- .. the pass of the one at slot i
 unfoldable pub laterPass : ℕ → ℕ → ℕ → State → Moved
 laterPass k n i b = pick (later k n (entryAt b i)) (pass Numbered (not (eqb (entryAt b i .life) 4)) i b) (still b)
 
+-- "The starter gets a shared pass ..", "Then each other entry ..", then the cancels and record 5
 unfoldable pub endAuction : ℕ → State → Moved
 endAuction k b =
     let n : ℕ = strategyAt b k .starter in
@@ -94,6 +99,7 @@ endAuction k b =
 unfoldable pub due : State → ℕ → Bool
 due b k = pick (running b k) (leb (strategyAt b k .begun + b .timer) (b .clock)) false
 
+-- .. the one of strategy k, if it is due
 unfoldable pub endDue : ℕ → State → Moved
 endDue k b = pick (due b k) (endAuction k b) (still b)
 
@@ -105,13 +111,16 @@ endHolding s k b = pick (running b k) (pick (holds b s k) (endUnfilled k b) (sti
 unfoldable pub dayOrder : ℕ → Entry → Bool
 dayOrder k e = pick (liveIn k e) (eqb (e .life) 0) false
 
+-- .. the pass of the day order at slot i
 unfoldable pub legPass : ℕ → ℕ → State → Moved
 legPass k i b = pick (dayOrder k (entryAt b i)) (pass LegsOnly true i b) (still b)
 
+-- .. in strategy k: holding the series, all open, without an auction
 unfoldable pub legPassesIn : ℕ → ℕ → State → Moved
 legPassesIn s k b =
     pick (holds b s k) (pick (allOpen b k) (pick (running b k) (still b) (each (legPass k) 32 b)) (still b)) (still b)
 
+-- .. by strategy
 unfoldable pub legPasses : ℕ → State → Moved
 legPasses s b = each (legPassesIn s) 16 b
 
@@ -121,9 +130,11 @@ ahead b k side i best =
     let e : Entry = entryAt b i in
     pick (liveIn k e) (pick (eqb (e .side) side) (pick (eqb best 32) true (better (other side) (e .level) (entryAt b best .level))) false) false
 
+-- one slot more: the best so far, or this one
 abbrev pub bestStep : State → ℕ → ℕ → ℕ → ℕ → ℕ
 bestStep b k side i best = pick (ahead b k side i best) i best
 
+-- the best of the 32 slots: by price, then by slot, which is by number
 unfoldable pub bestSlot : State → ℕ → ℕ → ℕ
 bestSlot b k side = walk (bestStep b k side) 32 32
 

@@ -24,13 +24,16 @@ use Rattle.rules.specs.Auctions.{running, begin, close, answer, endDue, 
 unfoldable pub live : Entry → Bool
 live e = not (eqb (e .units) 0)
 
+-- the same of a leg order
 unfoldable pub liveOrder : LegOrder → Bool
 liveOrder o = not (eqb (o .contracts) 0)
 
+-- those of a table that pass a test, in their order
 unfoldable pub keep : {A : Type 0} → (A → Bool) → List A → List A
 keep test [] = []
 keep test (x ∷ xs) = pick (test x) (x ∷ keep test xs) (keep test xs)
 
+-- "A finished order's slot is free again": 32 rows, the live ones and one more behind them
 unfoldable pub behind : {A : Type 0} → (A → Bool) → A → A → List A → List A
 behind test none x xs = take 32 (keep test xs ++ (x ∷ replicate 32 none))
 
@@ -38,12 +41,15 @@ behind test none x xs = take 32 (keep test xs ++ (x ∷ replicate 32 none))
 unfoldable pub enter : Entry → State → State
 enter e b = withLast (withEntries b (behind live noEntry e (b .entries))) (e .number)
 
+-- the same of a leg order
 unfoldable pub enterOrder : LegOrder → State → State
 enterOrder o b = withLast (withOrders b (behind liveOrder noOrder o (b .orders))) (o .number)
 
+-- the slot behind the live entries
 unfoldable pub freeSlot : State → ℕ
 freeSlot b = length (keep live (b .entries))
 
+-- the slot behind the live leg orders
 unfoldable pub freeOrderSlot : State → ℕ
 freeOrderSlot b = length (keep liveOrder (b .orders))
 
@@ -55,6 +61,7 @@ restOrCancel i b = pick (eqb (entryAt b i .life) 0) (still b) (cancelEntry i b)
 unfoldable pub mayStart : Entry → Bool
 mayStart e = pick (pick (eqb (e .class) 1) true (eqb (e .class) 2)) (pick (eqb (e .life) 0) true (eqb (e .life) 1)) false
 
+-- .. "buy above bid net, sell below offer net"; an unknown net starts none
 unfoldable pub starts : State → Entry → Bool
 starts b e =
     let net : ℕ = legNet b (other (e .side)) (e .strategy) in
@@ -66,9 +73,11 @@ waits i b =
     let e : Entry = entryAt b i in
     pick (eqb (e .life) 3) (cancelEntry i b) (still (answer (e .strategy) (e .side) b))
 
+-- "Else a shared pass; then day rests, others are cancelled."
 unfoldable pub trades : ℕ → State → Moved
 trades i b = and-then (pass Shared true i b) (restOrCancel i)
 
+-- "if a series is shut ..", "If an auction runs ..", "Otherwise .. starts an auction ..", "Else a shared pass"
 unfoldable pub arrive : ℕ → State → Moved
 arrive i b =
     let e : Entry = entryAt b i in
@@ -76,6 +85,7 @@ arrive i b =
     (pick (running b (e .strategy)) (waits i b) (pick (starts b e) (begin i b) (trades i b)))
     (restOrCancel i b)
 
+-- the order enters, then does that
 unfoldable pub onOrder : Entry → State → Moved
 onOrder e b = arrive (freeSlot b) (enter e b)
 
@@ -90,9 +100,11 @@ sameSweep e f =
     false)
     false
 
+-- the entry at slot i is such a sweep
 abbrev pub sameSweepAt : State → Entry → ℕ → Bool
 sameSweepAt b e i = sameSweep e (entryAt b i)
 
+-- the slot of the old one, 32 where there is none
 unfoldable pub oldSweep : State → Entry → ℕ
 oldSweep b e = firstN (sameSweepAt b e) 32
 
@@ -100,6 +112,7 @@ oldSweep b e = firstN (sameSweepAt b e) 32
 unfoldable pub enterSweep : Entry → State → Moved
 enterSweep e b = pick (live e) (still (answer (e .strategy) (e .side) (enter e b))) (still b)
 
+-- the cancel first, then the new one
 unfoldable pub onSweep : Entry → State → Moved
 onSweep e b = and-then (cancelEntry (oldSweep b e) b) (enterSweep e)
 
@@ -107,13 +120,16 @@ onSweep e b = and-then (cancelEntry (oldSweep b e) b) (enterSweep e)
 unfoldable pub meetsOrder : LegOrder → LegOrder → Bool
 meetsOrder o p = pick (stands (o .series) (other (o .side)) p) (meets (o .side) (o .price) (p .price)) false
 
+-- whether the leg order at slot i goes before the best so far: it meets the price and is strictly better, or the first
 unfoldable pub aheadOrder : State → LegOrder → ℕ → ℕ → Bool
 aheadOrder b o i best =
     pick (meetsOrder o (orderAt b i)) (pick (eqb best 32) true (better (o .side) (orderAt b i .price) (orderAt b best .price))) false
 
+-- one slot more: the best so far, or this one
 abbrev pub bestOrderStep : State → LegOrder → ℕ → ℕ → ℕ
 bestOrderStep b o i best = pick (aheadOrder b o i best) i best
 
+-- the best of the 32 slots: by price, then by slot, which is by number
 unfoldable pub bestOrder : State → LegOrder → ℕ
 bestOrder b o = walk (bestOrderStep b o) 32 32
 
@@ -131,6 +147,7 @@ tradeAll a b = each (tradeOnce a) 32 b
 unfoldable pub ifRests : ℕ → ℕ → State → Moved
 ifRests s a b = pick (eqb (orderAt b a .contracts) 0) (still b) (legPasses s b)
 
+-- the leg order enters, trades, and may rest
 unfoldable pub onLegOrder : LegOrder → State → Moved
 onLegOrder o b =
     let a : ℕ = freeOrderSlot b in
@@ -140,9 +157,11 @@ onLegOrder o b =
 unfoldable pub cancelEntryOf : ℕ → ℕ → State → Moved
 cancelEntryOf n i b = pick (eqb (entryAt b i .number) n) (cancelEntry i b) (still b)
 
+-- the same of the leg order at slot i
 unfoldable pub cancelOrderOf : ℕ → ℕ → State → Moved
 cancelOrderOf n i b = pick (eqb (orderAt b i .number) n) (cancelOrder i b) (still b)
 
+-- whichever table holds the number
 unfoldable pub cancelNumber : ℕ → State → Moved
 cancelNumber n b = and-then (each (cancelEntryOf n) 32 b) (each (cancelOrderOf n) 32)
 
@@ -158,6 +177,7 @@ shut s b = each (endHolding s) 16 (withOpened b (b .opened - 2 ^ s))
 unfoldable pub reopen : ℕ → State → Moved
 reopen s b = and-then (each (matchIn s) 16 (withOpened b (b .opened + 2 ^ s))) (legPasses s)
 
+-- "No change of state does nothing."
 unfoldable pub onSeries : ℕ → ℕ → State → Moved
 onSeries s state b =
     pick (has (b .opened) s)
@@ -172,20 +192,26 @@ closeRunning k b = pick (running b k) (close k b) (still b)
 unfoldable pub lower : ℕ → ℕ → ℕ
 lower n m = pick (eqb n 0) m (pick (ltb m n) m n)
 
+-- .. looking at the entry at slot i
 abbrev pub lowerEntry : State → ℕ → ℕ → ℕ
 lowerEntry b i n = pick (live (entryAt b i)) (lower n (entryAt b i .number)) n
 
+-- .. looking at the leg order at slot i
 abbrev pub lowerOrder : State → ℕ → ℕ → ℕ
 lowerOrder b i n = pick (liveOrder (orderAt b i)) (lower n (orderAt b i .number)) n
 
+-- .. over both tables
 unfoldable pub lowestLive : State → ℕ
 lowestLive b = walk (lowerOrder b) (walk (lowerEntry b) 0 32) 32
 
+-- "3 by number": one cancel, of the lowest live number
 unfoldable pub cancelLowest : ℕ → State → Moved
 cancelLowest i b = cancelNumber (lowestLive b) b
 
+-- "then a fresh book with the new timer"
 unfoldable pub restart : ℕ → State → Moved
 restart timer b = still (fresh timer)
 
+-- all three, one after the other; 64 rows are the most that can be live
 unfoldable pub onDayEnd : ℕ → State → Moved
 onDayEnd timer b = and-then (each closeRunning 16 b) (λ c. and-then (each cancelLowest 64 c) (restart timer))

@@ -101,6 +101,7 @@ unitsAtTwo c =
     (record { number = 1; member = 7; series = 0; side = 1; contracts = c; price = 300 } ∷ replicate 31 State.noOrder) 0 300
     (record { series = 0; side = 0; ratio = 2 })
 
+-- the table: "To be proved of the rules"
 abbrev pub rows : List Row
 rows =
     -- "ratios 2:4 give 1:2; 2:6 stands, 1:4 is refused 5"

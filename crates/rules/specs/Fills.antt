@@ -26,6 +26,7 @@ wholeRecord e q level = record { kind = WholeFill; number = e .number; place = e
 abbrev pub legRecord : Entry → ℕ → ℕ → Leg → Record
 legRecord e q price l = record { kind = LegFill; number = e .number; place = l .series; side = legSide (e .side) l; quantity = l .ratio * q; level = 10_000_000 + price }
 
+-- .. of the leg at place i
 abbrev pub legRecordAt : Entry → List Leg → ℕ → List ℕ → ℕ → List Record
 legRecordAt e legs q ps i = legRecord e q (slot ps i) (getD legs i noLeg) ∷ []
 
@@ -37,12 +38,15 @@ partyRecords e s q level ps = (wholeRecord e q level ∷ []) ++ joinN (legRecord
 abbrev pub cutEntry : Entry → ℕ → Entry
 cutEntry e q = record { number = e .number; member = e .member; strategy = e .strategy; side = e .side; class = e .class; life = e .life; units = e .units - q; level = e .level }
 
+-- q contracts taken from a leg order
 abbrev pub cutOrder : LegOrder → ℕ → LegOrder
 cutOrder o q = record { number = o .number; member = o .member; series = o .series; side = o .side; contracts = o .contracts - q; price = o .price }
 
+-- the state with q units taken from the entry at slot i
 unfoldable pub cut : State → ℕ → ℕ → State
 cut b i q = withEntries b (set (b .entries) i (cutEntry (entryAt b i) q))
 
+-- the state with q contracts taken from the leg order at slot i
 unfoldable pub cutLeg : State → ℕ → ℕ → State
 cutLeg b i q = withOrders b (set (b .orders) i (cutOrder (orderAt b i) q))
 
@@ -68,9 +72,11 @@ legQuotas os side c price l = inTurn c (lots os (l .series) (other (legSide side
 abbrev pub orderRecord : LegOrder → ℕ → ℕ → Record
 orderRecord o q price = record { kind = LegOrderFill; number = o .number; place = o .series; side = o .side; quantity = q; level = 10_000_000 + price }
 
+-- "No fill record has quantity 0."
 unfoldable pub orderRow : LegOrder → ℕ → ℕ → List Record
 orderRow o q price = pick (eqb q 0) [] (orderRecord o q price ∷ [])
 
+-- .. of the leg order at slot i, for its quota
 abbrev pub orderRows : List LegOrder → List ℕ → ℕ → ℕ → List Record
 orderRows os qs price i = orderRow (getD os i noOrder) (slot qs i) price
 
@@ -78,6 +84,7 @@ orderRows os qs price i = orderRow (getD os i noOrder) (slot qs i) price
 abbrev pub cutAt : List LegOrder → List ℕ → ℕ → LegOrder
 cutAt os qs i = cutOrder (getD os i noOrder) (slot qs i)
 
+-- all 32 of them
 unfoldable pub cutOrders : List LegOrder → List ℕ → List LegOrder
 cutOrders os qs = table (cutAt os qs) 32
 
@@ -85,12 +92,15 @@ cutOrders os qs = table (cutAt os qs) 32
 abbrev pub quotasAt : List LegOrder → ℕ → ℕ → List Leg → List ℕ → ℕ → List ℕ
 quotasAt os side q legs ps i = legQuotas os side (getD legs i noLeg .ratio * q) (slot ps i) (getD legs i noLeg)
 
+-- the leg orders' records of the leg at place i, by number
 abbrev pub orderRecords : List LegOrder → ℕ → ℕ → List Leg → List ℕ → ℕ → List Record
 orderRecords os side q legs ps i = joinN (orderRows os (quotasAt os side q legs ps i) (slot ps i)) 32
 
+-- the leg orders after the leg at place i
 abbrev pub cutStep : List LegOrder → ℕ → ℕ → List Leg → List ℕ → ℕ → List LegOrder → List LegOrder
 cutStep os side q legs ps i rows = cutOrders rows (quotasAt os side q legs ps i)
 
+-- .. after each leg
 unfoldable pub cutByLegs : List LegOrder → ℕ → ℕ → List Leg → List ℕ → ℕ → List LegOrder
 cutByLegs os side q legs ps count = walk (cutStep os side q legs ps) os count
 
@@ -123,14 +133,17 @@ legTrade b a h =
 abbrev pub cancelRecord : Entry → Record
 cancelRecord e = record { kind = Cancelled; number = e .number; place = 0; side = e .side; quantity = e .units; level = 10_000_000 }
 
+-- the same of a leg order
 abbrev pub cancelLegRecord : LegOrder → Record
 cancelLegRecord o = record { kind = LegOrderCancelled; number = o .number; place = 0; side = o .side; quantity = o .contracts; level = 10_000_000 }
 
+-- CANCELLED: all that the entry at slot i has; nothing where it has nothing
 unfoldable pub cancelEntry : ℕ → State → Moved
 cancelEntry i b =
     let e : Entry = entryAt b i in
     pick (eqb (e .units) 0) (still b) (record { state = cut b i (e .units); records = cancelRecord e ∷ [] })
 
+-- the same of the leg order at slot i
 unfoldable pub cancelOrder : ℕ → State → Moved
 cancelOrder i b =
     let o : LegOrder = orderAt b i in

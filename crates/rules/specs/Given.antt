@@ -13,6 +13,7 @@ use Rattle.rules.specs.declared.LegOrder.{LegOrder}
 use Rattle.rules.specs.declared.State.{State}
 use Rattle.rules.specs.Strategies.{defined}
 
+-- one leg as the event has it
 abbrev pub legGiven : GivenLeg → Leg
 legGiven l = record { series = l .series; side = l .side; ratio = l .ratio }
 
@@ -22,6 +23,7 @@ legsGiven e =
     legGiven (e .legs .0)
     ∷ (legGiven (e .legs .1) ∷ (legGiven (e .legs .2) ∷ (legGiven (e .legs .3) ∷ (legGiven (e .legs .4) ∷ (legGiven (e .legs .5) ∷ [])))))
 
+-- the strategy that a definition gives
 unfoldable pub strategyGiven : GivenStrategy → Strategy
 strategyGiven e = defined (legsGiven e) (e .count)
 
@@ -29,6 +31,7 @@ strategyGiven e = defined (legsGiven e) (e .count)
 abbrev pub next : State → ℕ
 next b = b .last + 1
 
+-- a complex order as it enters
 unfoldable pub orderGiven : State → GivenOrder → Entry
 orderGiven b e = record {
   number = next b;
@@ -54,6 +57,7 @@ sweepGiven b e = record {
   level = e .level;
 }
 
+-- a leg order as it enters
 unfoldable pub legOrderGiven : State → GivenLegOrder → LegOrder
 legOrderGiven b e = record {
   number = next b;

@@ -24,9 +24,11 @@ use Rattle.rules.specs.Refusals.{undefined}
 abbrev pub unitsOfNumber : State → ℕ → ℕ → ℕ
 unitsOfNumber b n i = pick (eqb (entryAt b i .number) n) (entryAt b i .units) 0
 
+-- the contracts of the leg order at slot i, if it has that number
 abbrev pub contractsOfNumber : State → ℕ → ℕ → ℕ
 contractsOfNumber b n i = pick (eqb (orderAt b i .number) n) (orderAt b i .contracts) 0
 
+-- a number stands in one row at most
 unfoldable pub liveQuantity : State → ℕ → ℕ
 liveQuantity b n = sumN (unitsOfNumber b n) 32 + sumN (contractsOfNumber b n) 32
 
@@ -44,6 +46,7 @@ depthOf os s side =
 abbrev pub noOrderEntry : OrderEntry
 noOrderEntry = record { series = 0; side = 0; contracts = 0; price = 0 }
 
+-- an order entry as a leg order
 abbrev pub asOrder : OrderEntry → LegOrder
 asOrder e = record { number = 0; member = 0; series = e .series; side = e .side; contracts = e .contracts; price = e .price }
 
@@ -56,6 +59,7 @@ wellFormed e =
     (pick (ltb 9999 (e .contracts)) false
     (pick (eqb (e .price) 0) false (leb (e .price) 99_999)))))
 
+-- .. of the entry at place i
 abbrev pub wellFormedAt : List OrderEntry → ℕ → Bool
 wellFormedAt row i = wellFormed (getD row i noOrderEntry)
 
@@ -73,15 +77,18 @@ depthNumber (D.Best price contracts) = 0
 depthNumber D.Empty = 0
 depthNumber (D.Refused n) = n
 
+-- the values of a depth: price and contracts
 unfoldable pub depthValues : Depth → List ℕ
 depthValues (D.Best price contracts) = price ∷ (contracts ∷ [])
 depthValues D.Empty = []
 depthValues (D.Refused n) = []
 
+-- the number of shut legs' answer
 unfoldable pub shutNumber : Shut → ℕ
 shutNumber (S.Legs count lowest) = 0
 shutNumber (S.Refused n) = n
 
+-- its values: count and lowest series
 unfoldable pub shutValues : Shut → List ℕ
 shutValues (S.Legs count lowest) = count ∷ (lowest ∷ [])
 shutValues (S.Refused n) = []

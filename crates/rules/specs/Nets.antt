@@ -21,9 +21,11 @@ stands s side o = pick (eqb (o .contracts) 0) false (pick (eqb (o .series) s) (e
 unfoldable pub priceWith : ℕ → ℕ → ℕ → LegOrder → ℕ
 priceWith s side p o = pick (stands s side o) (bestPrice side p (o .price)) p
 
+-- one slot more
 abbrev pub priceStep : List LegOrder → ℕ → ℕ → ℕ → ℕ → ℕ
 priceStep os s side i p = priceWith s side p (getD os i noOrder)
 
+-- .. over the 32 slots
 unfoldable pub priceOf : List LegOrder → ℕ → ℕ → ℕ
 priceOf os s side = walk (priceStep os s side) 0 32
 
@@ -31,9 +33,11 @@ priceOf os s side = walk (priceStep os s side) 0 32
 unfoldable pub lot : ℕ → ℕ → ℕ → LegOrder → ℕ
 lot s side price o = pick (stands s side o) (pick (eqb (o .price) price) (o .contracts) 0) 0
 
+-- .. by the leg order at slot i
 abbrev pub lotAt : List LegOrder → ℕ → ℕ → ℕ → ℕ → ℕ
 lotAt os s side price i = lot s side price (getD os i noOrder)
 
+-- .. by each of the 32
 unfoldable pub lots : List LegOrder → ℕ → ℕ → ℕ → List ℕ
 lots os s side price = table (lotAt os s side price) 32
 
@@ -41,9 +45,11 @@ lots os s side price = table (lotAt os s side price) 32
 unfoldable pub legPrice : List LegOrder → ℕ → Leg → ℕ
 legPrice os side l = priceOf os (l .series) (other (legSide side l))
 
+-- .. on the leg at place i
 abbrev pub priceAt : List LegOrder → ℕ → List Leg → ℕ → ℕ
 priceAt os side legs i = legPrice os side (getD legs i noLeg)
 
+-- .. on each of the six rows
 unfoldable pub prices : List LegOrder → ℕ → List Leg → List ℕ
 prices os side legs = table (priceAt os side legs) 6
 
@@ -51,6 +57,7 @@ prices os side legs = table (priceAt os side legs) 6
 abbrev pub pricedAt : List ℕ → ℕ → Bool
 pricedAt ps i = ltb 0 (slot ps i)
 
+-- each of the count legs has a price
 unfoldable pub known : List ℕ → ℕ → Bool
 known ps count = allN (pricedAt ps) count
 
@@ -58,9 +65,11 @@ known ps count = allN (pricedAt ps) count
 unfoldable pub weight : ℕ → Leg → ℕ → ℕ
 weight w l price = pick (eqb (l .side) 0) (pick (eqb w 0) (l .ratio * price) 0) (pick (eqb w 0) 0 (l .ratio * price))
 
+-- .. of the leg at place i
 abbrev pub weightAt : ℕ → List Leg → List ℕ → ℕ → ℕ
 weightAt w legs ps i = weight w (getD legs i noLeg) (slot ps i)
 
+-- the sum over the count legs
 unfoldable pub weighed : ℕ → List Leg → List ℕ → ℕ → ℕ
 weighed w legs ps count = sumN (weightAt w legs ps) count
 
@@ -72,9 +81,11 @@ netOf s ps = pick (known ps (s .count)) (10_000_000 + weighed 0 (s .legs) ps (s 
 unfoldable pub legNet : State → ℕ → ℕ → ℕ
 legNet b side k = netOf (strategyAt b k) (prices (b .orders) side (strategyAt b k .legs))
 
+-- "Offer net takes offers for buy legs, bids for sell legs"
 abbrev pub offerNet : State → ℕ → ℕ
 offerNet b k = legNet b 0 k
 
+-- "bid net the reverse"
 abbrev pub bidNet : State → ℕ → ℕ
 bidNet b k = legNet b 1 k
 
@@ -82,6 +93,7 @@ bidNet b k = legNet b 1 k
 unfoldable pub legUnits : List LegOrder → ℕ → ℕ → Leg → ℕ
 legUnits os side price l = sumN (slot (lots os (l .series) (other (legSide side l)) price)) 32 / l .ratio
 
+-- the least so far and those of the leg at place i
 abbrev pub unitsStep : List LegOrder → ℕ → List Leg → List ℕ → ℕ → ℕ → ℕ
 unitsStep os side legs ps i n = min (legUnits os side (slot ps i) (getD legs i noLeg)) n
 

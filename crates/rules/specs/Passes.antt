@@ -28,9 +28,11 @@ opposes e f = pick (eqb (f .units) 0) false (pick (eqb (f .strategy) (e .strateg
 unfoldable pub limitWith : Entry → ℕ → Entry → ℕ
 limitWith e x f = pick (opposes e f) (bestPrice (other (e .side)) x (f .level)) x
 
+-- one slot more
 abbrev pub limitStep : List Entry → Entry → ℕ → ℕ → ℕ
 limitStep es e i x = limitWith e x (getD es i noEntry)
 
+-- .. over the 32 slots
 unfoldable pub bestOpposite : List Entry → Entry → ℕ
 bestOpposite es e = walk (limitStep es e) 0 32
 
@@ -46,9 +48,11 @@ within g f = pick (eqb g 3) true (eqb (groupOf f) g)
 unfoldable pub holding : Entry → ℕ → ℕ → Entry → ℕ
 holding e level g f = pick (opposes e f) (pick (eqb (f .level) level) (pick (within g f) (f .units) 0) 0) 0
 
+-- .. by the entry at slot i
 abbrev pub sizeAt : List Entry → Entry → ℕ → ℕ → ℕ → ℕ
 sizeAt es e level g i = holding e level g (getD es i noEntry)
 
+-- .. by each of the 32
 unfoldable pub sizes : List Entry → Entry → ℕ → ℕ → List ℕ
 sizes es e level g = table (sizeAt es e level g) 32
 
@@ -56,6 +60,7 @@ sizes es e level g = table (sizeAt es e level g) 32
 abbrev pub giveAt : ℕ → ℕ → List ℕ → ℕ → State → Moved
 giveAt a level qs i b = wholeFill b a i level (slot qs i)
 
+-- .. slot by slot, which is by number
 unfoldable pub give : ℕ → ℕ → List ℕ → State → Moved
 give a level qs b = each (giveAt a level qs) 32 b
 
@@ -91,6 +96,7 @@ readyNet legs a b =
     let s : Strategy = strategyOf b e in
     pick legs (pick (ready a b) (netOf s (prices (b .orders) (e .side) (s .legs))) 0) 0
 
+-- the best opposite limit that a pass looks at; a pass by legs only looks at none
 unfoldable pub opposite : Allocation → ℕ → State → ℕ
 opposite LegsOnly a b = 0
 opposite Shared a b = bestOpposite (b .entries) (entryAt b a)
@@ -108,9 +114,11 @@ turnAt e x net =
     (pick (eqb x 0) Stop
     (pick (meets (e .side) (e .level) x) (AtLimit x) Stop)))
 
+-- what the entry at slot a does next
 unfoldable pub turnOf : Allocation → Bool → ℕ → State → Turn
 turnOf way legs a b = turnAt (entryAt b a) (opposite way a b) (readyNet legs a b)
 
+-- and does it
 unfoldable pub take : Allocation → ℕ → Turn → State → Moved
 take way a Stop b = still b
 take way a ByLegs b = legFill a b

@@ -9,6 +9,7 @@ use Rattle.base.specs.Walks.{sumN, slot, table}
 unfoldable pub inTurnAt : ℕ → List ℕ → ℕ → ℕ
 inTurnAt r xs i = min (r - sumN (slot xs) i) (slot xs i)
 
+-- .. for each of the 32
 unfoldable pub inTurn : ℕ → List ℕ → List ℕ
 inTurn r xs = table (inTurnAt r xs) 32
 
@@ -16,6 +17,7 @@ inTurn r xs = table (inTurnAt r xs) 32
 unfoldable pub portion : ℕ → ℕ → ℕ → ℕ
 portion r total x = r * x / total
 
+-- .. of the holder at slot i
 abbrev pub portionAt : ℕ → ℕ → List ℕ → ℕ → ℕ
 portionAt r total xs i = portion r total (slot xs i)
 
@@ -23,9 +25,11 @@ portionAt r total xs i = portion r total (slot xs i)
 unfoldable pub oneOf : ℕ → ℕ → ℕ
 oneOf n x = pick (eqb x 0) 0 (min n 1)
 
+-- one where slot i holds something
 unfoldable pub holderAt : List ℕ → ℕ → ℕ
 holderAt xs i = pick (eqb (slot xs i) 0) 0 1
 
+-- the portion and, while any of the n left over are there, one unit
 unfoldable pub sharedAt : ℕ → ℕ → ℕ → List ℕ → ℕ → ℕ
 sharedAt r total n xs i = portionAt r total xs i + oneOf (n - sumN (holderAt xs) i) (slot xs i)
 

@@ -29,6 +29,7 @@ pub record Line : Type 0 where
   pub quantity : ℕ
   pub price : ℤ
 
+-- the line that is read of a record
 unfoldable pub lineOf : Record → Line
 lineOf r = record { kind = kindNumber (r .kind); number = r .number; place = r .place; side = r .side; quantity = r .quantity; price = cents (r .level) }
 

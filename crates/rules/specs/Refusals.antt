@@ -53,15 +53,19 @@ notOpen b s = not (has (b .opened) s)
 unfoldable pub isOrderOf : ℕ → ℕ → Entry → Bool
 isOrderOf m n e = pick (live e) (pick (eqb (e .life) 4) false (pick (eqb (e .member) m) (eqb (e .number) n) false)) false
 
+-- the same of a leg order
 unfoldable pub isLegOrderOf : ℕ → ℕ → LegOrder → Bool
 isLegOrderOf m n o = pick (liveOrder o) (pick (eqb (o .member) m) (eqb (o .number) n) false) false
 
+-- .. of the entry at slot i
 abbrev pub orderAtIs : State → ℕ → ℕ → ℕ → Bool
 orderAtIs b m n i = isOrderOf m n (entryAt b i)
 
+-- .. of the leg order at slot i
 abbrev pub legOrderAtIs : State → ℕ → ℕ → ℕ → Bool
 legOrderAtIs b m n i = isLegOrderOf m n (orderAt b i)
 
+-- neither table has it
 unfoldable pub notFound : State → ℕ → ℕ → Bool
 notFound b m n = pick (anyN (orderAtIs b m n) 32) false (not (anyN (legOrderAtIs b m n) 32))
 
@@ -69,6 +73,7 @@ notFound b m n = pick (anyN (orderAtIs b m n) 32) false (not (anyN (legOrderAtIs
 abbrev pub startedBy : State → ℕ → ℕ → Bool
 startedBy b n k = eqb (strategyAt b k .starter) n
 
+-- .. of any of the 16 strategies
 unfoldable pub isStarter : State → ℕ → Bool
 isStarter b n = anyN (startedBy b n) 16
 
@@ -80,6 +85,7 @@ unanswerable b life k = pick (eqb life 2) (not (running b k)) false
 abbrev pub replaces : State → GivenSweep → Bool
 replaces b e = ltb (oldSweep b (sweepGiven b e)) 32
 
+-- .. 0 units, and none to remove
 unfoldable pub removesNone : State → GivenSweep → Bool
 removesNone b e = pick (eqb (e .units) 0) (not (replaces b e)) false
 
@@ -87,30 +93,39 @@ removesNone b e = pick (eqb (e .units) 0) (not (replaces b e)) false
 unfoldable pub strategiesFull : State → GivenStrategy → Bool
 strategiesFull b e = pick (held b (strategyGiven e)) false (leb 16 (b .defined))
 
+-- 1 for a live complex order
 unfoldable pub isOrder : Entry → ℕ
 isOrder e = pick (live e) (pick (eqb (e .life) 4) 0 1) 0
 
+-- 1 for a live sweep
 unfoldable pub isSweep : Entry → ℕ
 isSweep e = pick (live e) (pick (eqb (e .life) 4) 1 0) 0
 
+-- 1 for a live leg order
 unfoldable pub isLegOrder : LegOrder → ℕ
 isLegOrder o = pick (liveOrder o) 1 0
 
+-- .. at slot i
 abbrev pub isOrderAt : State → ℕ → ℕ
 isOrderAt b i = isOrder (entryAt b i)
 
+-- .. at slot i
 abbrev pub isSweepAt : State → ℕ → ℕ
 isSweepAt b i = isSweep (entryAt b i)
 
+-- .. at slot i
 abbrev pub isLegOrderAt : State → ℕ → ℕ
 isLegOrderAt b i = isLegOrder (orderAt b i)
 
+-- 16 complex orders
 unfoldable pub ordersFull : State → Bool
 ordersFull b = leb 16 (sumN (isOrderAt b) 32)
 
+-- 16 sweeps
 unfoldable pub sweepsFull : State → Bool
 sweepsFull b = leb 16 (sumN (isSweepAt b) 32)
 
+-- 32 leg orders
 unfoldable pub legOrdersFull : State → Bool
 legOrdersFull b = leb 32 (sumN (isLegOrderAt b) 32)
 
@@ -122,6 +137,7 @@ noRoom b e = pick (eqb (e .units) 0) false (pick (replaces b e) false (sweepsFul
 unfoldable pub numbersOut : State → Bool
 numbersOut b = leb 100_000 (b .last)
 
+-- .. a sweep of 0 units needs no number
 unfoldable pub sweepNumbersOut : State → GivenSweep → Bool
 sweepNumbersOut b e = pick (eqb (e .units) 0) false (numbersOut b)
 
@@ -149,5 +165,6 @@ readCauses b (R.Event e) = causes b e
 unfoldable pub tableOf : State → Reading → ℕ → List Cause
 tableOf b r space = (1 if ltb space 15_360) ∷ readCauses b r
 
+-- "The smallest number that applies"
 unfoldable pub refusal : State → Reading → ℕ → ℕ
 refusal b r space = first (tableOf b r space)

@@ -5,6 +5,7 @@ use lib.Dec.{eqb, leb, ltb}
 use Rattle.base.specs.Pick.{pick}
 use Rattle.rules.specs.declared.Leg.{Leg}
 
+-- the other side
 unfoldable pub other : ℕ → ℕ
 other side = pick (eqb side 0) 1 0
 

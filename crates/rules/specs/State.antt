@@ -9,12 +9,15 @@ use Rattle.rules.specs.declared.Entry.{Entry}
 use Rattle.rules.specs.declared.LegOrder.{LegOrder}
 use Rattle.rules.specs.declared.State.{State}
 
+-- an empty leg
 abbrev pub noLeg : Leg
 noLeg = record { series = 0; side = 0; ratio = 0 }
 
+-- an empty entry
 abbrev pub noEntry : Entry
 noEntry = record { number = 0; member = 0; strategy = 0; side = 0; class = 0; life = 0; units = 0; level = 0 }
 
+-- an empty leg order
 abbrev pub noOrder : LegOrder
 noOrder = record { number = 0; member = 0; series = 0; side = 0; contracts = 0; price = 0 }
 
@@ -43,15 +46,19 @@ fresh timer = record {
 abbrev pub first : State
 first = fresh 5000
 
+-- the entry at slot i
 abbrev pub entryAt : State → ℕ → Entry
 entryAt b i = getD (b .entries) i noEntry
 
+-- the leg order at slot i
 abbrev pub orderAt : State → ℕ → LegOrder
 orderAt b i = getD (b .orders) i noOrder
 
+-- strategy k
 abbrev pub strategyAt : State → ℕ → Strategy
 strategyAt b k = getD (b .strategies) k noStrategy
 
+-- the leg at place i
 abbrev pub legAt : Strategy → ℕ → Leg
 legAt s i = getD (s .legs) i noLeg
 
@@ -59,20 +66,26 @@ legAt s i = getD (s .legs) i noLeg
 abbrev pub strategyOf : State → Entry → Strategy
 strategyOf b e = strategyAt b (e .strategy)
 
+-- the state with these entries
 unfoldable pub withEntries : State → List Entry → State
 withEntries b es = record { strategies = b .strategies; entries = es; orders = b .orders; defined = b .defined; opened = b .opened; clock = b .clock; timer = b .timer; last = b .last }
 
+-- the state with these leg orders
 unfoldable pub withOrders : State → List LegOrder → State
 withOrders b os = record { strategies = b .strategies; entries = b .entries; orders = os; defined = b .defined; opened = b .opened; clock = b .clock; timer = b .timer; last = b .last }
 
+-- the state with these strategies, so many of them defined
 unfoldable pub withStrategies : State → List Strategy → ℕ → State
 withStrategies b ss n = record { strategies = ss; entries = b .entries; orders = b .orders; defined = n; opened = b .opened; clock = b .clock; timer = b .timer; last = b .last }
 
+-- the state with these series open
 unfoldable pub withOpened : State → ℕ → State
 withOpened b o = record { strategies = b .strategies; entries = b .entries; orders = b .orders; defined = b .defined; opened = o; clock = b .clock; timer = b .timer; last = b .last }
 
+-- the state at that clock
 unfoldable pub withClock : State → ℕ → State
 withClock b t = record { strategies = b .strategies; entries = b .entries; orders = b .orders; defined = b .defined; opened = b .opened; clock = t; timer = b .timer; last = b .last }
 
+-- the state with that number given last
 unfoldable pub withLast : State → ℕ → State
 withLast b n = record { strategies = b .strategies; entries = b .entries; orders = b .orders; defined = b .defined; opened = b .opened; clock = b .clock; timer = b .timer; last = n }

@@ -35,6 +35,7 @@ valueOf b (E.Series e) = 0
 valueOf b (E.Clock e) = 0
 valueOf b (E.DayEnd e) = 0
 
+-- what an accepted event does
 unfoldable pub accept : State → Event → Moved
 accept b (E.Strategy e) = still (define (strategyGiven e) b)
 accept b (E.Order e) = onOrder (orderGiven b e) b
@@ -49,10 +50,12 @@ accept b (E.DayEnd e) = onDayEnd (e .timer) b
 unfoldable pub refused : ℕ → State → Outcome
 refused n b = record { answer = n; value = 0; moved = still b }
 
+-- the outcome of an event that nothing refuses
 unfoldable pub perform : State → Reading → Outcome
 perform b (R.Refused n) = refused n b
 perform b (R.Event e) = record { answer = 0; value = valueOf b e; moved = accept b e }
 
+-- the refusal, or else the event is performed
 unfoldable pub decide : State → Reading → ℕ → Outcome
 decide b r space = pick (eqb (refusal b r space) 0) (perform b r) (refused (refusal b r space) b)
 
@@ -69,10 +72,12 @@ unfoldable pub answerNumber : Answer → ℕ
 answerNumber (A.Accepted value count) = 0
 answerNumber (A.Refused n) = n
 
+-- its value
 unfoldable pub answerValue : Answer → ℕ
 answerValue (A.Accepted value count) = value
 answerValue (A.Refused n) = 0
 
+-- its number of records
 unfoldable pub answerCount : Answer → ℕ
 answerCount (A.Accepted value count) = count
 answerCount (A.Refused n) = 0

@@ -17,6 +17,7 @@ use Rattle.rules.specs.State.{noLeg, noStrategy, strategyAt, legAt, with
 abbrev pub ratioOf : List Leg → ℕ → ℕ
 ratioOf legs i = getD legs i noLeg .ratio
 
+-- the series of the leg at place i
 abbrev pub seriesOf : List Leg → ℕ → ℕ
 seriesOf legs i = getD legs i noLeg .series
 
@@ -24,12 +25,15 @@ seriesOf legs i = getD legs i noLeg .series
 abbrev pub divisorStep : List Leg → ℕ → ℕ → ℕ
 divisorStep legs i d = gcd (ratioOf legs i) d
 
+-- .. over the count legs
 unfoldable pub divisor : List Leg → ℕ → ℕ
 divisor legs count = walk (divisorStep legs) 0 count
 
+-- the leg at place i, its ratio divided
 abbrev pub dividedAt : List Leg → ℕ → ℕ → Leg
 dividedAt legs d i = record { series = seriesOf legs i; side = getD legs i noLeg .side; ratio = ratioOf legs i / d }
 
+-- .. all six rows
 unfoldable pub lowestTerms : List Leg → ℕ → List Leg
 lowestTerms legs count = table (dividedAt legs (divisor legs count)) 6
 
@@ -41,12 +45,15 @@ inSeries legs s i = eqb (seriesOf legs i) s
 unfoldable pub placeOf : List Leg → ℕ → ℕ → ℕ
 placeOf legs count s = firstN (inSeries legs s) count
 
+-- whether a leg is in the series
 abbrev pub present : List Leg → ℕ → ℕ → Bool
 present legs count s = ltb (placeOf legs count s) count
 
+-- the leg in a series, if there is one
 abbrev pub legsOf : List Leg → ℕ → ℕ → List Leg
 legsOf legs count s = pick (present legs count s) (getD legs (placeOf legs count s) noLeg ∷ []) []
 
+-- .. for the series 0 to 31
 unfoldable pub bySeries : List Leg → ℕ → List Leg
 bySeries legs count = joinN (legsOf legs count) 32
 
@@ -73,15 +80,19 @@ defined legs count = record {
 abbrev pub repeats : List Leg → ℕ → Bool
 repeats legs i = ltb (firstN (inSeries legs (seriesOf legs i)) i) i
 
+-- .. for any of the count legs
 unfoldable pub twice : List Leg → ℕ → Bool
 twice legs count = anyN (repeats legs) count
 
+-- the larger so far and that of the leg at place i
 abbrev pub largestStep : List Leg → ℕ → ℕ → ℕ
 largestStep legs i m = max (ratioOf legs i) m
 
+-- the smaller so far and that of the leg at place i
 abbrev pub smallestStep : List Leg → ℕ → ℕ → ℕ
 smallestStep legs i m = min (ratioOf legs i) m
 
+-- "largest ratio over 3 × smallest"
 unfoldable pub overThreefold : List Leg → ℕ → Bool
 overThreefold legs count = ltb (3 * walk (smallestStep legs) 12 count) (walk (largestStep legs) 0 count)
 
@@ -89,9 +100,11 @@ overThreefold legs count = ltb (3 * walk (smallestStep legs) 12 count) (walk (la
 unfoldable pub sameLeg : Leg → Leg → Bool
 sameLeg x y = pick (eqb (x .series) (y .series)) (pick (eqb (x .side) (y .side)) (eqb (x .ratio) (y .ratio)) false) false
 
+-- .. the legs at place i
 abbrev pub sameLegAt : Strategy → Strategy → ℕ → Bool
 sameLegAt s t i = sameLeg (legAt s i) (legAt t i)
 
+-- .. all six rows
 unfoldable pub sameLegs : Strategy → Strategy → Bool
 sameLegs s t = allN (sameLegAt s t) 6
 
@@ -99,12 +112,15 @@ sameLegs s t = allN (sameLegAt s t) 6
 abbrev pub sameAt : State → Strategy → ℕ → Bool
 sameAt b s k = sameLegs (strategyAt b k) s
 
+-- the number of the first equal one, else the next
 unfoldable pub numberOf : State → Strategy → ℕ
 numberOf b s = firstN (sameAt b s) (b .defined)
 
+-- whether an equal one is held
 abbrev pub held : State → Strategy → Bool
 held b s = ltb (numberOf b s) (b .defined)
 
+-- the state with the strategy among those held
 unfoldable pub define : Strategy → State → State
 define s b = pick (held b s) b (withStrategies b (set (b .strategies) (b .defined) s) (b .defined + 1))
 
@@ -112,8 +128,10 @@ define s b = pick (held b s) b (withStrategies b (set (b .strategies) (b .define
 unfoldable pub shutSet : State → ℕ → ℕ
 shutSet b k = minus (strategyAt b k .series) (b .opened)
 
+-- none is shut
 abbrev pub allOpen : State → ℕ → Bool
 allOpen b k = eqb (shutSet b k) 0
 
+-- the series is one of the strategy's
 abbrev pub holds : State → ℕ → ℕ → Bool
 holds b s k = has (strategyAt b k .series) s

@@ -39,13 +39,16 @@ pub record Logged : Type 0 where
 unfoldable pub outcome : State → Sent → Outcome
 outcome b x = step b (x .frame) (x .space)
 
+-- the book that the list leaves
 unfoldable pub after : State → List Sent → State
 after b [] = b
 after b (x ∷ xs) = after (outcome b x .moved .state) xs
 
+-- what is logged of one event
 abbrev pub logOf : Sent → Outcome → Logged
 logOf x o = record { reading = readOf (x .frame); answer = o .answer; value = o .value; lines = map lineOf (o .moved .records) }
 
+-- what is logged of the list
 unfoldable pub run : State → List Sent → List Logged
 run b [] = []
 run b (x ∷ xs) = logOf x (outcome b x) ∷ run (outcome b x .moved .state) xs
@@ -60,6 +63,7 @@ unfoldable pub total : (Line → ℕ) → List Line → ℕ
 total w [] = 0
 total w (l ∷ ls) = w l + total w ls
 
+-- q where the two are equal
 abbrev pub when : ℕ → ℕ → ℕ → ℕ
 when x y q = pick (eqb x y) q 0
 
@@ -67,12 +71,15 @@ when x y q = pick (eqb x y) q 0
 abbrev pub ofKind : ℕ → ℕ → Line → ℕ
 ofKind kind n l = when (l .kind) kind (when (l .number) n (l .quantity))
 
+-- records 1
 unfoldable pub wholeFilled : ℕ → List Line → ℕ
 wholeFilled n ls = total (ofKind 1 n) ls
 
+-- records 2
 unfoldable pub legFilled : ℕ → List Line → ℕ
 legFilled n ls = total (ofKind 2 n) ls
 
+-- records 3
 unfoldable pub cancelled : ℕ → List Line → ℕ
 cancelled n ls = total (ofKind 3 n) ls
 
@@ -80,6 +87,7 @@ cancelled n ls = total (ofKind 3 n) ls
 abbrev pub onLeg : ℕ → ℕ → Line → ℕ
 onLeg n s l = when (l .place) s (ofKind 2 n l)
 
+-- .. over all records
 unfoldable pub contractsOn : ℕ → ℕ → List Line → ℕ
 contractsOn n s ls = total (onLeg n s) ls
 
@@ -87,9 +95,11 @@ contractsOn n s ls = total (onLeg n s) ls
 abbrev pub inSeries : ℕ → ℕ → Line → ℕ
 inSeries s side l = when (l .kind) 2 (when (l .place) s (when (l .side) side (l .quantity)))
 
+-- side 0
 unfoldable pub bought : ℕ → List Line → ℕ
 bought s ls = total (inSeries s 0) ls
 
+-- side 1
 unfoldable pub sold : ℕ → List Line → ℕ
 sold s ls = total (inSeries s 1) ls
 
@@ -107,6 +117,7 @@ pub data Brought : Type 0 where
   leg : Terms → Brought
   nothing : Brought
 
+-- by its kind, under the number n
 unfoldable pub enters : Event → ℕ → Brought
 enters (E.Strategy e) n = nothing
 enters (E.Order e) n = complex (record { number = n; quantity = e .units; side = e .side; limit = cents (e .level) }) (e .strategy)
@@ -117,10 +128,12 @@ enters (E.Series e) n = nothing
 enters (E.Clock e) n = nothing
 enters (E.DayEnd e) n = nothing
 
+-- "whose value isn't 0"
 unfoldable pub entersRead : Reading → ℕ → Brought
 entersRead (R.Refused n) v = nothing
 entersRead (R.Event e) v = pick (eqb v 0) nothing (enters e v)
 
+-- "an accepted event"
 unfoldable pub brought : Logged → Brought
 brought x = pick (eqb (x .answer) 0) (entersRead (x .reading) (x .value)) nothing
 
@@ -142,6 +155,7 @@ mentions n l = when (l .number) n (pick (leb (l .kind) 3) 1 0)
 abbrev pub ratioAt : List Leg → ℕ → ℕ → ℕ → ℕ
 ratioAt legs d s i = when (seriesOf legs i) s (ratioOf legs i / d)
 
+-- .. over the count legs
 unfoldable pub ratioIn : GivenStrategy → ℕ → ℕ
 ratioIn e s = sumN (ratioAt (legsGiven e) (divisor (legsGiven e) (e .count)) s) (e .count)
 
@@ -168,10 +182,12 @@ isLeg n (complex w k) = false
 isLeg n (leg w) = eqb (w .number) n
 isLeg n nothing = false
 
+-- the number came in as a leg order
 unfoldable pub isLegNumber : List Logged → ℕ → Bool
 isLegNumber [] n = false
 isLegNumber (x ∷ xs) n = pick (isLeg n (brought x)) true (isLegNumber xs n)
 
+-- a record 1, or a record 2 of such a number
 unfoldable pub isFill : List Logged → Line → Bool
 isFill log l = pick (eqb (l .kind) 1) true (pick (eqb (l .kind) 2) (isLegNumber log (l .number)) false)
 
@@ -179,6 +195,7 @@ isFill log l = pick (eqb (l .kind) 1) true (pick (eqb (l .kind) 2) (isLegNumber 
 abbrev pub cashOf : List Logged → ℕ → Line → ℤ
 cashOf log side l = pick (isFill log l) (pick (eqb (l .side) side) (pos (l .quantity) *ℤ l .price) (pos 0)) (pos 0)
 
+-- .. over all records
 unfoldable pub cash : List Logged → ℕ → List Line → ℤ
 cash log side [] = pos 0
 cash log side (l ∷ ls) = cashOf log side l +ℤ cash log side ls
@@ -195,6 +212,7 @@ isDayEnd (R.Event (E.Series e)) = false
 isDayEnd (R.Event (E.Clock e)) = false
 isDayEnd (R.Event (E.DayEnd e)) = true
 
+-- accepted, and a day end
 unfoldable pub endsDay : Logged → Bool
 endsDay x = pick (eqb (x .answer) 0) (isDayEnd (x .reading)) false
 
