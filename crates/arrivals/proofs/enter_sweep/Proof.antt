@@ -1,0 +1,38 @@
+use Rattle.arrivals.specs.Arrivals.{sweep-none, sweep-enters, fit-enter}
+use Rattle.base.specs.Pick.{told}
+use borrow.Author.Needs.{needs}
+use Rattle.arrivals.proofs.enter_sweep.Statement.{statement}
+use Rattle.arrivals.proofs.enter_sweep.Tie as tie
+use Rattle.arrivals.proofs.enter_sweep.Reads as reads
+use Rattle.arrivals.proofs.enter_sweep.Lts as lts
+use Rattle.auctions.proofs.answer.Reads as answer-reads
+use Rattle.entries.proofs.enter.Reads as enter-reads
+use Rattle.entries.proofs.live.Reads as live-reads
+
+-- src/lib.rt:144:8
+live-requires : tie.Need-live-requires
+live-requires c κs = search needs
+
+-- src/lib.rt:145:13
+enter-requires : tie.Need-enter-requires
+enter-requires c κs = c .before .before .pre .0 .slot (told (c .before .live .ensures) (c .if1 .taken))
+
+-- src/lib.rt:146:17
+cast-k : tie.Need-cast-k
+cast-k c = search needs
+
+-- src/lib.rt:147:9
+answer-requires : tie.Need-answer-requires
+answer-requires c κs = (c .before .before .before .before .pre .1 .strategy, fit-enter _ _ (c .before .enter .ensures) (c .before .before .before .before .pre .1) (c .before .before .before .before .pre .2))
+
+-- src/lib.rt:147:9
+returns : tie.Need-returns
+returns c = sweep-enters _ _ (told (c .before .before .before .before .live .ensures) (c .before .before .before .if1 .taken)) (c .before .before .enter .ensures) (c .answer .ensures)
+
+-- src/lib.rt:140:1
+returns-2 : tie.Need-returns-2
+returns-2 c = sweep-none _ _ (told (c .before .live .ensures) (c .if1 .left))
+
+pub enter-sweep-spec : {M : Type 1} → statement M
+enter-sweep-spec =
+    tie.close (tie.spec live-requires enter-requires cast-k answer-requires returns returns-2)

@@ -1,0 +1,16 @@
+use Rattle.base.specs.Pick.{tests}
+use Rattle.arrivals.proofs.is_either.Statement.{statement}
+use Rattle.arrivals.proofs.is_either.Tie as tie
+use Rattle.arrivals.proofs.is_either.Reads as reads
+use Rattle.arrivals.proofs.is_either.Lts as lts
+
+-- src/lib.rt:50:9
+returns : tie.Need-returns
+returns c = search tests
+
+-- src/lib.rt:46:1
+returns-2 : tie.Need-returns-2
+returns-2 c = search tests
+
+pub is-either-spec : {M : Type 1} → statement M
+is-either-spec = tie.close (tie.spec returns returns-2)

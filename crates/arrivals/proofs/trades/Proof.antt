@@ -1,0 +1,32 @@
+use Rattle.rules.specs.Events.{trades}
+use Rattle.arrivals.specs.Arrivals.{fit-pass}
+use Rattle.records.specs.Done.{done-then, room-then, room-after}
+use borrow.Author.Needs.{needs}
+use Rattle.arrivals.proofs.trades.Statement.{statement}
+use Rattle.arrivals.proofs.trades.Tie as tie
+use Rattle.arrivals.proofs.trades.Reads as reads
+use Rattle.arrivals.proofs.trades.Lts as lts
+use Rattle.arrivals.proofs.rest_or_cancel.Reads as rest-or-cancel-reads
+use Rattle.passes.proofs.pass.Reads as pass-reads
+
+-- src/lib.rt:103:9
+pass-requires : tie.Need-pass-requires
+unfolding trades
+pass-requires c κs = (c .before .pre .0, room-then _ _ (c .before .pre .1))
+
+-- src/lib.rt:105:5
+rest-or-cancel-requires : tie.Need-rest-or-cancel-requires
+unfolding trades
+rest-or-cancel-requires c κs = ((c .before .before .before .before .before .pre .0 .0, fit-pass _ _ _ (c .before .before .before .before .before .pre .0 .1) (c .before .before .before .pass .ensures)), room-after _ _ (c .before .before .before .before .before .pre .1) (c .before .before .before .pass .ensures))
+
+-- src/lib.rt:98:1
+same-length : tie.Need-same-length
+same-length c = search needs
+
+-- src/lib.rt:98:1
+returns : tie.Need-returns
+unfolding trades
+returns c = done-then _ _ (c .before .before .before .before .before .pass .ensures) (c .before .rest-or-cancel .ensures)
+
+pub trades-spec : {M : Type 1} → statement M
+trades-spec = tie.close (tie.spec pass-requires rest-or-cancel-requires same-length returns)

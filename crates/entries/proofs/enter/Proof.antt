@@ -1,0 +1,19 @@
+use Rattle.rules.specs.Events.{enter, freeSlot}
+use Rattle.rules.specs.State.{withEntries, withLast}
+use borrow.Author.Needs.{needs}
+use Rattle.entries.proofs.enter.Statement.{statement}
+use Rattle.entries.proofs.enter.Tie as tie
+use Rattle.entries.proofs.enter.Reads as reads
+use Rattle.entries.proofs.enter.Lts as lts
+use Rattle.entries.proofs.insert.Reads as insert-reads
+
+insert-requires : tie.Need-insert-requires
+unfolding freeSlot
+insert-requires c κs = c .before .pre
+
+returns : tie.Need-returns
+unfolding enter withLast withEntries
+returns c = rw (c .insert .ensures)
+
+pub enter-spec : {M : Type 1} → statement M
+enter-spec = tie.close (tie.spec insert-requires returns)

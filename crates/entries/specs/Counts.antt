@@ -1,0 +1,34 @@
+-- How many orders and sweeps are live, and the sweep that a new one replaces, by the rows that the code reads.
+use mathlib.Core.Bool.{Bool}
+use mathlib.Core.List.{List}
+use Prim.Native.Nat.{ℕ, _≤_}
+use native.Mathlib.Omega.{arith}
+use lib.ListN.{getD}
+use Rattle.base.specs.Pick.{pick-all}
+use Rattle.base.specs.Walks.{sumN, sum-le}
+use Rattle.rules.specs.declared.Entry.{Entry}
+use Rattle.rules.specs.declared.State.{State}
+use Rattle.rules.specs.State.{noEntry, entryAt}
+use Rattle.rules.specs.Events.{sameSweep}
+use Rattle.rules.specs.Refusals.{isOrder, isSweep, isOrderAt, isSweepAt}
+
+abbrev pub replacedAt : List Entry → Entry → ℕ → Bool
+replacedAt es e i = sameSweep e (getD es i noEntry)
+
+pub order-most : (e : Entry) → isOrder e ≤ 1
+unfolding isOrder
+order-most e =
+    let P : ℕ → Type 0 = λ (n : ℕ). n ≤ 1 in
+    pick-all P _ (pick-all P _ (omega arith) (omega arith)) (omega arith)
+
+pub sweep-most : (e : Entry) → isSweep e ≤ 1
+unfolding isSweep
+sweep-most e =
+    let P : ℕ → Type 0 = λ (n : ℕ). n ≤ 1 in
+    pick-all P _ (pick-all P _ (omega arith) (omega arith)) (omega arith)
+
+pub orders-most : (b : State) (k : ℕ) → sumN (isOrderAt b) k ≤ k
+orders-most b k = omega (arith, sum-le (isOrderAt b) 1 (λ i. order-most (entryAt b i)) k)
+
+pub sweeps-most : (b : State) (k : ℕ) → sumN (isSweepAt b) k ≤ k
+sweeps-most b k = omega (arith, sum-le (isSweepAt b) 1 (λ i. sweep-most (entryAt b i)) k)
