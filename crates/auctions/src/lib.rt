@@ -116,7 +116,7 @@ fn ended_record(n: u32, k: u8) -> Record
 }
 
 // The auction of strategy k is over.
-fn close(b: State, k: usize, space: &mut [i32], n: usize) -> After
+pub fn close(b: State, k: usize, space: &mut [i32], n: usize) -> After
     requires { ⌜ (k < 16) × (strategyAt b k .starter ≤ 100000) ⌝ }
     requires { ⌜ Room (now space) n (close k b .records) ⌝ }
     ensures { λ t. ⌜ Done (now (space .entry)) (now (space .exit)) n (t .count) (t .state) (close k b) ⌝ }

@@ -26,7 +26,8 @@ use Rattle.rules.specs.Records.{lineOf, cents}
 use Rattle.rules.specs.Valid.{Valid}
 use Rattle.rules.specs.Totals.{Sent, Logged, outcome, after, logOf, run, linesOf, Brought, complex, leg, nothing, enters, entersRead, brought}
 use Rattle.rules.proofs.Refusals.{reads}
-use Rattle.rules.proofs.Ranges.{FitEvent, FitReading, reading-fit}
+use Rattle.rules.specs.Fits.{FitEvent, FitReading}
+use Rattle.rules.proofs.Ranges.{reading-fit}
 use Rattle.rules.proofs.Validity.{clear, valid-step}
 use Rattle.rules.proofs.Laws.{tally, Law, size, come, gone, Good, tally-append}
 use Rattle.rules.proofs.Steps.{Row, entryRow, legRow, noRow, added, FitsRow, Books, books-still, rowOf, accept-books}

@@ -3,17 +3,19 @@ use mathlib.Core.Path.{_≡_, refl}
 use mathlib.Core.Bool.{true}
 use mathlib.Core.List.{List}
 use Prim.Native.Nat.{ℕ, zero, suc, _+_, _-_, _*_, _^_, _≤_, _<_}
-use native.Mathlib.Nat.{mod-le}
+use native.Mathlib.Nat.{le-refl, mod-le}
 use native.Mathlib.Omega.{arith}
 use borrow.Author.Tests.{eqb-true, lt-ltb}
 use lib.Dec.{eqb}
 use lib.ListN.{getD}
-use Rattle.base.specs.Pick.{pick, pick-by}
+use Rattle.base.specs.All.{All, all-nil, all-cons}
+use Rattle.base.specs.Pick.{pick, pick-by, pick-all}
 use Rattle.events.specs.Fields.{low, high, none, layout, presentOf, offset, fitN, fit-at}
 use Rattle.events.specs.Kinds.{lengthOf}
 use Rattle.events.specs.Table.{count, fieldsOf, layoutOf}
 use Rattle.events.specs.Rows.{legAt, eventOf}
 use Rattle.events.specs.Laws.{first-field}
+use Rattle.events.specs.declared.Field.{Field}
 use Rattle.events.specs.declared.Kind.{Kind}
 use Rattle.events.specs.declared.Kind.the-variants as K
 use Rattle.events.specs.declared.Event.{Event}
@@ -30,56 +32,18 @@ use Rattle.frames.specs.Frames.{kindAt, countAt, rowAt, judgeOf, readOf}
 use Rattle.frames.specs.Codec.{judged}
 use Rattle.rules.specs.State.{noLeg}
 use Rattle.rules.specs.Strategies.{seriesOf, ratioOf}
-use Rattle.rules.specs.Given.{legsGiven}
-
-pub record FitGiven (e : GivenStrategy) : Type 0 where
-  pub two : 2 ≤ e .count
-  pub six : e .count ≤ 6
-  pub series : (i : ℕ) → i < e .count → seriesOf (legsGiven e) i < 32
-  pub side : (i : ℕ) → i < e .count → getD (legsGiven e) i noLeg .side ≤ 1
-  pub ratio : (i : ℕ) → i < e .count → (1 ≤ ratioOf (legsGiven e) i) × (ratioOf (legsGiven e) i ≤ 12)
-
-pub record FitOrderGiven (e : GivenOrder) : Type 0 where
-  pub member : e .member ≤ 65_535
-  pub strategy : e .strategy < 16
-  pub side : e .side ≤ 1
-  pub class : e .class ≤ 3
-  pub life : e .life ≤ 3
-  pub units : (1 ≤ e .units) × (e .units ≤ 9999)
-  pub level : (1 ≤ e .level) × (e .level ≤ 19_999_999)
-
-pub record FitSweepGiven (e : GivenSweep) : Type 0 where
-  pub member : e .member ≤ 65_535
-  pub strategy : e .strategy < 16
-  pub side : e .side ≤ 1
-  pub units : e .units ≤ 9999
-  pub level : (1 ≤ e .level) × (e .level ≤ 19_999_999)
-
-pub record FitLegOrderGiven (e : GivenLegOrder) : Type 0 where
-  pub member : e .member ≤ 65_535
-  pub series : e .series < 32
-  pub side : e .side ≤ 1
-  pub contracts : (1 ≤ e .contracts) × (e .contracts ≤ 9999)
-  pub price : (1 ≤ e .price) × (e .price ≤ 99_999)
-
-abbrev pub FitEvent : Event → Type 0
-FitEvent (E.Strategy e) = FitGiven e
-FitEvent (E.Order e) = FitOrderGiven e
-FitEvent (E.Sweep e) = FitSweepGiven e
-FitEvent (E.LegOrder e) = FitLegOrderGiven e
-FitEvent (E.Cancel e) = 1 ≤ e .number
-FitEvent (E.Series e) = e .series < 32
-FitEvent (E.Clock e) = e .time ≤ 86_400_000
-FitEvent (E.DayEnd e) = (1 ≤ e .timer) × (e .timer ≤ 5000)
-
-abbrev pub FitReading : Reading → Type 0
-FitReading (R.Event e) = FitEvent e
-FitReading (R.Refused n) = Unit {0}
+use Rattle.rules.specs.Given.{legGiven, legsGiven}
+use Rattle.rules.specs.Valid.{FitLeg}
+use Rattle.rules.specs.Fits.{FitGiven, FitReading}
 
 -- the fields of a definition that has room for them
 strategy-field : (n j : ℕ) → j < 1 + 3 * n → layoutOf K.Strategy n j ≡ getD (fieldsOf K.Strategy) j none
 unfolding layoutOf layout presentOf lengthOf pick
 strategy-field n j h = rw (lt-ltb j (5 + 3 * n - 4) (omega arith))
+
+field-under : (n j : ℕ) → high (layoutOf K.Strategy n j) ≤ high (getD (fieldsOf K.Strategy) j none)
+unfolding layoutOf layout presentOf
+field-under n j = pick-all (λ (x : Field). high x ≤ high (getD (fieldsOf K.Strategy) j none)) _ (le-refl _) (omega arith)
 
 module _ (n : ℕ) (v : List ℕ) (t : fitN (layoutOf K.Strategy n) v 19 ≡ true) (m : getD v 0 0 ≤ n) where
   value-in : (j : ℕ) → j < 19 → j < 1 + 3 * n → (low (getD (fieldsOf K.Strategy) j none) ≤ getD v j 0) × (getD v j 0 ≤ high (getD (fieldsOf K.Strategy) j none))
@@ -106,6 +70,26 @@ module _ (n : ℕ) (v : List ℕ) (t : fitN (layoutOf K.Strategy n) v 19 ≡ tru
   leg-in (suc (suc (suc (suc (suc zero))))) h = record { series = value-in 16 (omega arith) (omega arith) .1; side = value-in 17 (omega arith) (omega arith) .1; ratio = value-in 18 (omega arith) (omega arith) }
   leg-in (suc (suc (suc (suc (suc (suc i)))))) h = absurd (omega (arith, count-in .1))
 
+  -- a field that is not there is no higher than one that is
+  value-under : (j : ℕ) → j < 19 → getD v j 0 ≤ high (getD (fieldsOf K.Strategy) j none)
+  value-under j h = omega (arith, fit-at (layoutOf K.Strategy n) v 19 j h t .1, field-under n j)
+
+  leg-fit : (j : ℕ) → j < 6 → FitLeg (legGiven (legAt v (1 + 3 * j)))
+  leg-fit zero h = record { series = omega (arith, value-under 1 (omega arith)); side = value-under 2 (omega arith); ratio = value-under 3 (omega arith) }
+  leg-fit (suc zero) h = record { series = omega (arith, value-under 4 (omega arith)); side = value-under 5 (omega arith); ratio = value-under 6 (omega arith) }
+  leg-fit (suc (suc zero)) h = record { series = omega (arith, value-under 7 (omega arith)); side = value-under 8 (omega arith); ratio = value-under 9 (omega arith) }
+  leg-fit (suc (suc (suc zero))) h = record { series = omega (arith, value-under 10 (omega arith)); side = value-under 11 (omega arith); ratio = value-under 12 (omega arith) }
+  leg-fit (suc (suc (suc (suc zero)))) h = record { series = omega (arith, value-under 13 (omega arith)); side = value-under 14 (omega arith); ratio = value-under 15 (omega arith) }
+  leg-fit (suc (suc (suc (suc (suc zero))))) h = record { series = omega (arith, value-under 16 (omega arith)); side = value-under 17 (omega arith); ratio = value-under 18 (omega arith) }
+  leg-fit (suc (suc (suc (suc (suc (suc j)))))) h = absurd (omega arith)
+
+  legs-fit : All FitLeg (legsGiven given)
+  legs-fit =
+      all-cons (leg-fit 0 (omega arith))
+      (all-cons (leg-fit 1 (omega arith))
+      (all-cons (leg-fit 2 (omega arith))
+      (all-cons (leg-fit 3 (omega arith)) (all-cons (leg-fit 4 (omega arith)) (all-cons (leg-fit 5 (omega arith)) all-nil)))))
+
   strategy-fit : FitGiven given
   strategy-fit = record {
     two = count-in .0;
@@ -113,6 +97,7 @@ module _ (n : ℕ) (v : List ℕ) (t : fitN (layoutOf K.Strategy n) v 19 ≡ tru
     series = λ i h. omega (arith, leg-in i h .series);
     side = λ i h. leg-in i h .side;
     ratio = λ i h. leg-in i h .ratio;
+    legs = legs-fit;
   }
 
 -- an event whose values fit; the count is no more than the byte that the length was taken from

@@ -31,7 +31,7 @@ six-sound b h =
     let at : (k : ℕ) → Legs (strategyAt b k) = all-at noStrategy none all in
     record { entries = h .entryRows; orders = h .orderRows; count = λ k. at k .count; rising = λ k. at k .rising }
 
-accept-few : (b : State) (e : Event) → Six b → length (accept b e .records) ≤ 2560
+pub accept-few : (b : State) (e : Event) → Six b → length (accept b e .records) ≤ 2560
 unfolding accept
 accept-few b (E.Strategy e) six = omega arith
 accept-few b (E.Order e) six = omega (arith, order-few (orderGiven b e) b six)
@@ -47,7 +47,11 @@ unfolding perform refused
 perform-few b (R.Refused n) six = omega arith
 perform-few b (R.Event e) six = accept-few b e six
 
+pub room-read : (b : State) → Sound b → (r : Reading) (space : ℕ) → length (decide b r space .moved .records) ≤ 2560
+unfolding decide refused
+room-read b h r space =
+    pick-all (λ (o : Outcome). length (o .moved .records) ≤ 2560) _ (perform-few b r (six-sound b h)) (omega arith)
+
 pub room : (b : State) → Sound b → (frame : List ℕ) (space : ℕ) → length (step b frame space .moved .records) ≤ 2560
-unfolding step decide refused
-room b h frame space =
-    pick-all (λ (o : Outcome). length (o .moved .records) ≤ 2560) _ (perform-few b (readOf frame) (six-sound b h)) (omega arith)
+unfolding step
+room b h frame space = room-read b h (readOf frame) space

@@ -34,7 +34,7 @@ use Rattle.rules.proofs.Control.{Kept, each-kept, onOrder-kept, onLegOr
 use Rattle.rules.proofs.Entering.{dead-zero, fit-at, fit-entry-at, fit-order-at, fresh-dead, Entering, enter-room, sound-enter, EnteringOrder, enterOrder-room, sound-enterOrder}
 use Rattle.rules.proofs.Settled.{strategy-same, cancel-strategies}
 use Rattle.rules.proofs.Arrivals.{Sweeping, swept-valid, swept-entering}
-use Rattle.rules.proofs.Ranges.{FitEvent}
+use Rattle.rules.specs.Fits.{FitEvent}
 use Rattle.rules.proofs.Validity.{clear, order-entering, sweep-given, order-given}
 use Rattle.rules.proofs.DayEnd.{Finished, day-end-clears}
 use Rattle.rules.proofs.Laws.{tally, Law, ofUnits, ofContracts, noEntries, noOrders, ofSeries, ofCash, ofRatio, ofLimit, ofPrice, size, come, gone, FitsEntry, FitsOrder, Good, Steady, Acct, ratioFor, steady-shrinks, good-shrinks, tally-append, acct-nothing, acct-both, pick-none}

@@ -39,7 +39,8 @@ use Rattle.rules.proofs.Settled.{same-or, Nearly, OpenLegs, settled-nea
 use Rattle.rules.proofs.Only.{live-in}
 use Rattle.rules.proofs.Arrivals.{order-valid, Sweeping, sweep-valid, legOrder-valid, cancel-number-valid}
 use Rattle.rules.proofs.Endings.{or-no, live-is, clock-valid, series-valid, fresh-valid, dayEnd-valid}
-use Rattle.rules.proofs.Ranges.{FitGiven, FitOrderGiven, FitSweepGiven, FitLegOrderGiven, FitEvent, FitReading, reading-fit}
+use Rattle.rules.specs.Fits.{FitGiven, FitOrderGiven, FitSweepGiven, FitLegOrderGiven, FitEvent, FitReading}
+use Rattle.rules.proofs.Ranges.{reading-fit}
 
 pub valid-fresh : (timer : ℕ) → 1 ≤ timer → timer ≤ 5000 → Valid (fresh timer)
 valid-fresh = fresh-valid
@@ -223,7 +224,7 @@ order-given b e f o n = record {
 
 -- An event that is accepted.
 
-accept-valid : (b : State) (e : Event) → Valid b → FitEvent e → first (causes b e) ≡ 0 → Valid (accept b e .state)
+pub accept-valid : (b : State) (e : Event) → Valid b → FitEvent e → first (causes b e) ≡ 0 → Valid (accept b e .state)
 unfolding accept causes
 accept-valid b (E.Strategy e) v f c =
     let x = clear 5 (illFormed e) _ (omega arith) c in
@@ -262,7 +263,7 @@ unfolding perform refused refusal tableOf readCauses
 perform-valid b (R.Refused n) space v f c = v
 perform-valid b (R.Event e) space v f c = accept-valid b e v f (clear 1 (ltb space 15_360) (causes b e) (omega arith) c .1)
 
-decide-valid : (b : State) (r : Reading) (space : ℕ) → Valid b → FitReading r → Valid (decide b r space .moved .state)
+pub decide-valid : (b : State) (r : Reading) (space : ℕ) → Valid b → FitReading r → Valid (decide b r space .moved .state)
 unfolding decide refused
 decide-valid b r space v f =
     pick-by (λ (o : Outcome). Valid (o .moved .state)) (eqb (refusal b r space) 0)

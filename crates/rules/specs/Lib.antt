@@ -13,6 +13,7 @@ pub mod Refusals
 pub mod Lookups
 pub mod Step
 pub mod Valid
+pub mod Fits
 pub mod Records
 pub mod Totals
 pub mod Examples

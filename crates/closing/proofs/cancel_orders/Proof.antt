@@ -1,0 +1,62 @@
+use Rattle.closing.specs.Closing.{fit-each}
+use Rattle.rules.proofs.Control.{cancelOrderOf-kept, shrinks-kept}
+use Rattle.rules.specs.Events.{cancelOrderOf}
+use Rattle.records.specs.Done.{Done, each-first, each-next, room-each, done-length, done-of, room-of}
+use Rattle.rules.specs.Moves.{each}
+use borrow.Author.Needs.{needs}
+use native.Mathlib.Omega.{arith}
+use Prim.Native.Nat.{_≤_, _-_}
+use mathlib.Core.Path.{_≡_}
+use Rattle.closing.proofs.cancel_orders.Statement.{statement}
+use Rattle.closing.proofs.cancel_orders.Tie as tie
+use Rattle.closing.proofs.cancel_orders.Reads as reads
+use Rattle.closing.proofs.cancel_orders.Lts as lts
+use Rattle.closing.proofs.cancel_order_of.Reads as cancel-order-of-reads
+
+abbrev Inv-loop : tie.InvT-loop
+Inv-loop number space₀ n c₀ m₀ i₀ space c m i = (i ≤ 32) × Done space₀ space n m c (each (cancelOrderOf number) i c₀)
+
+abbrev μ-loop : tie.MeasureT-loop
+μ-loop number space₀ n c₀ m₀ i₀ space c m i = 32 - i
+
+-- src/lib.rt:87:5
+loop-holds : tie.Need-loop-holds Inv-loop μ-loop
+loop-holds c = (omega arith, each-first _ _ _ _)
+
+-- src/lib.rt:88:13
+cancel-order-of-requires : tie.Need-cancel-order-of-requires Inv-loop μ-loop
+cancel-order-of-requires c κs = ((c .before .loop-test .taken, fit-each (cancelOrderOf (c .before .before .before .args .number)) (cancelOrderOf-kept shrinks-kept (c .before .before .before .args .number)) _ _ (c .before .before .before .pre .0) (c .before .before .loop .inv .1)), room-each (cancelOrderOf (c .before .before .before .args .number)) 32 _ _ (c .before .before .before .pre .1) (c .before .loop-test .taken) (c .before .before .loop .inv .1))
+
+-- src/lib.rt:91:9
+add-i : tie.Need-add-i Inv-loop μ-loop
+add-i c = omega arith
+
+-- src/lib.rt:87:5
+loop-less : tie.Need-loop-less Inv-loop μ-loop
+loop-less c = omega arith
+
+-- src/lib.rt:87:5
+loop-again : tie.Need-loop-again Inv-loop μ-loop
+loop-again c = (omega arith, each-next (cancelOrderOf (c .before .before .before .before .before .before .args .number)) _ _ (c .before .before .before .before .before .loop .inv .1) (c .before .before .cancel-order-of .ensures))
+
+-- src/lib.rt:79:1
+same-length : tie.Need-same-length Inv-loop μ-loop
+same-length c = done-length (c .before .loop .inv .1)
+
+-- src/lib.rt:79:1
+returns : tie.Need-returns Inv-loop μ-loop
+returns c = let e : c .before .loop .i ≡ 32 = omega arith in rw e at (c .before .loop .inv .1)
+
+pub cancel-orders-spec : {M : Type 1} → statement M
+cancel-orders-spec =
+    tie.close
+    (tie.spec
+    Inv-loop
+    μ-loop
+    loop-holds
+    cancel-order-of-requires
+    add-i
+    loop-less
+    loop-again
+    same-length
+    returns)

@@ -1,0 +1,36 @@
+use Rattle.closing.specs.Closing.{rests-not, rests-yes}
+use Rattle.records.specs.Done.{done-still, done-of, room-of}
+use borrow.Author.Needs.{needs}
+use Rattle.closing.proofs.if_rests.Statement.{statement}
+use Rattle.closing.proofs.if_rests.Tie as tie
+use Rattle.closing.proofs.if_rests.Reads as reads
+use Rattle.closing.proofs.if_rests.Lts as lts
+use Rattle.matching.proofs.leg_passes.Reads as leg-passes-reads
+
+-- src/lib.rt:374:13
+mul-o : tie.Need-mul-o
+mul-o c = search needs
+
+-- src/lib.rt:374:13
+element-copy-out-o : tie.Need-element-copy-out-o
+element-copy-out-o c = search needs
+
+-- src/lib.rt:376:9
+returns : tie.Need-returns
+returns c = done-of (rests-not _ _ _ (c .if1 .taken)) (done-still _ _ _)
+
+-- src/lib.rt:378:5
+leg-passes-requires : tie.Need-leg-passes-requires
+leg-passes-requires c κs = ((c .before .before .before .before .pre .0 .0, c .before .before .before .before .pre .0 .2), room-of (rests-yes _ _ _ (c .before .if1 .left)) (c .before .before .before .before .pre .1))
+
+-- src/lib.rt:369:1
+same-length : tie.Need-same-length
+same-length c = search needs
+
+-- src/lib.rt:369:1
+returns-2 : tie.Need-returns-2
+returns-2 c = done-of (rests-yes _ _ _ (c .before .before .before .if1 .left)) (c .before .leg-passes .ensures)
+
+pub if-rests-spec : {M : Type 1} → statement M
+if-rests-spec =
+    tie.close (tie.spec mul-o element-copy-out-o returns leg-passes-requires same-length returns-2)

@@ -1,0 +1,14 @@
+use Rattle.rules.specs.State.{withClock}
+use mathlib.Core.Path.{refl}
+use Rattle.closing.proofs.with_clock.Statement.{statement}
+use Rattle.closing.proofs.with_clock.Tie as tie
+use Rattle.closing.proofs.with_clock.Reads as reads
+use Rattle.closing.proofs.with_clock.Lts as lts
+
+-- src/lib.rt:258:1
+returns : tie.Need-returns
+unfolding withClock
+returns c = refl
+
+pub with-clock-spec : {M : Type 1} → statement M
+with-clock-spec = tie.close (tie.spec returns)

@@ -1,0 +1,14 @@
+use Rattle.rules.specs.State.{withOpened}
+use mathlib.Core.Path.{refl}
+use Rattle.closing.proofs.with_opened.Statement.{statement}
+use Rattle.closing.proofs.with_opened.Tie as tie
+use Rattle.closing.proofs.with_opened.Reads as reads
+use Rattle.closing.proofs.with_opened.Lts as lts
+
+-- src/lib.rt:284:1
+returns : tie.Need-returns
+unfolding withOpened
+returns c = refl
+
+pub with-opened-spec : {M : Type 1} → statement M
+with-opened-spec = tie.close (tie.spec returns)

@@ -1,0 +1,357 @@
+// Cancels, the clock, the series, the leg order, and the parts of the day's end.
+ghost use mathlib.Core.Path.{_≡_};
+ghost use mathlib.Core.Bool.{false};
+ghost use Prim.Native.Nat.{_+_, _*_, _-_, _/_, _%_, _^_, _<_, _≤_};
+ghost use lib.ListN.{length, getD};
+ghost use Rattle.base.specs.Pick.{pick};
+ghost use Rattle.base.specs.Walks.{walk};
+ghost use Rattle.base.specs.Sets.{has};
+ghost use Rattle.rules.specs.State.{strategyAt, withOpened, withClock};
+ghost use Rattle.rules.specs.Moves.{each};
+ghost use Rattle.rules.specs.Auctions.{putAuction, close, endHolding, matchIn};
+ghost use Rattle.rules.specs.Events.{live, liveOrder, freeOrderSlot, ifRests, onLegOrder, cancelEntryOf, cancelOrderOf, cancelNumber, onClock, shut, reopen, onSeries, closeRunning, lower, lowerEntry, lowestLive, cancelLowest};
+ghost use Rattle.rules.specs.Valid.{FitOrder};
+ghost use Rattle.records.specs.Space.{Wrote, Room};
+ghost use Rattle.records.specs.Done.{Done};
+ghost use Rattle.ranges.specs.Fit.{Fit};
+ghost use Rattle.auctions.specs.Ranged.{Ranged};
+use auctions::close;
+use endings::end_due;
+use endings::end_holding;
+use endings::running;
+use fills::cancel_entry;
+use legs::enter_order;
+use legs::free_order_slot;
+use matching::leg_passes;
+use matching::match_in;
+use records::After;
+use records::less;
+use rules::Entry;
+use rules::LegOrder;
+use rules::State;
+use trades::cancel_order;
+use trades::trade_all;
+
+fn cancel_entry_of(b: State, number: u32, i: usize, space: &mut [i32], n: usize) -> After
+    requires { ⌜ (i < 32) × Fit b ⌝ }
+    requires { ⌜ Room (now space) n (cancelEntryOf number i b .records) ⌝ }
+    ensures { λ t. ⌜ Done (now (space .entry)) (now (space .exit)) n (t .count) (t .state) (cancelEntryOf number i b) ⌝ }
+{
+    let e = b.entries[i];
+    if e.number == number {
+        return cancel_entry(b, i, space, n);
+    }
+    After { state: b, count: n }
+}
+
+fn cancel_order_of(b: State, number: u32, i: usize, space: &mut [i32], n: usize) -> After
+    requires { ⌜ (i < 32) × Fit b ⌝ }
+    requires { ⌜ Room (now space) n (cancelOrderOf number i b .records) ⌝ }
+    ensures { λ t. ⌜ Done (now (space .entry)) (now (space .exit)) n (t .count) (t .state) (cancelOrderOf number i b) ⌝ }
+{
+    let o = b.orders[i];
+    if o.number == number {
+        return cancel_order(b, i, space, n);
+    }
+    After { state: b, count: n }
+}
+
+fn cancel_entries(b: State, number: u32, space: &mut [i32], n: usize) -> After
+    requires { ⌜ Fit b ⌝ }
+    requires { ⌜ Room (now space) n (each (cancelEntryOf number) 32 b .records) ⌝ }
+    ensures { λ t. ⌜ Done (now (space .entry)) (now (space .exit)) n (t .count) (t .state) (each (cancelEntryOf number) 32 b) ⌝ }
+{
+    let mut c = b;
+    let mut m = n;
+    let mut i: usize = 0;
+    while i < 32 {
+        let t = cancel_entry_of(c, number, i, space, m);
+        c = t.state;
+        m = t.count;
+        i += 1;
+    }
+    After { state: c, count: m }
+}
+
+fn cancel_orders(b: State, number: u32, space: &mut [i32], n: usize) -> After
+    requires { ⌜ Fit b ⌝ }
+    requires { ⌜ Room (now space) n (each (cancelOrderOf number) 32 b .records) ⌝ }
+    ensures { λ t. ⌜ Done (now (space .entry)) (now (space .exit)) n (t .count) (t .state) (each (cancelOrderOf number) 32 b) ⌝ }
+{
+    let mut c = b;
+    let mut m = n;
+    let mut i: usize = 0;
+    while i < 32 {
+        let t = cancel_order_of(c, number, i, space, m);
+        c = t.state;
+        m = t.count;
+        i += 1;
+    }
+    After { state: c, count: m }
+}
+
+// The cancel of what is live of a number, in both tables.
+pub fn cancel_number(b: State, number: u32, space: &mut [i32], n: usize) -> After
+    requires { ⌜ Fit b ⌝ }
+    requires { ⌜ Room (now space) n (cancelNumber number b .records) ⌝ }
+    ensures { λ t. ⌜ Done (now (space .entry)) (now (space .exit)) n (t .count) (t .state) (cancelNumber number b) ⌝ }
+{
+    let x = cancel_entries(b, number, space, n);
+    let c = x.state;
+    cancel_orders(c, number, space, x.count)
+}
+
+// The lower of two numbers, of which 0 is none.
+fn lower(n: u32, m: u32) -> u32
+    ensures { λ r. ⌜ r ≡ lower n m ⌝ }
+{
+    if n == 0 {
+        return m;
+    }
+    if m < n {
+        return m;
+    }
+    n
+}
+
+fn lower_entry(n: u32, e: Entry) -> u32
+    ensures { λ r. ⌜ r ≡ pick (live e) (lower n (e .number)) n ⌝ }
+{
+    if e.units == 0 {
+        return n;
+    }
+    lower(n, e.number)
+}
+
+fn lower_order(n: u32, o: LegOrder) -> u32
+    ensures { λ r. ⌜ r ≡ pick (liveOrder o) (lower n (o .number)) n ⌝ }
+{
+    if o.contracts == 0 {
+        return n;
+    }
+    lower(n, o.number)
+}
+
+fn lowest_entry(b: State) -> u32
+    ensures { λ r. ⌜ r ≡ walk (lowerEntry b) 0 32 ⌝ }
+{
+    let mut n: u32 = 0;
+    let mut i: usize = 0;
+    while i < 32 {
+        n = lower_entry(n, b.entries[i]);
+        i += 1;
+    }
+    n
+}
+
+// The lowest number that is live, 0 where none is.
+fn lowest_live(b: State) -> u32
+    ensures { λ r. ⌜ r ≡ lowestLive b ⌝ }
+{
+    let mut n = lowest_entry(b);
+    let mut i: usize = 0;
+    while i < 32 {
+        n = lower_order(n, b.orders[i]);
+        i += 1;
+    }
+    n
+}
+
+fn cancel_lowest(b: State, space: &mut [i32], n: usize) -> After
+    requires { ⌜ Fit b ⌝ }
+    requires { ⌜ Room (now space) n (cancelLowest 0 b .records) ⌝ }
+    ensures { λ t. ⌜ Done (now (space .entry)) (now (space .exit)) n (t .count) (t .state) (cancelLowest 0 b) ⌝ }
+{
+    let low = lowest_live(b);
+    cancel_number(b, low, space, n)
+}
+
+// At the day's end: all that is live, by number.
+pub fn cancel_all(b: State, space: &mut [i32], n: usize) -> After
+    requires { ⌜ Fit b ⌝ }
+    requires { ⌜ Room (now space) n (each cancelLowest 64 b .records) ⌝ }
+    ensures { λ t. ⌜ Done (now (space .entry)) (now (space .exit)) n (t .count) (t .state) (each cancelLowest 64 b) ⌝ }
+{
+    let mut c = b;
+    let mut m = n;
+    let mut i: usize = 0;
+    while i < 64 {
+        let t = cancel_lowest(c, space, m);
+        c = t.state;
+        m = t.count;
+        i += 1;
+    }
+    After { state: c, count: m }
+}
+
+fn close_running(b: State, k: usize, space: &mut [i32], n: usize) -> After
+    requires { ⌜ (k < 16) × Ranged b ⌝ }
+    requires { ⌜ Room (now space) n (closeRunning k b .records) ⌝ }
+    ensures { λ t. ⌜ Done (now (space .entry)) (now (space .exit)) n (t .count) (t .state) (closeRunning k b) ⌝ }
+{
+    if running(b, k) {
+        return close(b, k, space, n);
+    }
+    After { state: b, count: n }
+}
+
+// At the day's end: the auctions, by strategy.
+pub fn close_all(b: State, space: &mut [i32], n: usize) -> After
+    requires { ⌜ Ranged b ⌝ }
+    requires { ⌜ Room (now space) n (each closeRunning 16 b .records) ⌝ }
+    ensures { λ t. ⌜ Done (now (space .entry)) (now (space .exit)) n (t .count) (t .state) (each closeRunning 16 b) ⌝ }
+{
+    let mut c = b;
+    let mut m = n;
+    let mut k: usize = 0;
+    while k < 16 {
+        let t = close_running(c, k, space, m);
+        c = t.state;
+        m = t.count;
+        k += 1;
+    }
+    After { state: c, count: m }
+}
+
+fn with_clock(b: State, t: u32) -> State
+    ensures { λ c. ⌜ c ≡ withClock b t ⌝ }
+{
+    let mut c = b;
+    c.clock = t;
+    c
+}
+
+// The clock, then the auctions that are due, by strategy.
+pub fn on_clock(b: State, t: u32, space: &mut [i32], n: usize) -> After
+    requires { ⌜ (t ≤ 86400000) × Ranged b ⌝ }
+    requires { ⌜ Room (now space) n (onClock t b .records) ⌝ }
+    ensures { λ x. ⌜ Done (now (space .entry)) (now (space .exit)) n (x .count) (x .state) (onClock t b) ⌝ }
+{
+    let mut c = with_clock(b, t);
+    let mut m = n;
+    let mut k: usize = 0;
+    while k < 16 {
+        let x = end_due(c, k, space, m);
+        c = x.state;
+        m = x.count;
+        k += 1;
+    }
+    After { state: c, count: m }
+}
+
+fn with_opened(b: State, x: u32) -> State
+    ensures { λ c. ⌜ c ≡ withOpened b x ⌝ }
+{
+    let mut c = b;
+    c.opened = x;
+    c
+}
+
+// A series shuts: the auctions of strategies that hold it end, by strategy.
+fn shut(b: State, s: u8, space: &mut [i32], n: usize) -> After
+    requires { ⌜ (s < 32) × Ranged b ⌝ }
+    requires { ⌜ Room (now space) n (shut s b .records) ⌝ }
+    ensures { λ t. ⌜ Done (now (space .entry)) (now (space .exit)) n (t .count) (t .state) (shut s b) ⌝ }
+{
+    let left = less(b.opened, 1u32 << s);
+    let mut c = with_opened(b, left);
+    let mut m = n;
+    let mut k: usize = 0;
+    while k < 16 {
+        let t = end_holding(c, s, k, space, m);
+        c = t.state;
+        m = t.count;
+        k += 1;
+    }
+    After { state: c, count: m }
+}
+
+fn match_series(b: State, s: u8, space: &mut [i32], n: usize) -> After
+    requires { ⌜ (s < 32) × Fit b ⌝ }
+    requires { ⌜ Room (now space) n (each (matchIn s) 16 b .records) ⌝ }
+    ensures { λ t. ⌜ Done (now (space .entry)) (now (space .exit)) n (t .count) (t .state) (each (matchIn s) 16 b) ⌝ }
+{
+    let mut c = b;
+    let mut m = n;
+    let mut k: usize = 0;
+    while k < 16 {
+        let t = match_in(c, s, k, space, m);
+        c = t.state;
+        m = t.count;
+        k += 1;
+    }
+    After { state: c, count: m }
+}
+
+fn with_series(x: u32, s: u8) -> u32
+    requires { ⌜ (s < 32) × (x + 2 ^ s < 4294967296) ⌝ }
+    ensures { λ y. ⌜ y ≡ x + 2 ^ s ⌝ }
+{
+    x + (1u32 << s)
+}
+
+// A series opens: the matches by strategy, then the passes by legs only.
+fn reopen(b: State, s: u8, space: &mut [i32], n: usize) -> After
+    requires { ⌜ (s < 32) × Fit b × (has (b .opened) s ≡ false) ⌝ }
+    requires { ⌜ Room (now space) n (reopen s b .records) ⌝ }
+    ensures { λ t. ⌜ Done (now (space .entry)) (now (space .exit)) n (t .count) (t .state) (reopen s b) ⌝ }
+{
+    let more = with_series(b.opened, s);
+    let c = with_opened(b, more);
+    let x = match_series(c, s, space, n);
+    let d = x.state;
+    leg_passes(d, s, space, x.count)
+}
+
+// Whether a series is open.
+pub fn is_open(b: State, s: u8) -> bool
+    requires { ⌜ s < 32 ⌝ }
+    ensures { λ r. ⌜ r ≡ has (b .opened) s ⌝ }
+{
+    let x = (b.opened >> s as u32) % 2;
+    x == 1
+}
+
+// A series shuts (state 0), opens, or stays.
+pub fn on_series(b: State, s: u8, state: u32, space: &mut [i32], n: usize) -> After
+    requires { ⌜ (s < 32) × Ranged b ⌝ }
+    requires { ⌜ Room (now space) n (onSeries s state b .records) ⌝ }
+    ensures { λ t. ⌜ Done (now (space .entry)) (now (space .exit)) n (t .count) (t .state) (onSeries s state b) ⌝ }
+{
+    if is_open(b, s) {
+        if state == 0 {
+            return shut(b, s, space, n);
+        }
+        return After { state: b, count: n };
+    }
+    if state == 0 {
+        return After { state: b, count: n };
+    }
+    reopen(b, s, space, n)
+}
+
+// The passes by legs only, where something of the leg order at slot a rests.
+fn if_rests(b: State, s: u8, a: usize, space: &mut [i32], n: usize) -> After
+    requires { ⌜ (s < 32) × (a < 32) × Fit b ⌝ }
+    requires { ⌜ Room (now space) n (ifRests s a b .records) ⌝ }
+    ensures { λ t. ⌜ Done (now (space .entry)) (now (space .exit)) n (t .count) (t .state) (ifRests s a b) ⌝ }
+{
+    let o = b.orders[a];
+    if o.contracts == 0 {
+        return After { state: b, count: n };
+    }
+    leg_passes(b, s, space, n)
+}
+
+// A leg order enters and trades; if any rests, the passes by legs only.
+pub fn on_leg_order(b: State, o: LegOrder, space: &mut [i32], n: usize) -> After
+    requires { ⌜ (freeOrderSlot b < 32) × FitOrder o × Fit b ⌝ }
+    requires { ⌜ Room (now space) n (onLegOrder o b .records) ⌝ }
+    ensures { λ t. ⌜ Done (now (space .entry)) (now (space .exit)) n (t .count) (t .state) (onLegOrder o b) ⌝ }
+{
+    let a = free_order_slot(b);
+    let c = enter_order(o, b);
+    let x = trade_all(c, a, space, n);
+    let d = x.state;
+    if_rests(d, o.series, a, space, x.count)
+}
