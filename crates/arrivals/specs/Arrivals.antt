@@ -27,8 +27,9 @@ use Rattle.rules.proofs.Tables.{behind-length, behind-all}
 use Rattle.records.specs.Done.{Done}
 use Rattle.ranges.specs.Fit.{Fit, fit-done}
 
--- a slot is free where the entry is live
-pub record SlotFor (e : Entry) (b : State) : Type 0 where
+-- an entry that is live is in its ranges, and has a free slot
+pub record MayEnter (e : Entry) (b : State) : Type 0 where
+  pub fit : live e ≡ true → FitEntry e
   pub slot : live e ≡ true → freeSlot b < 32
 
 -- laws
@@ -128,7 +129,7 @@ pub fit-cancel : (i : ℕ) (b : State) {c : State} {sp sq : List ℤ} {n m : ℕ
 fit-cancel i b f d = fit-done d (cancel-shrinks b i) f
 
 -- the slot is free in the state that the cancel left
-pub slot-after : (e : Entry) (i : ℕ) (b : State) {c : State} {sp sq : List ℤ} {n m : ℕ} → SlotFor e (cancelEntry i b .state) → Done sp sq n m c (cancelEntry i b) → SlotFor e c
+pub slot-after : (e : Entry) (i : ℕ) (b : State) {c : State} {sp sq : List ℤ} {n m : ℕ} → MayEnter e (cancelEntry i b .state) → Done sp sq n m c (cancelEntry i b) → MayEnter e c
 slot-after e i b s d = rw (d .state) s
 
 -- the cancel at the slot that the code has found

@@ -11,7 +11,7 @@ ghost use Rattle.rules.specs.Valid.{FitEntry};
 ghost use Rattle.records.specs.Space.{Room};
 ghost use Rattle.records.specs.Done.{Done};
 ghost use Rattle.ranges.specs.Fit.{Fit};
-ghost use Rattle.arrivals.specs.Arrivals.{SlotFor};
+ghost use Rattle.arrivals.specs.Arrivals.{MayEnter};
 use auctions::answer;
 use auctions::begin;
 use endings::running;
@@ -138,7 +138,7 @@ pub fn on_order(e: Entry, b: State, space: &mut [i32], n: usize) -> After
 
 // A sweep enters and answers; one of 0 units enters nothing.
 fn enter_sweep(e: Entry, b: State) -> State
-    requires { ⌜ SlotFor e b × FitEntry e × Fit b ⌝ }
+    requires { ⌜ MayEnter e b × Fit b ⌝ }
     ensures { λ c. ⌜ still c ≡ enterSweep e b ⌝ }
 {
     if live(e) {
@@ -163,7 +163,7 @@ fn cancel_at(b: State, i: usize, space: &mut [i32], n: usize) -> After
 
 // A sweep, accepted: the one that it replaces is cancelled first.
 pub fn on_sweep(e: Entry, b: State, space: &mut [i32], n: usize) -> After
-    requires { ⌜ SlotFor e (cancelEntry (oldSweep b e) b .state) × FitEntry e × Fit b ⌝ }
+    requires { ⌜ MayEnter e (cancelEntry (oldSweep b e) b .state) × Fit b ⌝ }
     requires { ⌜ Room (now space) n (onSweep e b .records) ⌝ }
     ensures { λ t. ⌜ Done (now (space .entry)) (now (space .exit)) n (t .count) (t .state) (onSweep e b) ⌝ }
 {

@@ -1,1 +1,3 @@
 pub mod Books
+pub mod Outcomes
+pub mod Premises

@@ -1,76 +1,83 @@
 // The book of complex orders. Its state is private, so that no other crate can make a book.
 ghost use mathlib.Core.Path.{_≡_};
-ghost use Rattle.rules.specs.State.{fresh, freeStrategy};
 ghost use Rattle.rules.specs.Lookups.{liveQuantity, shutLegs};
 ghost use Rattle.rules.specs.Valid.{Valid};
 ghost use Rattle.lookups.specs.Lookups.{bookDepth};
-ghost use Rattle.book.specs.Books.{First};
+ghost use Rattle.events.specs.declared.Event.the-variants as E;
+ghost use Rattle.rules.specs.Fits.{FitGiven, FitOrderGiven, FitSweepGiven, FitLegOrderGiven, FitEvent};
+ghost use Rattle.base.specs.Pick.{pick};
+ghost use lib.Dec.{eqb};
+ghost use lib.ListN.{length};
+ghost use Prim.Native.Nat.{_≤_, _<_};
+ghost use Rattle.book.specs.Books.{First, Took, Stepped};
+ghost use Rattle.book.specs.Outcomes.{refuse, admit};
+use arrivals::on_order;
+use arrivals::on_sweep;
+use closing::cancel_number;
+use closing::fresh;
+use closing::on_clock;
+use closing::on_day_end;
+use closing::on_leg_order;
+use closing::on_series;
+use events::Event;
+use events::Reading;
+use frames::read;
+use given::leg_order_given;
+use given::order_given;
+use given::strategy_given;
+use given::strategy_refusal;
+use given::sweep_given;
+use refusals::cancel_refusal;
+use refusals::clock_refusal;
+use refusals::leg_order_refusal;
+use refusals::order_refusal;
+use refusals::sweep_refusal;
+use rules::Answer;
 use rules::Depth;
 use rules::Entry;
-use rules::Leg;
-use rules::LegOrder;
 use rules::Shut;
 use rules::State;
-use rules::Strategy;
+use strategies::define;
+use strategies::number_of;
 
 pub struct Book {
     state: State,
 }
 
-const NO_LEG: Leg = Leg {
-    series: 0,
-    side: 0,
-    ratio: 0,
-};
+// What an event hands back.
+pub struct Taken {
+    pub book: Book,
+    pub answer: Answer,
+}
 
-const NO_ENTRY: Entry = Entry {
-    number: 0,
-    member: 0,
-    strategy: 0,
-    side: 0,
-    class: 0,
-    life: 0,
-    units: 0,
-    level: 0,
-};
-
-const NO_ORDER: LegOrder = LegOrder {
-    number: 0,
-    member: 0,
-    series: 0,
-    side: 0,
-    contracts: 0,
-    price: 0,
-};
-
-// A free row of the table of strategies.
-fn free_strategy() -> Strategy
-    ensures { λ s. ⌜ s ≡ freeStrategy ⌝ }
+// A refusal: the number only.
+fn refuse(b: State, n: u32) -> Taken
+    ensures { λ x. ⌜ x ≡ refuse b n ⌝ }
 {
-    Strategy {
-        legs: [NO_LEG; 6],
-        count: 0,
-        series: 0,
-        starter: 0,
-        begun: 0,
-        answered: false,
+    Taken {
+        book: Book { state: b },
+        answer: Answer::Refused(n),
     }
 }
 
-// The state of a fresh book.
-fn fresh(timer: u32) -> State
-    ensures { λ b. ⌜ b ≡ fresh timer ⌝ }
+// An accepted event: its value, and the number of its records.
+fn admit(b: State, value: u32, count: usize) -> Taken
+    ensures { λ x. ⌜ x ≡ admit b value count ⌝ }
 {
-    State {
-        strategies: [free_strategy(); 16],
-        entries: [NO_ENTRY; 32],
-        orders: [NO_ORDER; 32],
-        defined: 0,
-        opened: 0,
-        clock: 0,
-        timer: timer,
-        last: 0,
+    Taken {
+        book: Book { state: b },
+        answer: Answer::Accepted(value, count),
     }
+}
+
+// The number that an entry takes; one of 0 units takes none.
+fn number_taken(e: Entry) -> u32
+    ensures { λ r. ⌜ r ≡ pick (eqb (e .units) 0) 0 (e .number) ⌝ }
+{
+    if e.units == 0 {
+        return 0;
+    }
+    e.number
 }
 
 impl Book {
@@ -90,6 +97,156 @@ impl Book {
         ensures { λ b. ⌜ First b ⌝ }
     {
         Book { state: fresh(5000) }
+    }
+
+    // Kind 1: a strategy.
+    fn strategy(self, e: events::Strategy, space: &mut [i32]) -> Taken
+        requires { ⌜ Valid (self .state) × FitGiven e × (15360 ≤ length (now space)) ⌝ }
+        ensures { λ x. ⌜ Took (self .state) (E.Strategy e) (now (space .entry)) (now (space .exit)) x ⌝ }
+    {
+        let b = self.state;
+        let r = strategy_refusal(b, e);
+        if r != 0 {
+            return refuse(b, r);
+        }
+        let s = strategy_given(e);
+        let k = number_of(b, s);
+        let c = define(s, b);
+        admit(c, k as u32, 0)
+    }
+
+    // Kind 2: a complex order.
+    fn order(self, e: events::Order, space: &mut [i32]) -> Taken
+        requires { ⌜ Valid (self .state) × FitOrderGiven e × (15360 ≤ length (now space)) ⌝ }
+        ensures { λ x. ⌜ Took (self .state) (E.Order e) (now (space .entry)) (now (space .exit)) x ⌝ }
+    {
+        let b = self.state;
+        let r = order_refusal(b, e);
+        if r != 0 {
+            return refuse(b, r);
+        }
+        let row = order_given(b, e);
+        let t = on_order(row, b, space, 0);
+        let c = t.state;
+        admit(c, row.number, t.count)
+    }
+
+    // Kind 3: a sweep.
+    fn sweep(self, e: events::Sweep, space: &mut [i32]) -> Taken
+        requires { ⌜ Valid (self .state) × FitSweepGiven e × (15360 ≤ length (now space)) ⌝ }
+        ensures { λ x. ⌜ Took (self .state) (E.Sweep e) (now (space .entry)) (now (space .exit)) x ⌝ }
+    {
+        let b = self.state;
+        let r = sweep_refusal(b, e);
+        if r != 0 {
+            return refuse(b, r);
+        }
+        let row = sweep_given(b, e);
+        let t = on_sweep(row, b, space, 0);
+        let c = t.state;
+        admit(c, number_taken(row), t.count)
+    }
+
+    // Kind 4: a leg order.
+    fn leg_order(self, e: events::LegOrder, space: &mut [i32]) -> Taken
+        requires { ⌜ Valid (self .state) × FitLegOrderGiven e × (15360 ≤ length (now space)) ⌝ }
+        ensures { λ x. ⌜ Took (self .state) (E.LegOrder e) (now (space .entry)) (now (space .exit)) x ⌝ }
+    {
+        let b = self.state;
+        let r = leg_order_refusal(b, e);
+        if r != 0 {
+            return refuse(b, r);
+        }
+        let row = leg_order_given(b, e);
+        let t = on_leg_order(b, row, space, 0);
+        let c = t.state;
+        admit(c, row.number, t.count)
+    }
+
+    // Kind 5: a cancel.
+    fn cancel(self, e: events::Cancel, space: &mut [i32]) -> Taken
+        requires { ⌜ Valid (self .state) × (1 ≤ e .number) × (15360 ≤ length (now space)) ⌝ }
+        ensures { λ x. ⌜ Took (self .state) (E.Cancel e) (now (space .entry)) (now (space .exit)) x ⌝ }
+    {
+        let b = self.state;
+        let r = cancel_refusal(b, e);
+        if r != 0 {
+            return refuse(b, r);
+        }
+        let t = cancel_number(b, e.number, space, 0);
+        let c = t.state;
+        admit(c, 0, t.count)
+    }
+
+    // Kind 6: a series opens or shuts.
+    fn series(self, e: events::Series, space: &mut [i32]) -> Taken
+        requires { ⌜ Valid (self .state) × (e .series < 32) × (15360 ≤ length (now space)) ⌝ }
+        ensures { λ x. ⌜ Took (self .state) (E.Series e) (now (space .entry)) (now (space .exit)) x ⌝ }
+    {
+        let b = self.state;
+        let t = on_series(b, e.series as u8, e.state, space, 0);
+        let c = t.state;
+        admit(c, 0, t.count)
+    }
+
+    // Kind 7: the clock.
+    fn clock(self, e: events::Clock, space: &mut [i32]) -> Taken
+        requires { ⌜ Valid (self .state) × (e .time ≤ 86400000) × (15360 ≤ length (now space)) ⌝ }
+        ensures { λ x. ⌜ Took (self .state) (E.Clock e) (now (space .entry)) (now (space .exit)) x ⌝ }
+    {
+        let b = self.state;
+        let r = clock_refusal(b, e);
+        if r != 0 {
+            return refuse(b, r);
+        }
+        let t = on_clock(b, e.time, space, 0);
+        let c = t.state;
+        admit(c, 0, t.count)
+    }
+
+    // Kind 8: the day's end.
+    fn day_end(self, e: events::DayEnd, space: &mut [i32]) -> Taken
+        requires { ⌜ Valid (self .state) × ((1 ≤ e .timer) × (e .timer ≤ 5000)) × (15360 ≤ length (now space)) ⌝ }
+        ensures { λ x. ⌜ Took (self .state) (E.DayEnd e) (now (space .entry)) (now (space .exit)) x ⌝ }
+    {
+        let b = self.state;
+        let t = on_day_end(b, e.timer, space, 0);
+        let c = t.state;
+        admit(c, 0, t.count)
+    }
+
+    // An event of any kind.
+    fn take(self, event: Event, space: &mut [i32]) -> Taken
+        requires { ⌜ Valid (self .state) × FitEvent event × (15360 ≤ length (now space)) ⌝ }
+        ensures { λ x. ⌜ Took (self .state) event (now (space .entry)) (now (space .exit)) x ⌝ }
+    {
+        match event {
+            Event::Strategy(e) => self.strategy(e, space),
+            Event::Order(e) => self.order(e, space),
+            Event::Sweep(e) => self.sweep(e, space),
+            Event::LegOrder(e) => self.leg_order(e, space),
+            Event::Cancel(e) => self.cancel(e, space),
+            Event::Series(e) => self.series(e, space),
+            Event::Clock(e) => self.clock(e, space),
+            Event::DayEnd(e) => self.day_end(e, space),
+        }
+    }
+
+    // A frame of any bytes, with a record space of any length: the answer, the book, and the records in the space. A refused
+    // event hands back the book that came, and leaves the space.
+    pub fn step(self, frame: &[u8], space: &mut [i32]) -> Taken
+        requires { ⌜ Valid (self .state) ⌝ }
+        ensures { λ x. ⌜ Stepped (self .state) (now (frame .entry)) (now (space .entry)) (now (space .exit)) x ⌝ }
+    {
+        let b = self.state;
+        if space.len() < Book::RECORD_SPACE {
+            return refuse(b, 1);
+        }
+        let reading = read(frame);
+        match reading {
+            Reading::Refused(n) => refuse(b, n),
+            Reading::Event(event) => self.take(event, space),
+        }
     }
 
     // The live quantity of a number, 0 if none.

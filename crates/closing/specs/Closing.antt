@@ -12,17 +12,17 @@ use Rattle.base.specs.Sets.{has}
 use Rattle.rules.specs.declared.Entry.{Entry}
 use Rattle.rules.specs.declared.LegOrder.{LegOrder}
 use Rattle.rules.specs.declared.State.{State}
-use Rattle.rules.specs.State.{noOrder, entryAt, orderAt, withOrders, withOpened, withClock, withLast}
+use Rattle.rules.specs.State.{fresh, noOrder, entryAt, orderAt, withOrders, withOpened, withClock, withLast}
 use Rattle.rules.specs.Moves.{Moved, still, and-then, each}
 use Rattle.rules.specs.Fills.{cancelEntry, cancelOrder}
 use Rattle.rules.specs.Auctions.{running, close, endDue, endHolding, legPasses, matchIn}
-use Rattle.rules.specs.Events.{live, liveOrder, enterOrder, freeOrderSlot, tradeAll, ifRests, onLegOrder, cancelEntryOf, cancelOrderOf, cancelNumber, onClock, shut, reopen, onSeries, closeRunning, lowerEntry, lowerOrder, lowestLive, cancelLowest}
+use Rattle.rules.specs.Events.{live, liveOrder, enterOrder, freeOrderSlot, tradeAll, ifRests, onLegOrder, cancelEntryOf, cancelOrderOf, cancelNumber, onClock, shut, reopen, onSeries, closeRunning, lowerEntry, lowerOrder, lowestLive, cancelLowest, restart, onDayEnd}
 use Rattle.rules.specs.Valid.{FitOrder}
 use Rattle.rules.proofs.Shrinks.{Shrinks}
 use Rattle.rules.proofs.Control.{each-kept, tradeAll-kept, shrinks-kept}
 use Rattle.rules.proofs.Entering.{fit-no-order}
 use Rattle.rules.proofs.Tables.{behind-all, behind-length}
-use Rattle.records.specs.Done.{Done}
+use Rattle.records.specs.Done.{Done, done-still, done-then}
 use Rattle.ranges.specs.Fit.{Fit, fit-done}
 use Rattle.auctions.specs.Ranged.{Ranged, ranged-kept, ranged-done}
 
@@ -127,6 +127,17 @@ leg-is o b p e = rw (p, e)
 
 pub slot-is : (b : State) {a : ℕ} → a ≡ freeOrderSlot b → freeOrderSlot b < 32 → a < 32
 slot-is b e h = rw e h
+
+-- a fresh book writes nothing
+restarted : (timer : ℕ) {f : State} → f ≡ fresh timer → (sp : List ℤ) (n : ℕ) (b : State) → Done sp sp n n f (restart timer b)
+unfolding restart
+restarted timer e sp n b = rw e (done-still sp n (fresh timer))
+
+-- the day's end by its three parts
+pub day-end : (timer : ℕ) (b : State) {c d f : State} {sp sq sr : List ℤ} {n m k : ℕ} → Done sp sq n m c (each closeRunning 16 b) → Done sq sr m k d (each cancelLowest 64 c) → f ≡ fresh timer
+    → Done sp sr n k f (onDayEnd timer b)
+unfolding onDayEnd
+day-end timer b {d = d} {sr = sr} {k = k} x y e = done-then _ _ x (done-then _ _ y (restarted timer e sr k d))
 
 -- THE RANGES
 pub fit-each : (f : ℕ → State → Moved) → ((i : ℕ) (b : State) → length (b .orders) ≡ 32 → Shrinks b (f i b .state)) → (i : ℕ) (b : State) {c : State} {sp sq : List ℤ} {n m : ℕ}

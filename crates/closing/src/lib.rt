@@ -1,4 +1,4 @@
-// Cancels, the clock, the series, the leg order, and the parts of the day's end.
+// Cancels, the clock, the series, the leg order, and the day's end.
 ghost use mathlib.Core.Path.{_≡_};
 ghost use mathlib.Core.Bool.{false};
 ghost use Prim.Native.Nat.{_+_, _*_, _-_, _/_, _%_, _^_, _<_, _≤_};
@@ -6,10 +6,10 @@ ghost use lib.ListN.{length, getD};
 ghost use Rattle.base.specs.Pick.{pick};
 ghost use Rattle.base.specs.Walks.{walk};
 ghost use Rattle.base.specs.Sets.{has};
-ghost use Rattle.rules.specs.State.{strategyAt, withOpened, withClock};
+ghost use Rattle.rules.specs.State.{fresh, freeStrategy, strategyAt, withOpened, withClock};
 ghost use Rattle.rules.specs.Moves.{each};
 ghost use Rattle.rules.specs.Auctions.{putAuction, close, endHolding, matchIn};
-ghost use Rattle.rules.specs.Events.{live, liveOrder, freeOrderSlot, ifRests, onLegOrder, cancelEntryOf, cancelOrderOf, cancelNumber, onClock, shut, reopen, onSeries, closeRunning, lower, lowerEntry, lowestLive, cancelLowest};
+ghost use Rattle.rules.specs.Events.{live, liveOrder, freeOrderSlot, ifRests, onLegOrder, cancelEntryOf, cancelOrderOf, cancelNumber, onClock, shut, reopen, onSeries, closeRunning, lower, lowerEntry, lowestLive, cancelLowest, onDayEnd};
 ghost use Rattle.rules.specs.Valid.{FitOrder};
 ghost use Rattle.records.specs.Space.{Wrote, Room};
 ghost use Rattle.records.specs.Done.{Done};
@@ -27,10 +27,68 @@ use matching::match_in;
 use records::After;
 use records::less;
 use rules::Entry;
+use rules::Leg;
 use rules::LegOrder;
 use rules::State;
+use rules::Strategy;
 use trades::cancel_order;
 use trades::trade_all;
+
+const NO_LEG: Leg = Leg {
+    series: 0,
+    side: 0,
+    ratio: 0,
+};
+
+const NO_ENTRY: Entry = Entry {
+    number: 0,
+    member: 0,
+    strategy: 0,
+    side: 0,
+    class: 0,
+    life: 0,
+    units: 0,
+    level: 0,
+};
+
+const NO_ORDER: LegOrder = LegOrder {
+    number: 0,
+    member: 0,
+    series: 0,
+    side: 0,
+    contracts: 0,
+    price: 0,
+};
+
+// A free row of the table of strategies.
+fn free_strategy() -> Strategy
+    ensures { λ s. ⌜ s ≡ freeStrategy ⌝ }
+{
+    Strategy {
+        legs: [NO_LEG; 6],
+        count: 0,
+        series: 0,
+        starter: 0,
+        begun: 0,
+        answered: false,
+    }
+}
+
+// The state of a fresh book.
+pub fn fresh(timer: u32) -> State
+    ensures { λ b. ⌜ b ≡ fresh timer ⌝ }
+{
+    State {
+        strategies: [free_strategy(); 16],
+        entries: [NO_ENTRY; 32],
+        orders: [NO_ORDER; 32],
+        defined: 0,
+        opened: 0,
+        clock: 0,
+        timer: timer,
+        last: 0,
+    }
+}
 
 fn cancel_entry_of(b: State, number: u32, i: usize, space: &mut [i32], n: usize) -> After
     requires { ⌜ (i < 32) × Fit b ⌝ }
@@ -211,6 +269,21 @@ pub fn close_all(b: State, space: &mut [i32], n: usize) -> After
         k += 1;
     }
     After { state: c, count: m }
+}
+
+// The auctions end by strategy, all that is live is cancelled by number, then a fresh book with the new timer.
+pub fn on_day_end(b: State, timer: u32, space: &mut [i32], n: usize) -> After
+    requires { ⌜ Ranged b ⌝ }
+    requires { ⌜ Room (now space) n (onDayEnd timer b .records) ⌝ }
+    ensures { λ t. ⌜ Done (now (space .entry)) (now (space .exit)) n (t .count) (t .state) (onDayEnd timer b) ⌝ }
+{
+    let x = close_all(b, space, n);
+    let c = x.state;
+    let y = cancel_all(c, space, x.count);
+    After {
+        state: fresh(timer),
+        count: y.count,
+    }
 }
 
 fn with_clock(b: State, t: u32) -> State

@@ -1,9 +1,18 @@
-// The causes of refusals, each by what the book holds.
+// The causes of refusals, each by what the book holds, and the refusal of each kind of event: 0 where no cause applies.
 ghost use mathlib.Core.Path.{_≡_};
+ghost use mathlib.Core.Bool.{not};
 ghost use Prim.Native.Nat.{_+_, _<_, _≤_};
-ghost use Rattle.rules.specs.Refusals.{undefined, notOpen, isOrderOf, isLegOrderOf, unanswerable, numbersOut};
+ghost use Rattle.base.specs.Walks.{sumN, anyN};
+ghost use Rattle.events.specs.declared.Event.the-variants as E;
+ghost use Rattle.rules.specs.Auctions.{running};
+ghost use Rattle.rules.specs.Refusals.{first, causes, undefined, notOpen, isOrderOf, isLegOrderOf, orderAtIs, legOrderAtIs, notFound, isStarter, unanswerable, isLegOrder, isLegOrderAt, ordersFull, sweepsFull, legOrdersFull, replaces, removesNone, noRoom, numbersOut, sweepNumbersOut};
+ghost use Rattle.rules.specs.Fits.{FitOrderGiven, FitSweepGiven, FitLegOrderGiven};
 use closing::is_open;
 use endings::running;
+use entries::old_sweep;
+use entries::orders;
+use entries::sweeps;
+use given::sweep_given;
 use rules::Entry;
 use rules::LegOrder;
 use rules::State;
@@ -57,15 +66,23 @@ pub fn is_leg_order_of(m: u32, n: u32, o: LegOrder) -> bool
     false
 }
 
+// Whether no auction runs in strategy k.
+fn no_auction(b: State, k: usize) -> bool
+    requires { ⌜ k < 16 ⌝ }
+    ensures { λ r. ⌜ r ≡ not (running b k) ⌝ }
+{
+    if running(b, k) {
+        return false;
+    }
+    true
+}
+
 pub fn unanswerable(b: State, life: u32, k: usize) -> bool
     requires { ⌜ k < 16 ⌝ }
     ensures { λ r. ⌜ r ≡ unanswerable b life k ⌝ }
 {
     if life == 2 {
-        if running(b, k) {
-            return false;
-        }
-        return true;
+        return no_auction(b, k);
     }
     false
 }
@@ -77,4 +94,249 @@ pub fn numbers_out(b: State) -> bool
         return true;
     }
     false
+}
+
+fn any_order_of(b: State, m: u32, n: u32) -> bool
+    ensures { λ r. ⌜ r ≡ anyN (orderAtIs b m n) 32 ⌝ }
+{
+    let es = b.entries;
+    let mut i: usize = 0;
+    while i < 32 {
+        if is_order_of(m, n, es[i]) {
+            return true;
+        }
+        i += 1;
+    }
+    false
+}
+
+fn any_leg_order_of(b: State, m: u32, n: u32) -> bool
+    ensures { λ r. ⌜ r ≡ anyN (legOrderAtIs b m n) 32 ⌝ }
+{
+    let os = b.orders;
+    let mut i: usize = 0;
+    while i < 32 {
+        if is_leg_order_of(m, n, os[i]) {
+            return true;
+        }
+        i += 1;
+    }
+    false
+}
+
+// Whether no live order or leg order is of that member and number.
+pub fn not_found(b: State, m: u32, n: u32) -> bool
+    ensures { λ r. ⌜ r ≡ notFound b m n ⌝ }
+{
+    if any_order_of(b, m, n) {
+        return false;
+    }
+    if any_leg_order_of(b, m, n) {
+        return false;
+    }
+    true
+}
+
+// Whether the order of that number started an auction that runs.
+pub fn is_starter(b: State, n: u32) -> bool
+    ensures { λ r. ⌜ r ≡ isStarter b n ⌝ }
+{
+    let ss = b.strategies;
+    let mut k: usize = 0;
+    while k < 16 {
+        let s = ss[k];
+        if s.starter == n {
+            return true;
+        }
+        k += 1;
+    }
+    false
+}
+
+pub fn orders_full(b: State) -> bool
+    ensures { λ r. ⌜ r ≡ ordersFull b ⌝ }
+{
+    let live_orders = orders(b);
+    if 16 <= live_orders {
+        return true;
+    }
+    false
+}
+
+pub fn sweeps_full(b: State) -> bool
+    ensures { λ r. ⌜ r ≡ sweepsFull b ⌝ }
+{
+    let live_sweeps = sweeps(b);
+    if 16 <= live_sweeps {
+        return true;
+    }
+    false
+}
+
+// 1 for a live leg order.
+fn is_leg_order(o: LegOrder) -> u32
+    ensures { λ r. ⌜ r ≡ isLegOrder o ⌝ }
+{
+    if o.contracts == 0 {
+        return 0;
+    }
+    1
+}
+
+// The number of live leg orders.
+fn leg_orders(b: State) -> u32
+    ensures { λ r. ⌜ r ≡ sumN (isLegOrderAt b) 32 ⌝ }
+{
+    let mut n: u32 = 0;
+    let mut i: usize = 0;
+    while i < 32 {
+        let x = is_leg_order(b.orders[i]);
+        n += x;
+        i += 1;
+    }
+    n
+}
+
+pub fn leg_orders_full(b: State) -> bool
+    ensures { λ r. ⌜ r ≡ legOrdersFull b ⌝ }
+{
+    let live_leg_orders = leg_orders(b);
+    if 32 <= live_leg_orders {
+        return true;
+    }
+    false
+}
+
+// The refusal of a complex order.
+pub fn order_refusal(b: State, e: events::Order) -> u32
+    requires { ⌜ FitOrderGiven e ⌝ }
+    ensures { λ r. ⌜ r ≡ first (causes b (E.Order e)) ⌝ }
+{
+    if undefined(b, e.strategy) {
+        return 4;
+    }
+    if unanswerable(b, e.life, e.strategy as usize) {
+        return 9;
+    }
+    if orders_full(b) {
+        return 12;
+    }
+    if numbers_out(b) {
+        return 13;
+    }
+    0
+}
+
+// Whether a sweep replaces one.
+fn replaces(b: State, e: events::Sweep) -> bool
+    requires { ⌜ FitSweepGiven e × (b .last < 4294967295) ⌝ }
+    ensures { λ r. ⌜ r ≡ replaces b e ⌝ }
+{
+    let x = sweep_given(b, e);
+    let old = old_sweep(b, x);
+    if old < 32 {
+        return true;
+    }
+    false
+}
+
+// Whether a sweep has 0 units and none to remove.
+fn removes_none(b: State, e: events::Sweep) -> bool
+    requires { ⌜ FitSweepGiven e × (b .last < 4294967295) ⌝ }
+    ensures { λ r. ⌜ r ≡ removesNone b e ⌝ }
+{
+    if e.units == 0 {
+        if replaces(b, e) {
+            return false;
+        }
+        return true;
+    }
+    false
+}
+
+// Whether a sweep needs a slot and none is free.
+fn no_room(b: State, e: events::Sweep) -> bool
+    requires { ⌜ FitSweepGiven e × (b .last < 4294967295) ⌝ }
+    ensures { λ r. ⌜ r ≡ noRoom b e ⌝ }
+{
+    if e.units == 0 {
+        return false;
+    }
+    if replaces(b, e) {
+        return false;
+    }
+    sweeps_full(b)
+}
+
+// Whether a sweep needs a number and none is left.
+fn sweep_numbers_out(b: State, e: events::Sweep) -> bool
+    ensures { λ r. ⌜ r ≡ sweepNumbersOut b e ⌝ }
+{
+    if e.units == 0 {
+        return false;
+    }
+    numbers_out(b)
+}
+
+// The refusal of a sweep.
+pub fn sweep_refusal(b: State, e: events::Sweep) -> u32
+    requires { ⌜ FitSweepGiven e × (b .last < 4294967295) ⌝ }
+    ensures { λ r. ⌜ r ≡ first (causes b (E.Sweep e)) ⌝ }
+{
+    if undefined(b, e.strategy) {
+        return 4;
+    }
+    if no_auction(b, e.strategy as usize) {
+        return 9;
+    }
+    if removes_none(b, e) {
+        return 10;
+    }
+    if no_room(b, e) {
+        return 12;
+    }
+    if sweep_numbers_out(b, e) {
+        return 13;
+    }
+    0
+}
+
+// The refusal of a leg order.
+pub fn leg_order_refusal(b: State, e: events::LegOrder) -> u32
+    requires { ⌜ FitLegOrderGiven e ⌝ }
+    ensures { λ r. ⌜ r ≡ first (causes b (E.LegOrder e)) ⌝ }
+{
+    if not_open(b, e.series as u8) {
+        return 6;
+    }
+    if leg_orders_full(b) {
+        return 12;
+    }
+    if numbers_out(b) {
+        return 13;
+    }
+    0
+}
+
+// The refusal of a cancel.
+pub fn cancel_refusal(b: State, e: events::Cancel) -> u32
+    ensures { λ r. ⌜ r ≡ first (causes b (E.Cancel e)) ⌝ }
+{
+    if not_found(b, e.member, e.number) {
+        return 7;
+    }
+    if is_starter(b, e.number) {
+        return 8;
+    }
+    0
+}
+
+// The refusal of a clock.
+pub fn clock_refusal(b: State, e: events::Clock) -> u32
+    ensures { λ r. ⌜ r ≡ first (causes b (E.Clock e)) ⌝ }
+{
+    if e.time < b.clock {
+        return 11;
+    }
+    0
 }

@@ -23,7 +23,10 @@ cast-k c = search needs
 
 -- src/lib.rt:147:9
 answer-requires : tie.Need-answer-requires
-answer-requires c κs = (c .before .before .before .before .pre .1 .strategy, fit-enter _ _ (c .before .enter .ensures) (c .before .before .before .before .pre .1) (c .before .before .before .before .pre .2))
+answer-requires c κs =
+    let k = c .before .before .before in
+    let f = k .before .pre .0 .fit (told (k .live .ensures) (c .before .before .if1 .taken)) in
+    (f .strategy, fit-enter _ _ (c .before .enter .ensures) f (k .before .pre .1))
 
 -- src/lib.rt:147:9
 returns : tie.Need-returns

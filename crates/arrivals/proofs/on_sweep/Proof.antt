@@ -18,11 +18,11 @@ old-sweep-requires c κs = search needs
 -- src/lib.rt:171:9
 cancel-at-requires : tie.Need-cancel-at-requires
 unfolding onSweep
-cancel-at-requires c κs = (c .before .before .pre .0 .2, room-of (old-is _ _ (c .before .old-sweep .ensures)) (room-then _ _ (c .before .before .pre .1)))
+cancel-at-requires c κs = (c .before .before .pre .0 .1, room-of (old-is _ _ (c .before .old-sweep .ensures)) (room-then _ _ (c .before .before .pre .1)))
 
 -- src/lib.rt:173:9
 enter-sweep-requires : tie.Need-enter-sweep-requires
-enter-sweep-requires c κs = (slot-after _ _ _ (c .before .before .before .before .before .pre .0 .0) (done-of (old-is _ _ (c .before .before .before .before .old-sweep .ensures)) (c .before .before .cancel-at .ensures)), c .before .before .before .before .before .pre .0 .1, fit-cancel _ _ (c .before .before .before .before .before .pre .0 .2) (c .before .before .cancel-at .ensures))
+enter-sweep-requires c κs = (slot-after _ _ _ (c .before .before .before .before .before .pre .0 .0) (done-of (old-is _ _ (c .before .before .before .before .old-sweep .ensures)) (c .before .before .cancel-at .ensures)), fit-cancel _ _ (c .before .before .before .before .before .pre .0 .1) (c .before .before .cancel-at .ensures))
 
 -- src/lib.rt:165:1
 same-length : tie.Need-same-length

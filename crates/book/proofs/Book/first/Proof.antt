@@ -5,7 +5,7 @@ use Rattle.book.proofs.Book.first.Statement.{statement}
 use Rattle.book.proofs.Book.first.Tie as tie
 use Rattle.book.proofs.Book.first.Reads as reads
 use Rattle.book.proofs.Book.first.Lts as lts
-use Rattle.book.proofs.fresh.Reads as fresh-reads
+use Rattle.closing.proofs.fresh.Reads as fresh-reads
 
 fresh-requires : tie.Need-fresh-requires
 fresh-requires c κs = search needs

@@ -1,0 +1,14 @@
+use mathlib.Core.Path.{refl}
+use Rattle.book.specs.Outcomes.{admit}
+use Rattle.book.proofs.admit.Statement.{statement}
+use Rattle.book.proofs.admit.Tie as tie
+use Rattle.book.proofs.admit.Reads as reads
+use Rattle.book.proofs.admit.Lts as lts
+
+-- src/lib.rt:119:1
+returns : tie.Need-returns
+unfolding admit
+returns c = refl
+
+pub admit-spec : {M : Type 1} → statement M
+admit-spec = tie.close (tie.spec returns)

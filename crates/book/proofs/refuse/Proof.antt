@@ -1,0 +1,14 @@
+use mathlib.Core.Path.{refl}
+use Rattle.book.specs.Outcomes.{refuse}
+use Rattle.book.proofs.refuse.Statement.{statement}
+use Rattle.book.proofs.refuse.Tie as tie
+use Rattle.book.proofs.refuse.Reads as reads
+use Rattle.book.proofs.refuse.Lts as lts
+
+-- src/lib.rt:109:1
+returns : tie.Need-returns
+unfolding refuse
+returns c = refl
+
+pub refuse-spec : {M : Type 1} → statement M
+refuse-spec = tie.close (tie.spec returns)

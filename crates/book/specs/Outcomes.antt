@@ -1,0 +1,125 @@
+-- The outcome of an event by what the code has found, and what it hands back.
+use mathlib.Core.Path.{_≡_, refl, sym, subst, _∙_, ap}
+use mathlib.Core.Bool.{false, true}
+use mathlib.Core.List.{List, []}
+use Prim.Native.Nat.{ℕ, _+_, _≤_, _<_}
+use native.Mathlib.Nat.{zero-add}
+use native.Mathlib.Omega.{arith}
+use borrow.Author.Tests.{eq-eqb, ne-eqb, lt-ltb, le-ltb}
+use lib.Dec.{eqb, ltb}
+use lib.IntN.{ℤ}
+use lib.ListN.{length}
+use Rattle.base.specs.Pick.{pick, pick-true, pick-false}
+use Rattle.events.specs.declared.Event.{Event}
+use Rattle.events.specs.declared.Reading.{Reading}
+use Rattle.events.specs.declared.Reading.the-variants as R
+use Rattle.frames.specs.Frames.{readOf}
+use Rattle.rules.specs.declared.State.{State}
+use Rattle.rules.specs.declared.Answer.{Answer}
+use Rattle.rules.specs.declared.Answer.the-variants as A
+use Rattle.rules.specs.Moves.{Moved, still}
+use Rattle.rules.specs.Refusals.{first, causes, readCauses, tableOf, refusal}
+use Rattle.rules.specs.Step.{Outcome, valueOf, accept, refused, perform, decide, step, answerOf, answerCount}
+use Rattle.rules.specs.Fits.{FitReading, FitEvent}
+use Rattle.rules.specs.Valid.{Valid}
+use Rattle.rules.proofs.Validity.{decide-valid}
+use Rattle.rules.proofs.Ranges.{reading-fit}
+use Rattle.rules.proofs.Refusals.{reads}
+use Rattle.rules.proofs.Room.{accept-few, six-sound}
+use Rattle.records.specs.Space.{Room, wrote-nil}
+use Rattle.records.specs.Done.{Done, done-length}
+use Rattle.book.specs.declared.Book.{Book}
+use Rattle.book.specs.declared.Taken.{Taken}
+use Rattle.book.specs.Books.{Handed, Took, Stepped}
+
+-- what the two ends of a call make
+unfoldable pub refuse : State → ℕ → Taken
+refuse b n = record { book = record { state = b }; answer = A.Refused n }
+
+unfoldable pub admit : State → ℕ → ℕ → Taken
+admit b value count = record { book = record { state = b }; answer = A.Accepted value count }
+
+-- laws
+
+-- a refusal of any number but 0
+refused-answer : (n : ℕ) (b : State) → (n ≡ 0 → ⊥) → answerOf (refused n b) ≡ A.Refused n
+unfolding answerOf refused
+refused-answer n b h = pick-false _ _ _ (ne-eqb n 0 h)
+
+performed-answer : (b : State) (e : Event) → answerOf (perform b (R.Event e)) ≡ A.Accepted (valueOf b e) (length (accept b e .records))
+unfolding answerOf perform
+performed-answer b e = pick-true _ _ _ (eq-eqb 0 0 refl)
+
+-- in a space of that length the causes are the event's own
+refusal-event : (b : State) (e : Event) (space : ℕ) → 15_360 ≤ space → refusal b (R.Event e) space ≡ first (causes b e)
+unfolding refusal tableOf readCauses first
+refusal-event b e space h = pick-false _ _ _ (le-ltb space 15_360 h)
+
+refusal-short : (b : State) (r : Reading) (space : ℕ) → space < 15_360 → refusal b r space ≡ 1
+unfolding refusal tableOf first
+refusal-short b r space h = pick-true _ _ _ (lt-ltb space 15_360 h)
+
+refusal-read : (b : State) (n space : ℕ) → 15_360 ≤ space → refusal b (R.Refused n) space ≡ n
+unfolding refusal tableOf readCauses first pick
+refusal-read b n space h = rw (le-ltb space 15_360 h)
+
+-- refused: the book and the space are as they were
+handed-refused : (b : State) (r : Reading) (s : List ℤ) → Valid b → {n : ℕ} {x : Taken} → n ≡ refusal b r (length s) → (n ≡ 0 → ⊥) → x ≡ refuse b n → Handed (decide b r (length s)) s s x
+unfolding decide refused refuse answerCount
+handed-refused b r s v {n} {x} e h g =
+    let o : decide b r (length s) ≡ refused n b = rw (← e) (pick-false _ _ _ (ne-eqb n 0 h)) in
+    rw (o, g)
+    (record {
+      answer = sym (refused-answer n b h);
+      state = refl;
+      space = wrote-nil s 0 .space;
+      valid = v;
+      few = omega arith;
+      same = refl;
+    })
+
+module _ (b : State) (e : Event) (s : List ℤ) (v : Valid b) (h : 15_360 ≤ length s) {n : ℕ} (c : n ≡ first (causes b e)) where
+  pub took-refused : (n ≡ 0 → ⊥) → {x : Taken} → x ≡ refuse b n → Took b e s s x
+  took-refused z g = handed-refused b (R.Event e) s v (c ∙ sym (refusal-event b e (length s) h)) z g
+
+  pub took : n ≡ 0 → FitEvent e → {t : List ℤ} {m value : ℕ} {d : State} {x : Taken} → Done s t 0 m d (accept b e) → value ≡ valueOf b e → x ≡ admit d value m → Took b e s t x
+  unfolding decide perform admit answerCount
+  took z f {t} {m} {value} {d} {x} w i g =
+      let q : refusal b (R.Event e) (length s) ≡ 0 = refusal-event b e (length s) h ∙ (sym c ∙ z) in
+      let o : decide b (R.Event e) (length s) ≡ perform b (R.Event e) = pick-true _ _ _ (eq-eqb _ 0 q) in
+      let k : m ≡ length (accept b e .records) = w .wrote .count ∙ zero-add _ in
+      rw g
+      (record {
+        answer = rw (o, i, k) (sym (performed-answer b e));
+        state = rw o (w .state);
+        space = rw o (w .wrote .space);
+        valid = rw (w .state) (subst (λ (y : Outcome). Valid (y .moved .state)) o (decide-valid b (R.Event e) (length s) v f));
+        few = omega (arith, k, accept-few b e (six-sound b (v .sound)));
+        same = done-length w;
+      })
+
+-- room for the records of an event
+pub room-event : (b : State) (e : Event) (s : List ℤ) → Valid b → 15_360 ≤ length s → Room s 0 (accept b e .records)
+room-event b e s v h = record { count = omega (arith, accept-few b e (six-sound b (v .sound))); space = h }
+
+-- the entry: a short space, a frame that carries no event, and one that does
+pub stepped-short : (b : State) (f : List ℕ) (s : List ℤ) → Valid b → length s < 15_360 → {x : Taken} → x ≡ refuse b 1 → Stepped b f s s x
+unfolding step
+stepped-short b f s v h g = handed-refused b (readOf f) s v (sym (refusal-short b (readOf f) (length s) h)) (λ z. omega arith) g
+
+pub stepped-refused : (b : State) (f : List ℕ) (s : List ℤ) → Valid b → 15_360 ≤ length s → {n : ℕ} → R.Refused n ≡ readOf f → {x : Taken} → x ≡ refuse b n → Stepped b f s s x
+unfolding step
+stepped-refused b f s v h {n} e g =
+    let k = reads f .number n (sym e) in
+    rw (← e) (handed-refused b (R.Refused n) s v (sym (refusal-read b n (length s) h)) (λ z. omega (arith, k)) g)
+
+pub stepped : (b : State) (f : List ℕ) (s : List ℤ) {t : List ℤ} {e : Event} → R.Event e ≡ readOf f → {x : Taken} → Took b e s t x → Stepped b f s t x
+unfolding step
+stepped b f s e w = rw (← e) w
+
+pub event-fit : (f : List ℕ) {e : Event} → R.Event e ≡ readOf f → FitEvent e
+event-fit f g = subst FitReading (sym g) (reading-fit f)
+
+-- an event by the kind that the code has found
+pub took-of : (b : State) (s : List ℤ) {e f : Event} {t : List ℤ} {x : Taken} → f ≡ e → Took b e s t x → Took b f s t x
+took-of b s g w = rw g w

@@ -1,0 +1,39 @@
+use Rattle.closing.specs.Closing.{ranged-each, day-end}
+use Rattle.auctions.specs.Ranged.{ranged-kept}
+use Rattle.rules.proofs.Control.{closeRunning-kept}
+use Rattle.rules.specs.Events.{closeRunning, onDayEnd}
+use Rattle.records.specs.Done.{room-then, room-after}
+use borrow.Author.Needs.{needs}
+use Rattle.closing.proofs.on_day_end.Statement.{statement}
+use Rattle.closing.proofs.on_day_end.Tie as tie
+use Rattle.closing.proofs.on_day_end.Reads as reads
+use Rattle.closing.proofs.on_day_end.Lts as lts
+use Rattle.closing.proofs.cancel_all.Reads as cancel-all-reads
+use Rattle.closing.proofs.close_all.Reads as close-all-reads
+use Rattle.closing.proofs.fresh.Reads as fresh-reads
+
+-- src/lib.rt:280:9
+close-all-requires : tie.Need-close-all-requires
+unfolding onDayEnd
+close-all-requires c κs = (c .before .pre .0, room-then _ _ (c .before .pre .1))
+
+-- src/lib.rt:282:9
+cancel-all-requires : tie.Need-cancel-all-requires
+unfolding onDayEnd
+cancel-all-requires c κs = let x = c .before .before .before .close-all .ensures in (ranged-each closeRunning (closeRunning-kept ranged-kept) 16 _ (c .before .before .before .before .before .pre .0) x .fit, room-then _ _ (room-after _ _ (c .before .before .before .before .before .pre .1) x))
+
+-- src/lib.rt:283:20
+fresh-requires : tie.Need-fresh-requires
+fresh-requires c κs = search needs
+
+-- src/lib.rt:275:1
+same-length : tie.Need-same-length
+same-length c = search needs
+
+-- src/lib.rt:275:1
+returns : tie.Need-returns
+returns c = day-end _ _ (c .before .before .before .before .before .before .close-all .ensures) (c .before .before .cancel-all .ensures) (c .fresh .ensures)
+
+pub on-day-end-spec : {M : Type 1} → statement M
+on-day-end-spec =
+    tie.close (tie.spec close-all-requires cancel-all-requires fresh-requires same-length returns)

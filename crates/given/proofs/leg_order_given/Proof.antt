@@ -1,0 +1,31 @@
+use mathlib.Core.Path.{refl}
+use borrow.Author.Needs.{needs}
+use Rattle.rules.specs.Given.{legOrderGiven}
+use Rattle.given.proofs.leg_order_given.Statement.{statement}
+use Rattle.given.proofs.leg_order_given.Tie as tie
+use Rattle.given.proofs.leg_order_given.Reads as reads
+use Rattle.given.proofs.leg_order_given.Lts as lts
+
+-- src/lib.rt:50:17
+add-t3 : tie.Need-add-t3
+add-t3 c = search needs
+
+-- src/lib.rt:51:17
+cast-t4 : tie.Need-cast-t4
+cast-t4 c = search needs
+
+-- src/lib.rt:52:17
+cast-t5 : tie.Need-cast-t5
+cast-t5 c = search needs
+
+-- src/lib.rt:53:15
+cast-t6 : tie.Need-cast-t6
+cast-t6 c = search needs
+
+-- src/lib.rt:45:1
+returns : tie.Need-returns
+unfolding legOrderGiven
+returns c = refl
+
+pub leg-order-given-spec : {M : Type 1} → statement M
+leg-order-given-spec = tie.close (tie.spec add-t3 cast-t4 cast-t5 cast-t6 returns)

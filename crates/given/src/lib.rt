@@ -1,0 +1,146 @@
+// What the events of kinds 1 to 4 bring: the row that enters, the strategy defined, and its refusal.
+ghost use mathlib.Core.Path.{_≡_};
+ghost use Prim.Native.Nat.{_<_, _≤_};
+ghost use Rattle.rules.specs.Given.{legGiven, legsGiven, strategyGiven, sweepGiven, orderGiven, legOrderGiven};
+ghost use Rattle.rules.specs.Fits.{FitGiven, FitSweepGiven, FitOrderGiven, FitLegOrderGiven};
+ghost use Rattle.rules.specs.Refusals.{illFormed, strategiesFull, causes, first};
+ghost use Rattle.rules.specs.Valid.{FitLeg};
+ghost use Rattle.events.specs.declared.Event.the-variants as E;
+use rules::Entry;
+use rules::Leg;
+use rules::LegOrder;
+use rules::State;
+use rules::Strategy;
+use strategies::defined;
+use strategies::number_of;
+use terms::over_threefold;
+use terms::twice;
+
+// A sweep as it enters: an entry of life 4.
+pub fn sweep_given(b: State, e: events::Sweep) -> Entry
+    requires { ⌜ FitSweepGiven e × (b .last < 4294967295) ⌝ }
+    ensures { λ r. ⌜ r ≡ sweepGiven b e ⌝ }
+{
+    Entry {
+        number: b.last + 1,
+        member: e.member as u16,
+        strategy: e.strategy as u8,
+        side: e.side as u8,
+        class: 0,
+        life: 4,
+        units: e.units,
+        level: e.level,
+    }
+}
+
+// A complex order as it enters.
+pub fn order_given(b: State, e: events::Order) -> Entry
+    requires { ⌜ FitOrderGiven e × (b .last < 4294967295) ⌝ }
+    ensures { λ r. ⌜ r ≡ orderGiven b e ⌝ }
+{
+    Entry {
+        number: b.last + 1,
+        member: e.member as u16,
+        strategy: e.strategy as u8,
+        side: e.side as u8,
+        class: e.class as u8,
+        life: e.life as u8,
+        units: e.units,
+        level: e.level,
+    }
+}
+
+// A leg order as it enters.
+pub fn leg_order_given(b: State, e: events::LegOrder) -> LegOrder
+    requires { ⌜ FitLegOrderGiven e × (b .last < 4294967295) ⌝ }
+    ensures { λ r. ⌜ r ≡ legOrderGiven b e ⌝ }
+{
+    LegOrder {
+        number: b.last + 1,
+        member: e.member as u16,
+        series: e.series as u8,
+        side: e.side as u8,
+        contracts: e.contracts,
+        price: e.price,
+    }
+}
+
+// One leg as the event has it.
+pub fn leg_given(l: events::Leg) -> Leg
+    requires { ⌜ FitLeg (legGiven l) ⌝ }
+    ensures { λ r. ⌜ r ≡ legGiven l ⌝ }
+{
+    Leg {
+        series: l.series as u8,
+        side: l.side as u8,
+        ratio: l.ratio as u8,
+    }
+}
+
+// Six rows, the first `count` in use.
+pub fn legs_given(e: events::Strategy) -> [Leg; 6]
+    requires { ⌜ FitGiven e ⌝ }
+    ensures { λ r. ⌜ r ≡ legsGiven e ⌝ }
+{
+    let l = e.legs;
+    [
+        leg_given(l.0),
+        leg_given(l.1),
+        leg_given(l.2),
+        leg_given(l.3),
+        leg_given(l.4),
+        leg_given(l.5),
+    ]
+}
+
+// The strategy that a definition gives.
+pub fn strategy_given(e: events::Strategy) -> Strategy
+    requires { ⌜ FitGiven e ⌝ }
+    ensures { λ r. ⌜ r ≡ strategyGiven e ⌝ }
+{
+    let legs = legs_given(e);
+    defined(legs, e.count as usize)
+}
+
+// 5: a series twice, or the largest ratio over 3 × the smallest.
+pub fn ill_formed(e: events::Strategy) -> bool
+    requires { ⌜ FitGiven e ⌝ }
+    ensures { λ r. ⌜ r ≡ illFormed e ⌝ }
+{
+    let legs = legs_given(e);
+    let count = e.count as usize;
+    if twice(legs, count) {
+        return true;
+    }
+    over_threefold(legs, count)
+}
+
+// 12: 16 strategies, and none of them equal.
+pub fn strategies_full(b: State, e: events::Strategy) -> bool
+    requires { ⌜ FitGiven e × (b .defined ≤ 16) ⌝ }
+    ensures { λ r. ⌜ r ≡ strategiesFull b e ⌝ }
+{
+    let s = strategy_given(e);
+    let defined = b.defined as usize;
+    if number_of(b, s) < defined {
+        return false;
+    }
+    if 16 <= defined {
+        return true;
+    }
+    false
+}
+
+// The refusal of a definition, 0 where none applies.
+pub fn strategy_refusal(b: State, e: events::Strategy) -> u32
+    requires { ⌜ FitGiven e × (b .defined ≤ 16) ⌝ }
+    ensures { λ r. ⌜ r ≡ first (causes b (E.Strategy e)) ⌝ }
+{
+    if ill_formed(e) {
+        return 5;
+    }
+    if strategies_full(b, e) {
+        return 12;
+    }
+    0
+}

@@ -1,0 +1,23 @@
+use Rattle.base.specs.Pick.{tests}
+use borrow.Author.Needs.{needs}
+use Rattle.refusals.proofs.replaces.Statement.{statement}
+use Rattle.refusals.proofs.replaces.Tie as tie
+use Rattle.refusals.proofs.replaces.Reads as reads
+use Rattle.refusals.proofs.replaces.Lts as lts
+use Rattle.entries.proofs.old_sweep.Reads as old-sweep-reads
+use Rattle.given.proofs.sweep_given.Reads as sweep-given-reads
+
+sweep-given-requires : tie.Need-sweep-given-requires
+sweep-given-requires c κs = search needs
+
+old-sweep-requires : tie.Need-old-sweep-requires
+old-sweep-requires c κs = search needs
+
+returns : tie.Need-returns
+returns c = rw (← c .before .before .sweep-given .ensures, ← c .before .old-sweep .ensures) (search tests)
+
+returns-2 : tie.Need-returns-2
+returns-2 c = rw (← c .before .before .sweep-given .ensures, ← c .before .old-sweep .ensures) (search tests)
+
+pub replaces-spec : {M : Type 1} → statement M
+replaces-spec = tie.close (tie.spec sweep-given-requires old-sweep-requires returns returns-2)
