@@ -1,12 +1,10 @@
 -- The outcome of an event by what the code has found, and what it hands back.
-use mathlib.Core.Path.{_≡_, refl, sym, subst, _∙_, ap}
-use mathlib.Core.Bool.{false, true}
-use mathlib.Core.List.{List, []}
-use Prim.Native.Nat.{ℕ, _+_, _≤_, _<_}
+use mathlib.Core.Path.{_≡_, refl, sym, subst, _∙_}
+use mathlib.Core.List.{List}
+use Prim.Native.Nat.{ℕ, _≤_, _<_}
 use native.Mathlib.Nat.{zero-add}
 use native.Mathlib.Omega.{arith}
 use borrow.Author.Tests.{eq-eqb, ne-eqb, lt-ltb, le-ltb}
-use lib.Dec.{eqb, ltb}
 use lib.IntN.{ℤ}
 use lib.ListN.{length}
 use Rattle.base.specs.Pick.{pick, pick-true, pick-false}
@@ -15,9 +13,7 @@ use Rattle.events.specs.declared.Reading.{Reading}
 use Rattle.events.specs.declared.Reading.the-variants as R
 use Rattle.frames.specs.Frames.{readOf}
 use Rattle.rules.specs.declared.State.{State}
-use Rattle.rules.specs.declared.Answer.{Answer}
 use Rattle.rules.specs.declared.Answer.the-variants as A
-use Rattle.rules.specs.Moves.{Moved, still}
 use Rattle.rules.specs.Refusals.{first, causes, readCauses, tableOf, refusal}
 use Rattle.rules.specs.Step.{Outcome, valueOf, accept, refused, perform, decide, step, answerOf, answerCount}
 use Rattle.rules.specs.Fits.{FitReading, FitEvent}
@@ -28,7 +24,6 @@ use Rattle.rules.proofs.Refusals.{reads}
 use Rattle.rules.proofs.Room.{accept-few, six-sound}
 use Rattle.records.specs.Space.{Room, wrote-nil}
 use Rattle.records.specs.Done.{Done, done-length}
-use Rattle.book.specs.declared.Book.{Book}
 use Rattle.book.specs.declared.Taken.{Taken}
 use Rattle.book.specs.Books.{Handed, Took, Stepped}
 

@@ -1,8 +1,7 @@
 -- What an event that nothing refuses brings to the functions that perform it.
 use mathlib.Core.Path.{_≡_, refl, sym, _∙_}
 use mathlib.Core.Bool.{false}
-use mathlib.Core.List.{List, _∷_}
-use Prim.Native.Nat.{ℕ, _+_, _≤_, _<_}
+use Prim.Native.Nat.{ℕ, _≤_, _<_}
 use native.Mathlib.Omega.{arith}
 use borrow.Author.Tests.{leb-false}
 use lib.Dec.{eqb}
@@ -30,8 +29,7 @@ use Rattle.rules.specs.Refusals.{first, causes, undefined, illFormed, notOpen, 
 use Rattle.rules.specs.Step.{valueOf, accept}
 use Rattle.rules.specs.Fits.{FitOrderGiven, FitSweepGiven, FitLegOrderGiven}
 use Rattle.rules.specs.Valid.{FitEntry, FitOrder, Valid}
-use Rattle.rules.proofs.Entering.{Entering, EnteringOrder, enterOrder-room}
-use Rattle.rules.proofs.Arrivals.{Sweeping}
+use Rattle.rules.proofs.Entering.{Entering, enterOrder-room}
 use Rattle.rules.proofs.Validity.{clear, then-no, order-entering, sweep-given, order-given}
 use Rattle.ranges.specs.Fit.{Fit, fit-sound}
 use Rattle.arrivals.specs.Arrivals.{MayEnter}

@@ -1,0 +1,188 @@
+-- THE BUYER'S THREE DEMANDS, of every call of the entry and every list of calls.
+use mathlib.Core.Path.{_≡_, refl, sym, _∙_, ap, subst}
+use mathlib.Core.Bool.{Bool, true, false}
+use mathlib.Core.List.{List, [], _∷_, _++_, map}
+use Prim.Native.Nat.{ℕ, _+_, _*_, _≤_}
+use native.Mathlib.Omega.{arith}
+use borrow.Author.Tests.{eqb-true, eqb-false, eq-eqb, ne-eqb, ltb-false}
+use lib.Dec.{eqb, ltb}
+use lib.IntN.{ℤ}
+use lib.ListN.{length, drop}
+use lib.Seq.{sets, sets-eq}
+use Rattle.base.specs.Pick.{pick, pick-true, pick-false}
+use Rattle.base.specs.Walks.{clash}
+use Rattle.events.specs.declared.Reading.{Reading}
+use Rattle.frames.specs.Frames.{readOf}
+use Rattle.frames.specs.Round.{read-written, frame-read-written}
+use Rattle.rules.specs.declared.State.{State}
+use Rattle.rules.specs.declared.Record.{Record}
+use Rattle.rules.specs.declared.Answer.{Answer}
+use Rattle.rules.specs.declared.Answer.the-variants as A
+use Rattle.rules.specs.State.{fresh}
+use Rattle.rules.specs.Moves.{Moved, still}
+use Rattle.rules.specs.Refusals.{applies, readCauses, tableOf}
+use Rattle.rules.specs.Step.{Outcome, refused, step, answerOf, answerNumber, answerValue, answerCount}
+use Rattle.rules.specs.Records.{Line, lineOf, numbersOf}
+use Rattle.rules.specs.Totals.{Sent, outcome, after, logOf, run}
+use Rattle.rules.specs.Valid.{Valid}
+use Rattle.rules.proofs.Lists.{Went, refusedAs, acceptedAs, went}
+use Rattle.rules.proofs.Refusals.{refusals-exact, refused-still}
+use Rattle.rules.proofs.Room.{room}
+use Rattle.rules.proofs.Totals.{totals}
+use Rattle.rules.proofs.Validity.{valid-fresh}
+use Rattle.records.specs.Space.{laid, numbers, length-numbers, wrote-nil}
+use Rattle.book.specs.declared.Book.{Book}
+use Rattle.book.specs.declared.Taken.{Taken}
+use Rattle.book.specs.Books.{First, Stepped}
+use Rattle.book.specs.Calls.{Call, Calls, no-call, a-call, linesIn, seen, Answers, Exact, TotalsHold}
+
+-- THE ANSWER, by the number of the outcome.
+
+answer-none : (o : Outcome) → o .answer ≡ 0 → answerOf o ≡ A.Accepted (o .value) (length (o .moved .records))
+unfolding answerOf
+answer-none o z = pick-true _ _ _ (eq-eqb _ 0 z)
+
+answer-some : (o : Outcome) → (o .answer ≡ 0 → ⊥) → answerOf o ≡ A.Refused (o .answer)
+unfolding answerOf
+answer-some o z = pick-false _ _ _ (ne-eqb _ 0 z)
+
+isRefused : Answer → Bool
+isRefused (A.Accepted v n) = false
+isRefused (A.Refused n) = true
+
+numbered : (o : Outcome) → answerNumber (answerOf o) ≡ o .answer
+unfolding answerNumber
+numbered o = go (eqb (o .answer) 0) refl
+  where
+    go : (t : Bool) → eqb (o .answer) 0 ≡ t → answerNumber (answerOf o) ≡ o .answer
+    go true t = ap answerNumber (answer-none o (eqb-true _ _ t)) ∙ sym (eqb-true _ _ t)
+    go false t = ap answerNumber (answer-some o (eqb-false _ _ t))
+
+-- DEMAND 1
+
+module _ (b : State) (frame : List ℕ) (s t : List ℤ) (x : Taken) (w : Stepped b frame s t x) where
+  abbrev came : Outcome
+  came = step b frame (length s)
+
+  number-is : came .answer ≡ answerNumber (x .answer)
+  number-is = rw (w .answer) (sym (numbered came))
+
+  none-given : (value count : ℕ) → x .answer ≡ A.Accepted value count → came .answer ≡ 0
+  unfolding answerNumber
+  none-given value count g = number-is ∙ ap answerNumber g
+
+  some-given : (n : ℕ) → x .answer ≡ A.Refused n → (came .answer ≡ n) × (came .answer ≡ 0 → ⊥)
+  unfolding answerNumber isRefused
+  some-given n g = (number-is ∙ ap answerNumber g, λ z. clash (ap isRefused (sym (w .answer) ∙ g)) (ap isRefused (answer-none came z)))
+
+  left-alone : came .moved ≡ still b → (x .book .state ≡ b) × (t ≡ s)
+  left-alone m = (w .state ∙ ap (λ (y : Moved). y .state) m, w .space ∙ (ap (λ (y : Moved). laid s 0 (y .records)) m ∙ sym (wrote-nil s 0 .space)))
+
+  pub every-frame-answered : Answers b frame s t x
+  every-frame-answered =
+      let exact = refusals-exact b frame (length s) in
+      record {
+        accepted = λ value count g. exact .none (none-given value count g);
+        refused = λ n g.
+            let h = some-given n g in
+            let still-is = left-alone (refused-still b frame (length s) (h .1)) in
+            (subst (λ (m : ℕ). applies (tableOf b (readOf frame) (length s)) m ≡ true) (h .0) (exact .some (h .1)), λ m l. exact .smallest m (rw (h .0) l), still-is .0, still-is .1);
+      }
+
+  -- DEMAND 2
+
+  pub every-answer-exact : Exact b frame s t x
+  every-answer-exact = record {
+    answer = w .answer;
+    state = w .state;
+    space = w .space;
+    written-read = read-written;
+    read-written = frame-read-written;
+  }
+
+-- DEMAND 3
+
+-- the records at the start of a space, read back
+back : (rs : List Record) (rest : List ℤ) → linesIn (length rs) (numbers rs ++ rest) ≡ map lineOf rs
+unfolding linesIn numbers numbersOf lineOf
+back [] rest = refl
+back (r ∷ rs) rest = ap (λ (ls : List Line). lineOf r ∷ ls) (back rs rest)
+
+lines-back : (s : List ℤ) (rs : List Record) → length rs * 6 ≤ length s → linesIn (length rs) (laid s 0 rs) ≡ map lineOf rs
+unfolding laid
+lines-back s rs h =
+    let e : sets s (0 * 6) (numbers rs) ≡ numbers rs ++ drop (0 + length (numbers rs)) s = sets-eq (numbers rs) s 0 (omega (arith, length-numbers rs)) in
+    ap (linesIn (length rs)) e ∙ back rs (drop (0 + length (numbers rs)) s)
+
+-- no cause applies of the space's length: it is long enough
+long-space : (b : State) (r : Reading) (n : ℕ) → applies (tableOf b r n) 1 ≡ false → 15_360 ≤ n
+unfolding tableOf applies pick
+long-space b r n h = go (ltb n 15_360) refl h
+  where
+    go : (t : Bool) → ltb n 15_360 ≡ t → pick t true (applies (readCauses b r) 1) ≡ false → 15_360 ≤ n
+    go true e h = absurd (clash refl h)
+    go false e h = ltb-false _ _ e
+
+-- a refused event has value 0 and no record
+quiet : (b : State) (x : Sent) → (outcome b x .answer ≡ 0 → ⊥) → (outcome b x .value ≡ 0) × (outcome b x .moved .records ≡ [])
+unfolding refused
+quiet b x h = go (went b x)
+  where
+    go : Went b x → (outcome b x .value ≡ 0) × (outcome b x .moved .records ≡ [])
+    go (refusedAs n z e) = rw e (refl, refl)
+    go (acceptedAs v p c e) = absurd (h (ap (λ (o : Outcome). o .answer) e))
+
+-- what the caller sees of a call is what the rules log of it
+module _ (b : State) (v : Valid b) (frame : List ℕ) (s t : List ℤ) (x : Taken) (w : Stepped b frame s t x) where
+  abbrev outcome-is : Outcome
+  outcome-is = step b frame (length s)
+
+  quiet-is : (outcome-is .answer ≡ 0 → ⊥) → (outcome-is .value ≡ 0) × (outcome-is .moved .records ≡ [])
+  unfolding outcome
+  quiet-is h = quiet b (record { frame = frame; space = length s }) h
+
+  value-is : answerValue (x .answer) ≡ outcome-is .value
+  unfolding answerValue
+  value-is = go (eqb (outcome-is .answer) 0) refl
+    where
+      go : (u : Bool) → eqb (outcome-is .answer) 0 ≡ u → answerValue (x .answer) ≡ outcome-is .value
+      go true u = ap answerValue (w .answer ∙ answer-none outcome-is (eqb-true _ _ u))
+      go false u = ap answerValue (w .answer ∙ answer-some outcome-is (eqb-false _ _ u)) ∙ sym (quiet-is (eqb-false _ _ u) .0)
+
+  lines-are : linesIn (answerCount (x .answer)) t ≡ map lineOf (outcome-is .moved .records)
+  unfolding answerCount linesIn
+  lines-are = go (eqb (outcome-is .answer) 0) refl
+    where
+      go : (u : Bool) → eqb (outcome-is .answer) 0 ≡ u → linesIn (answerCount (x .answer)) t ≡ map lineOf (outcome-is .moved .records)
+      go true u =
+          let z : outcome-is .answer ≡ 0 = eqb-true _ _ u in
+          let n : answerCount (x .answer) ≡ length (outcome-is .moved .records) = ap answerCount (w .answer ∙ answer-none outcome-is z) in
+          let l : 15_360 ≤ length s = long-space b (readOf frame) (length s) (refusals-exact b frame (length s) .none z 1) in
+          rw (n, w .space) (lines-back s (outcome-is .moved .records) (omega (arith, room b (v .sound) frame (length s))))
+      go false u =
+          let n : answerCount (x .answer) ≡ 0 = ap answerCount (w .answer ∙ answer-some outcome-is (eqb-false _ _ u)) in
+          rw (n, quiet-is (eqb-false _ _ u) .1)
+
+  seen-is : seen (record { frame = frame; space = s; left = t; answer = x .answer }) ≡ logOf (record { frame = frame; space = length s }) (step b frame (length s))
+  seen-is = rw (← number-is b frame s t x w, value-is, lines-are)
+
+-- the list of calls is the rules' run
+abbrev sentOf : Call → Sent
+sentOf c = record { frame = c .frame; space = length (c .space) }
+
+follows : {b : Book} {cs : List Call} {end : Book} → Valid (b .state) → Calls b cs end → (map seen cs ≡ run (b .state) (map sentOf cs)) × (end .state ≡ after (b .state) (map sentOf cs))
+unfolding run after outcome
+follows v (no-call b) = (refl, refl)
+follows v (a-call b frame s t x w cs end r) =
+    let h = rw (w .state) at (follows (w .valid) r) in
+    (rw (seen-is (b .state) v frame s t x w, h .0), h .1)
+
+-- every list of calls from a fresh book
+pub totals-after-calls : (timer : ℕ) → 1 ≤ timer → timer ≤ 5000 → (b : Book) → b .state ≡ fresh timer → (cs : List Call) (end : Book) → Calls b cs end → TotalsHold cs end
+totals-after-calls timer low high b g cs end r day =
+    let h = rw g at (follows (rw g (valid-fresh timer low high)) r) in
+    rw (h .0, h .1) (totals timer low high (map sentOf cs) (rw (h .0) at day))
+
+-- .. from the first book, which the constructor gives
+pub totals-after-first : (b : Book) → First b → (cs : List Call) (end : Book) → Calls b cs end → TotalsHold cs end
+totals-after-first b f cs end r = totals-after-calls 5000 (omega arith) (omega arith) b (f .state) cs end r
