@@ -54,8 +54,9 @@ pub struct Taken {
 fn refuse(b: State, n: u32) -> Taken
     ensures { λ x. ⌜ x ≡ refuse b n ⌝ }
 {
+    let kept = Book { state: b };
     Taken {
-        book: Book { state: b },
+        book: kept,
         answer: Answer::Refused(n),
     }
 }
