@@ -1,0 +1,14 @@
+use Rattle.depths.specs.Rows.{noOrders}
+use mathlib.Core.Path.{refl}
+use Rattle.depths.proofs.no_orders.Statement.{statement}
+use Rattle.depths.proofs.no_orders.Tie as tie
+use Rattle.depths.proofs.no_orders.Reads as reads
+use Rattle.depths.proofs.no_orders.Lts as lts
+
+-- src/lib.rt:70:1
+returns : tie.Need-returns
+unfolding noOrders
+returns c = refl
+
+pub no-orders-spec : {M : Type 1} → statement M
+no-orders-spec = tie.close (tie.spec returns)
