@@ -1,0 +1,183 @@
+// The pure parts of the program `tape`: frames cut from the input, and the lines of events and records put into a space of bytes.
+ghost use Prim.Native.Nat.{_+_, _*_, _≤_, _<_};
+ghost use mathlib.Core.Path.{_≡_};
+ghost use mathlib.Core.List.{[], _∷_};
+ghost use lib.IntN.{pos, natAbs};
+ghost use lib.ListN.{length, take, drop};
+ghost use Rattle.rules.specs.Step.{answerCount};
+ghost use Rattle.lines.specs.Lines.{decimal, signed, spaced, lineOf, recordLines, eventText};
+ghost use Rattle.lines.specs.Cuts.{toldLength, neededOf, cutOf};
+ghost use Rattle.lines.specs.Puts.{Put, Within};
+use rules::Answer;
+
+fn wide(byte: u8) -> usize
+    ensures { λ r. ⌜ (r ≡ byte) × (r < 256) ⌝ }
+{
+    byte as usize
+}
+
+// The length that the first two bytes tell.
+fn told_length(rest: &[u8]) -> usize
+    requires { ⌜ 2 ≤ length (now rest) ⌝ }
+    ensures { λ r. ⌜ r ≡ toldLength (now (rest .entry)) ⌝ }
+{
+    wide(rest[0]) + 256 * wide(rest[1])
+}
+
+// How many bytes of the rest of the input must be there to judge its first frame: the two of the length, then the frame.
+pub fn needed(rest: &[u8]) -> usize
+    ensures { λ r. ⌜ r ≡ neededOf (now (rest .entry)) ⌝ }
+{
+    if rest.len() < 2 {
+        return 2;
+    }
+    told_length(rest)
+}
+
+// The length of the first frame of the rest of the input; 0 where it is under 4 or past the input's end.
+pub fn cut(rest: &[u8]) -> usize
+    ensures { λ r. ⌜ r ≡ cutOf (now (rest .entry)) ⌝ }
+{
+    if rest.len() < 2 {
+        return 0;
+    }
+    let n = told_length(rest);
+    if n < 4 {
+        return 0;
+    }
+    if rest.len() < n {
+        return 0;
+    }
+    n
+}
+
+// One byte.
+fn put_byte(out: &mut [u8], at: usize, byte: u8) -> usize
+    requires { ⌜ at + 1 ≤ length (now out) ⌝ }
+    ensures { λ m. ⌜ Put (now (out .entry)) (now (out .exit)) at m (byte ∷ []) ⌝ }
+{
+    out[at] = byte;
+    at + 1
+}
+
+// The digits of a number, the highest first.
+fn put_decimal(out: &mut [u8], at: usize, n: u64) -> usize
+    requires { ⌜ at + length (decimal n) ≤ length (now out) ⌝ }
+    ensures { λ m. ⌜ Put (now (out .entry)) (now (out .exit)) at m (decimal n) ⌝ }
+{
+    if n < 10 {
+        return put_byte(out, at, 48 + n as u8);
+    }
+    let m = put_decimal(out, at, n / 10);
+    put_byte(out, m, 48 + (n % 10) as u8)
+}
+
+// A space and a number.
+fn put_number(out: &mut [u8], at: usize, n: u64) -> usize
+    requires { ⌜ at + 21 ≤ length (now out) ⌝ }
+    ensures { λ m. ⌜ Within 21 (now (out .entry)) (now (out .exit)) at m (32 ∷ signed (pos n)) ⌝ }
+{
+    let m = put_byte(out, at, b' ');
+    put_decimal(out, m, n)
+}
+
+// A number without its sign.
+fn magnitude(x: i32) -> u64
+    ensures { λ r. ⌜ r ≡ natAbs x ⌝ }
+{
+    let y = x as i64;
+    if y < 0 {
+        return (0 - y) as u64;
+    }
+    y as u64
+}
+
+// A space and a signed number.
+fn put_signed(out: &mut [u8], at: usize, x: i32) -> usize
+    requires { ⌜ at + 12 ≤ length (now out) ⌝ }
+    ensures { λ m. ⌜ Within 12 (now (out .entry)) (now (out .exit)) at m (32 ∷ signed x) ⌝ }
+{
+    let n = magnitude(x);
+    let m = put_byte(out, at, b' ');
+    if x < 0 {
+        let k = put_byte(out, m, b'-');
+        return put_decimal(out, k, n);
+    }
+    put_decimal(out, m, n)
+}
+
+// The line of an event.
+fn put_event_line(
+    out: &mut [u8],
+    at: usize,
+    index: u64,
+    answer: u32,
+    value: u32,
+    count: usize,
+) -> usize
+    requires { ⌜ at + 86 ≤ length (now out) ⌝ }
+    ensures { λ m. ⌜ Within 86 (now (out .entry)) (now (out .exit)) at m (lineOf 69 (pos index ∷ (pos answer ∷ (pos value ∷ (pos count ∷ []))))) ⌝ }
+{
+    let a = put_byte(out, at, b'E');
+    let b = put_number(out, a, index);
+    let c = put_number(out, b, answer as u64);
+    let d = put_number(out, c, value as u64);
+    let e = put_number(out, d, count as u64);
+    put_byte(out, e, 10)
+}
+
+// The six numbers of the record at place i of a space, each after a space.
+fn put_numbers(out: &mut [u8], at: usize, space: &[i32], i: usize) -> usize
+    requires { ⌜ at + 72 ≤ length (now out) ⌝ }
+    requires { ⌜ i * 6 + 6 ≤ length (now space) ⌝ }
+    ensures { λ m. ⌜ Within 72 (now (out .entry)) (now (out .exit)) at m (spaced (take 6 (drop (i * 6) (now (space .entry))))) ⌝ }
+{
+    let mut m = at;
+    let mut j: usize = 0;
+    while j < 6 {
+        m = put_signed(out, m, space[i * 6 + j]);
+        j += 1;
+    }
+    m
+}
+
+// The line of the record at place i of a space.
+fn put_record_line(out: &mut [u8], at: usize, space: &[i32], i: usize) -> usize
+    requires { ⌜ at + 74 ≤ length (now out) ⌝ }
+    requires { ⌜ i * 6 + 6 ≤ length (now space) ⌝ }
+    ensures { λ m. ⌜ Within 74 (now (out .entry)) (now (out .exit)) at m (lineOf 82 (take 6 (drop (i * 6) (now (space .entry))))) ⌝ }
+{
+    let a = put_byte(out, at, b'R');
+    let b = put_numbers(out, a, space, i);
+    put_byte(out, b, 10)
+}
+
+// The lines of the first n records of a space.
+fn put_records(out: &mut [u8], at: usize, space: &[i32], n: usize) -> usize
+    requires { ⌜ at + 74 * n ≤ length (now out) ⌝ }
+    requires { ⌜ n * 6 ≤ length (now space) ⌝ }
+    ensures { λ m. ⌜ Within (74 * n) (now (out .entry)) (now (out .exit)) at m (recordLines n (now (space .entry))) ⌝ }
+{
+    let mut m = at;
+    let mut i: usize = 0;
+    while i < n {
+        m = put_record_line(out, m, space, i);
+        i += 1;
+    }
+    m
+}
+
+// What is printed of an event: its line, and the lines of its records, which stand in the space.
+pub fn put_event(out: &mut [u8], at: usize, index: u64, answer: Answer, space: &[i32]) -> usize
+    requires { ⌜ at + (86 + 74 * answerCount answer) ≤ length (now out) ⌝ }
+    requires { ⌜ answerCount answer * 6 ≤ length (now space) ⌝ }
+    ensures { λ m. ⌜ Within (86 + 74 * answerCount answer) (now (out .entry)) (now (out .exit)) at m (eventText index answer (now (space .entry))) ⌝ }
+{
+    match answer {
+        Answer::Accepted(value, count) => {
+            let m = put_event_line(out, at, index, 0, value, count);
+            put_records(out, m, space, count)
+        }
+        Answer::Refused(number) => put_event_line(out, at, index, number, 0, 0),
+    }
+}

@@ -1,0 +1,224 @@
+-- What the program keeps from event to event.
+use mathlib.Core.Path.{_≡_, refl, sym, _∙_, ap}
+use mathlib.Core.Bool.{Bool, true, false}
+use mathlib.Core.List.{List, [], _∷_, _++_, append-assoc, append-nil}
+use Prim.Native.Nat.{ℕ, zero, suc, _+_, _-_, _*_, _≤_}
+use native.Mathlib.Omega.{arith}
+use lib.Dec.{eqb}
+use lib.IntN.{ℤ}
+use lib.ListN.{length, take, drop}
+use lib.Seq.{sets-eq, take-length}
+use Rattle.base.specs.Pick.{pick, pick-all, pick-true, pick-false}
+use borrow.Author.Tests.{eq-eqb, ne-eqb}
+use Rattle.rules.specs.declared.Answer.{Answer}
+use Rattle.rules.specs.declared.Answer.the-variants as A
+use Rattle.rules.specs.Step.{Outcome, step, answerOf, answerCount}
+use Rattle.rules.specs.declared.State.{State}
+use Rattle.rules.specs.declared.Record.{Record}
+use Rattle.rules.specs.Records.{Line, numbersOf}
+use Rattle.rules.specs.Records.{lineOf as numbered}
+use Rattle.rules.specs.Valid.{Valid}
+use Rattle.records.specs.Space.{laid, numbers, length-numbers}
+use Rattle.book.specs.declared.Book.{Book}
+use Rattle.book.specs.declared.Taken.{Taken}
+use Rattle.book.specs.Books.{First, Stepped}
+use Rattle.lines.specs.Cuts.{cutOf, cut-within}
+use Rattle.lines.specs.Lines.{lineOf, eventLine, recordLines, linesOf, eventText, outcomeText}
+use Rattle.lines.specs.Puts.{Within, put-nil}
+use Rattle.tape.specs.declared.Rest.{Rest}
+use Rattle.tape.specs.declared.Told.{Told}
+use Rattle.tape.specs.declared.Tape.{Tape}
+use Rattle.tape.specs.Rests.{Lies, restOf, More, rest-first, rest-after, rest-length}
+
+-- an event went to the book in the state b, and what the rules print of it was put behind the text
+pub record Tells (b : State) (index : ℕ) (frame : List ℕ) (s q : List ℕ) (used : ℕ) (x : Told) : Type 0 where
+  pub state : x .book .state ≡ step b frame 15360 .moved .state
+  pub valid : Valid (x .book .state)
+  pub text : Within 189526 s q used (x .used) (outcomeText index (step b frame 15360))
+
+-- what comes next: the state of the book, what is printed, the rest of the input, and whether more is to come
+pub record Turn : Type 0 where
+  pub state : State
+  pub text : List ℕ
+  pub rest : List ℕ
+  pub on : Bool
+
+abbrev pub eventTurn : Outcome → ℕ → List ℕ → Turn
+eventTurn o index rest = record { state = o .moved .state; text = outcomeText index o; rest = rest; on = true }
+
+-- "A length under 4 or past the input's end, a lone last byte included, prints refusal 2 and stops."
+unfoldable pub turnOf : State → ℕ → List ℕ → Turn
+turnOf b index rest =
+    pick (eqb (length rest) 0) (record { state = b; text = []; rest = rest; on = false })
+    (pick (eqb (cutOf rest) 0) (record { state = b; text = eventLine index (A.Refused 2); rest = rest; on = false })
+    (eventTurn (step b (take (cutOf rest) rest) 15360) index (drop (cutOf rest) rest)))
+
+-- before a turn: the book is valid, the rest lies in the block, and there is room for an event
+pub record Ready (t : Tape) (block : List ℕ) (space : List ℤ) (out : List ℕ) : Type 0 where
+  pub valid : Valid (t .book .state)
+  pub lies : Lies (t .rest) block
+  pub size : length space ≡ 15360
+  pub room : t .used + 189526 ≤ length out
+
+-- a turn: what the rules say of the rest of the input
+pub record Turned (t : Tape) (index : ℕ) (block s q : List ℕ) (x : Tape) : Type 0 where
+  pub state : x .book .state ≡ turnOf (t .book .state) index (restOf block (t .rest)) .state
+  pub text : Within 189526 s q (t .used) (x .used) (turnOf (t .book .state) index (restOf block (t .rest)) .text)
+  pub rest : restOf block (x .rest) ≡ turnOf (t .book .state) index (restOf block (t .rest)) .rest
+  pub on : x .on ≡ turnOf (t .book .state) index (restOf block (t .rest)) .on
+  pub valid : Valid (x .book .state)
+  pub lies : Lies (x .rest) block
+
+-- the book and the rest stay, and there is room for an event again
+pub record Drained (t : Tape) (out : List ℕ) (x : Tape) : Type 0 where
+  pub book : x .book ≡ t .book
+  pub rest : x .rest ≡ t .rest
+  pub room : x .used + 189526 ≤ length out
+
+-- laws
+
+-- the lines of records that stand one after the other are those of the first and of the others
+first-line : (l : Line) (k : ℕ) (zs : List ℤ) → recordLines (suc k) (numbersOf l ++ zs) ≡ lineOf 82 (numbersOf l) ++ recordLines k zs
+unfolding recordLines numbersOf
+first-line l zero zs = sym (append-nil _)
+first-line l (suc k) zs =
+    let e : suc k * 6 ≡ suc (suc (suc (suc (suc (suc (k * 6)))))) = omega arith in
+    rw (first-line l k zs, e) (append-assoc (lineOf 82 (numbersOf l)) (recordLines k zs) _)
+
+lines-of : (rs : List Record) (zs : List ℤ) → recordLines (length rs) (numbers rs ++ zs) ≡ linesOf rs
+unfolding numbers linesOf recordLines
+lines-of [] zs = refl
+lines-of (r ∷ rs) zs =
+    ap (recordLines (suc (length rs))) (append-assoc (numbersOf (numbered r)) (numbers rs) zs)
+    ∙ first-line (numbered r) (length rs) (numbers rs ++ zs)
+    ∙ ap (λ (x : List ℕ). lineOf 82 (numbersOf (numbered r)) ++ x) (lines-of rs zs)
+
+lines-laid : (s : List ℤ) (rs : List Record) → length rs ≤ 2560 → 15360 ≤ length s → recordLines (length rs) (laid s 0 rs) ≡ linesOf rs
+unfolding laid
+lines-laid s rs h l =
+    ap (recordLines (length rs)) (sets-eq (numbers rs) s 0 (omega (arith, length-numbers rs))) ∙ lines-of rs (drop (0 + length (numbers rs)) s)
+
+-- what is printed from the answer and the space is what the outcome says
+pub text-laid :
+    (index : ℕ) (o : Outcome) (s : List ℤ) → answerCount (answerOf o) ≤ 2560 → 15360 ≤ length s →
+    eventText index (answerOf o) (laid s 0 (o .moved .records)) ≡ outcomeText index o
+unfolding eventText outcomeText answerOf answerCount recordLines linesOf
+text-laid index o s h l =
+    let rs = o .moved .records in
+    let P : Answer → Type 0 = λ (a : Answer). answerCount a ≤ 2560 → eventLine index a ++ recordLines (answerCount a) (laid s 0 rs) ≡ eventLine index a ++ linesOf (take (answerCount a) rs) in
+    pick-all P _
+    (λ k. ap (λ (x : List ℕ). eventLine index (A.Accepted (o .value) (length rs)) ++ x) (lines-laid s rs k l ∙ ap linesOf (sym (take-length rs))))
+    (λ k. refl)
+    h
+
+pub tells :
+    {b : State} (index : ℕ) {frame s q : List ℕ} {sp sq : List ℤ} {used m : ℕ} {x : Taken} →
+    length sp ≡ 15360 → Stepped b frame sp sq x → Within (86 + 74 * answerCount (x .answer)) s q used m (eventText index (x .answer) sq) →
+    Tells b index frame s q used (record { book = x .book; used = m })
+tells {b} index {frame} {s} {q} {sp} {sq} {used} {m} {x} l h w =
+    let e : length sp ≡ 15360 = l in
+    let k : answerCount (answerOf (step b frame (length sp))) ≤ 2560 = rw (h .answer) at (h .few) in
+    let t : eventText index (x .answer) sq ≡ outcomeText index (step b frame (length sp)) =
+    rw (h .answer, h .space) (text-laid index (step b frame (length sp)) sp k (omega arith)) in
+    record {
+      state = rw e at (h .state);
+      valid = h .valid;
+      text = record { put = rw (e) at (rw t at (w .put)); few = omega (arith, w .few, h .few) };
+    }
+
+-- the three turns
+turn-ended : (b : State) (index : ℕ) (rest : List ℕ) → length rest ≡ 0 → turnOf b index rest ≡ record { state = b; text = []; rest = rest; on = false }
+unfolding turnOf
+turn-ended b index rest e = pick-true _ _ _ (eq-eqb _ _ e)
+
+turn-cut :
+    (b : State) (index : ℕ) (rest : List ℕ) → (length rest ≡ 0 → ⊥) → cutOf rest ≡ 0 →
+    turnOf b index rest ≡ record { state = b; text = eventLine index (A.Refused 2); rest = rest; on = false }
+unfolding turnOf
+turn-cut b index rest h e = pick-false _ _ _ (ne-eqb _ _ h) ∙ pick-true _ _ _ (eq-eqb _ _ e)
+
+turn-event :
+    (b : State) (index : ℕ) (rest : List ℕ) → (cutOf rest ≡ 0 → ⊥) →
+    turnOf b index rest ≡ eventTurn (step b (take (cutOf rest) rest) 15360) index (drop (cutOf rest) rest)
+unfolding turnOf
+turn-event b index rest h =
+    let k : length rest ≡ 0 → ⊥ = λ z. h (omega (arith, z, cut-within rest)) in
+    pick-false _ _ _ (ne-eqb _ _ k) ∙ pick-false _ _ _ (ne-eqb _ _ h)
+
+pub turned-ended :
+    {t : Tape} (index : ℕ) {block s : List ℕ} {space : List ℤ} → Ready t block space s → t .rest .at ≡ t .rest .«end» →
+    Turned t index block s s (record { book = t .book; rest = t .rest; used = t .used; on = false })
+turned-ended {t} index {block} {s} y e =
+    let x = turn-ended (t .book .state) index (restOf block (t .rest)) (omega (arith, rest-length (y .lies), e)) in
+    record {
+      state = rw x;
+      text = rw x (record { put = put-nil s (t .used); few = omega arith });
+      rest = rw x;
+      on = rw x;
+      valid = y .valid;
+      lies = y .lies;
+    }
+
+pub turned-cut :
+    {t : Tape} (index : ℕ) {block s q : List ℕ} {space : List ℤ} {m n : ℕ} → Ready t block space s → (t .rest .at ≡ t .rest .«end» → ⊥) →
+    n ≡ cutOf (restOf block (t .rest)) → n ≡ 0 → Within 189526 s q (t .used) m (eventLine index (A.Refused 2)) →
+    Turned t index block s q (record { book = t .book; rest = t .rest; used = m; on = false })
+turned-cut {t} index {block} y h e z w =
+    let x = turn-cut (t .book .state) index (restOf block (t .rest)) (λ k. h (omega (arith, k, rest-length (y .lies), y .lies .order))) (omega (arith, e, z)) in
+    record { state = rw x; text = rw x w; rest = rw x; on = rw x; valid = y .valid; lies = y .lies }
+
+pub event-fits :
+    {t : Tape} {block s : List ℕ} {space : List ℤ} {n : ℕ} → Ready t block space s → n ≡ cutOf (restOf block (t .rest)) → t .rest .at + n ≤ t .rest .«end»
+event-fits {t} {block} y e = omega (arith, e, cut-within (restOf block (t .rest)), rest-length (y .lies), y .lies .order)
+
+pub turned-event :
+    {t : Tape} (index : ℕ) {block s q : List ℕ} {space : List ℤ} {n : ℕ} {a : Told} → Ready t block space s →
+    n ≡ cutOf (restOf block (t .rest)) → (n ≡ 0 → ⊥) →
+    Tells (t .book .state) index (take (t .rest .at + n - t .rest .at) (drop (t .rest .at) block)) s q (t .used) a →
+    Turned t index block s q (record { book = a .book; rest = record { at = t .rest .at + n; «end» = t .rest .«end» }; used = a .used; on = true })
+turned-event {t} index {block} {n = n} y e h w =
+    let few : n ≤ t .rest .«end» - t .rest .at = omega (arith, event-fits y e) in
+    let x = rw (← e) at (turn-event (t .book .state) index (restOf block (t .rest)) (λ z. h (e ∙ z))) in
+    let v = rw (rest-first block (t .rest) n few) at w in
+    record {
+      state = rw x (v .state);
+      text = rw x (v .text);
+      rest = rw x (rest-after block (t .rest) n few);
+      on = rw x;
+      valid = v .valid;
+      lies = record { order = event-fits y e; inside = y .lies .inside };
+    }
+
+pub cut-told :
+    (index : ℕ) (space : List ℤ) {s q : List ℕ} {a m : ℕ} →
+    Within (86 + 74 * answerCount (A.Refused 2)) s q a m (eventText index (A.Refused 2) space) → Within 189526 s q a m (eventLine index (A.Refused 2))
+unfolding eventText recordLines answerCount
+cut-told index space w = record { put = rw append-nil at (w .put); few = omega (arith, w .few) }
+
+pub ready-again :
+    {t x : Tape} {index : ℕ} {block s q : List ℕ} {space : List ℤ} → length space ≡ 15360 → Turned t index block s q x → {y : Tape} → Drained x q y → Ready y block space q
+ready-again l u d =
+    record { valid = rw (d .book) (u .valid); lies = rw (d .rest) (u .lies); size = l; room = d .room }
+
+pub ready-filled :
+    {t : Tape} {block next out : List ℕ} {space : List ℤ} {q : Rest} → Ready t block space out → More block next (t .rest) q →
+    Ready (record { book = t .book; rest = q; used = t .used; on = t .on }) next space out
+ready-filled y m = record { valid = y .valid; lies = m .lies; size = y .size; room = y .room }
+
+-- the loop: ready for the next event, and no length has changed
+pub record Running (block₀ : List ℕ) (space₀ : List ℤ) (out₀ : List ℕ) (t : Tape) (block : List ℕ) (space : List ℤ) (out : List ℕ) : Type 0 where
+  pub ready : Ready t block space out
+  pub blocks : length block ≡ length block₀
+  pub spaces : length space ≡ length space₀
+  pub outs : length out ≡ length out₀
+
+pub running-first :
+    (b : Book) (block : List ℕ) (space : List ℤ) (out : List ℕ) → First b → length space ≡ 15360 → 189526 ≤ length out →
+    Running block space out (record { book = b; rest = record { at = 0; «end» = 0 }; used = 0; on = true }) block space out
+running-first b block space out f l h =
+    record {
+      ready = record { valid = f .valid; lies = record { order = omega arith; inside = omega arith }; size = l; room = omega arith };
+      blocks = refl;
+      spaces = refl;
+      outs = refl;
+    }
