@@ -52,7 +52,7 @@ prints() {
 }
 
 # Each stored case, its input whole and then one byte at a time.
-for text in tests/*.hex ../../days/worked-example.txt; do
+for text in tests/*.txt ../../days/worked-example.txt; do
     case=$(basename "${text%.*}")
     if "$assemble" "$text" >"$out/$case.in"; then
         check "$case" prints "$case" cat

@@ -1,26 +1,34 @@
-//! Writes the bytes of frames written as text to standard output:
+//! Writes the frames of a day written as text to standard output:
 //! `assemble FILE`.
 
 #![forbid(unsafe_code)]
 #![deny(warnings)]
 
+use assemble::forms::shapes;
 use std::io::{self, Write};
 use std::process::ExitCode;
 
-const USAGE: &str = "usage: assemble FILE
+fn usage() -> String {
+    let shapes = shapes();
+    format!(
+        "usage: assemble FILE
 
-Writes the bytes that the text of FILE stands for to standard output: bytes of
-two hex digits, separated by blanks, usually one frame a line. '#' starts a
-comment, and '00*300' is the byte 00 three hundred times.
-";
+Writes the frames that the text of FILE stands for to standard output. A line of
+the text is one event; '#' starts a comment:
+{shapes}Prices and limits are whole cents. The proved writer writes each frame, and a
+number outside its field's range is an error with its line. 'bytes' takes any
+bytes, in hex: '00*300' is the byte 00 three hundred times.
+"
+    )
+}
 
 fn main() -> ExitCode {
     let words: Vec<_> = std::env::args_os().skip(1).collect();
     let file = match words.as_slice() {
-        [word] if word == "--help" => return written(USAGE.as_bytes()),
+        [word] if word == "--help" => return written(usage().as_bytes()),
         [word] => word,
         _ => {
-            eprint!("{USAGE}");
+            eprint!("{}", usage());
             return ExitCode::from(2);
         }
     };
@@ -28,7 +36,7 @@ fn main() -> ExitCode {
     match std::fs::read(file) {
         Err(error) => failed(&format!("{name}: {error}")),
         Ok(text) => match assemble::assemble(&text) {
-            Err((line, wrong)) => failed(&format!("{name}:{line}: {wrong}")),
+            Err((line, wrong)) => failed(&format!("{name}: line {line}: {wrong}")),
             Ok(bytes) => written(&bytes),
         },
     }

@@ -4,7 +4,7 @@
 #![deny(warnings)]
 
 use reckoning::book::{Book, RECORDS};
-use reckoning::coverage;
+use reckoning::coverage::{self, SITUATIONS};
 use reckoning::events::Answer;
 use reckoning::frames::{read, Event};
 use reckoning::generate::{list, long_list, stream, tail, Input, Options};
@@ -159,70 +159,6 @@ fn every_situation_occurs() {
         assert!(SITUATIONS.contains(situation), "{situation} is not listed");
     }
 }
-
-/// Every situation that is counted.
-const SITUATIONS: &[&str] = &[
-    "clock: an auction ends",
-    "clock: an auction goes on",
-    "clock: several auctions end",
-    "complex: cancelled at a shut series",
-    "complex: do-not-auction cancelled in an auction",
-    "complex: fills at four prices or more",
-    "complex: fills at two prices or more",
-    "complex: fills on arrival",
-    "complex: fourth auction at once",
-    "complex: rests beside a shut series",
-    "complex: second auction at once",
-    "complex: starter met on arrival",
-    "complex: the net meets and is not ready",
-    "complex: waits in an auction",
-    "day end: an auction ends",
-    "day end: several auctions end",
-    "end: a day starter rests",
-    "end: a later pass meets an order from before",
-    "end: a sweep's own pass fills",
-    "end: a waiting order uses legs",
-    "end: a waiting order's own pass fills",
-    "end: an immediate starter is cancelled",
-    "end: legs barred by what is gone",
-    "end: legs barred for the starter",
-    "end: the starter fills by both",
-    "end: the starter fills by legs only",
-    "end: the starter fills whole only",
-    "leg order: fills in several strategies",
-    "leg order: one trade",
-    "leg order: resting orders fill by legs",
-    "leg order: several trades",
-    "leg order: trades, then resting orders fill by legs",
-    "opening: a strategy matches",
-    "opening: at the buy's limit",
-    "opening: at the sell's limit",
-    "opening: matches, then fills by legs",
-    "opening: orders fill by legs",
-    "opening: several strategies match",
-    "share: a holder gets nothing",
-    "share: no unit left over",
-    "share: one unit left over",
-    "share: several broker-dealers in full",
-    "share: several sweeps and makers in full",
-    "share: several units left over",
-    "share: three groups at one limit",
-    "shut: an auction ends",
-    "shut: several auctions end",
-    "strategy: equal in a full table",
-    "strategy: equal to a held one",
-    "sweep: replaced",
-    "sweep: replaced in a full table",
-    "sweep: withdrawn",
-    "turn: legs better than a limit",
-    "turn: legs in a legs-only pass",
-    "turn: legs in a numbered pass",
-    "turn: legs in a shared pass",
-    "turn: whole at a limit better than the leg net",
-    "turn: whole at a limit that equals the leg net",
-    "turn: whole in a numbered pass",
-    "turn: whole in a shared pass",
-];
 
 #[test]
 fn totals_hold_over_a_million_events_and_no_event_needs_more_than_2560_records() {

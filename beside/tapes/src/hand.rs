@@ -1,0 +1,339 @@
+//! Days made by hand: ends of the input, long frames, full tables, and numbers
+//! at the ends of their ranges.
+
+use crate::days::Day;
+use reckoning::book::{COMPLEX_ORDERS, LEG_ORDERS, STRATEGIES, SWEEPS};
+use reckoning::frames::{bytes, Event, Leg};
+
+const BUY: u8 = 0;
+const SELL: u8 = 1;
+const CUSTOMER: u8 = 1;
+const MARKET_MAKER: u8 = 3;
+const DAY: u8 = 0;
+
+fn made(name: impl Into<String>, bytes: Vec<u8>) -> Day {
+    Day::Made {
+        name: name.into(),
+        bytes,
+    }
+}
+
+fn day(name: &str, events: &[Event]) -> Day {
+    made(name, events.iter().flat_map(bytes).collect())
+}
+
+fn series(series: u8, state: u8) -> Event {
+    Event::Series { series, state }
+}
+
+fn strategy(list: &[(u8, u8, u8)]) -> Event {
+    let mut legs = [Leg::default(); 6];
+    for (leg, (series, side, ratio)) in legs.iter_mut().zip(list) {
+        *leg = Leg {
+            series: *series,
+            side: *side,
+            ratio: *ratio,
+        };
+    }
+    Event::Strategy {
+        count: list.len() as u8,
+        legs,
+    }
+}
+
+fn leg_order(member: u16, series: u8, side: u8, contracts: u16, price: u32) -> Event {
+    Event::LegOrder {
+        member,
+        series,
+        side,
+        contracts,
+        price,
+    }
+}
+
+fn order(member: u16, side: u8, class: u8, life: u8, units: u16, limit: i32) -> Event {
+    Event::Complex {
+        member,
+        strategy: 0,
+        side,
+        class,
+        life,
+        units,
+        limit,
+    }
+}
+
+fn sweep(member: u16, side: u8, units: u16, limit: i32) -> Event {
+    Event::Sweep {
+        member,
+        strategy: 0,
+        side,
+        units,
+        limit,
+    }
+}
+
+fn cancel(member: u16, number: u32) -> Event {
+    Event::Cancel { member, number }
+}
+
+fn clock(milliseconds: u32) -> Event {
+    Event::Clock { milliseconds }
+}
+
+fn day_end(timer: u16) -> Event {
+    Event::DayEnd { timer }
+}
+
+/// Document 01's worked example.
+pub fn example() -> Vec<u8> {
+    let events = [
+        series(0, 1),
+        series(1, 1),
+        strategy(&[(0, BUY, 1), (1, SELL, 1)]),
+        leg_order(7, 0, SELL, 5, 300),
+        leg_order(7, 1, BUY, 5, 100),
+        order(9, BUY, MARKET_MAKER, 1, 2, 200),
+    ];
+    events.iter().flat_map(bytes).collect()
+}
+
+/// Inputs of no byte, one, two, three and four; and the worked example cut after
+/// each of its bytes, and with such an end after it.
+pub fn ends() -> Vec<Day> {
+    let mut ends: Vec<Vec<u8>> = vec![vec![]];
+    ends.extend((0..=255).map(|byte| vec![byte]));
+    for length in (0..=20).chain([255, 256, 257, 512, 65_534, 65_535]) {
+        let head = u16::to_le_bytes(length);
+        ends.push(head.to_vec());
+        ends.push([&head[..], &[6]].concat());
+        ends.push([&head[..], &[6, 0]].concat());
+        ends.push([&head[..], &[6, 0, 0, 1]].concat());
+    }
+    let example = example();
+    let mut days = Vec::new();
+    for end in ends {
+        let name = format!("the bytes {end:?}");
+        if end.len() != 1 || end[0] < 8 {
+            let whole = [&example[..], &end].concat();
+            days.push(made(format!("the worked example and {name}"), whole));
+        }
+        days.push(made(name, end));
+    }
+    for length in 0..=example.len() {
+        let name = format!("the worked example cut to {length} bytes");
+        days.push(made(name, example[..length].to_vec()));
+    }
+    days
+}
+
+/// A frame of the kind with this many bytes in all, each of them `fill`.
+fn long_frame(kind: u16, length: u16, fill: u8) -> Vec<u8> {
+    let mut frame = vec![fill; usize::from(length)];
+    frame[..2].copy_from_slice(&length.to_le_bytes());
+    frame[2..4].copy_from_slice(&kind.to_le_bytes());
+    frame
+}
+
+/// Frames of up to 65,535 bytes, each with a valid one after it; then one that
+/// is cut.
+pub fn long_frames() -> Vec<Day> {
+    let mut days = Vec::new();
+    let open = bytes(&series(0, 1));
+    for kind in (0..=9).chain([255, 256, 257, 258, 262, 65_535]) {
+        let mut input = example();
+        for length in [4, 5, 6, 770, 771, 4_096, 32_768, 65_534, 65_535] {
+            for fill in [0, 1, 255] {
+                input.extend(long_frame(kind, length, fill));
+                input.extend(&open);
+            }
+        }
+        days.push(made(format!("long frames of kind {kind}"), input.clone()));
+        for missing in [1, 2, 65_530, 65_531, 65_532, 65_533] {
+            let frame = long_frame(kind, 65_535, 1);
+            let cut = [&input[..], &frame[..frame.len() - missing]].concat();
+            let name = format!("long frames of kind {kind}, the last without {missing} bytes");
+            days.push(made(name, cut));
+        }
+    }
+    days
+}
+
+/// Days that fill each table and go beyond.
+pub fn full_tables() -> Vec<Day> {
+    vec![
+        full_strategies(),
+        full_complex_orders(),
+        full_sweeps(),
+        full_leg_orders(),
+    ]
+}
+
+fn full_strategies() -> Day {
+    let mut events = Vec::new();
+    let pair = |other: u8| strategy(&[(0, BUY, 1), (other, SELL, 1)]);
+    for other in 1..=STRATEGIES as u8 + 3 {
+        events.push(pair(other));
+    }
+    // Equal ones need no slot; what is refused 5 stays so.
+    for other in 1..=STRATEGIES as u8 {
+        events.push(pair(other));
+        events.push(strategy(&[(other, SELL, 4), (0, BUY, 4)]));
+        events.push(strategy(&[(other, BUY, 1), (0, SELL, 1)]));
+    }
+    events.push(strategy(&[(0, BUY, 1), (0, SELL, 1)]));
+    events.push(strategy(&[(0, BUY, 1), (1, SELL, 4)]));
+    events.push(day_end(1));
+    events.push(pair(31));
+    day("a full table of strategies", &events)
+}
+
+fn full_complex_orders() -> Day {
+    let mut events = vec![
+        series(0, 1),
+        series(1, 1),
+        strategy(&[(0, BUY, 1), (1, SELL, 1)]),
+    ];
+    for member in 1..=COMPLEX_ORDERS as u16 + 1 {
+        events.push(order(member, BUY, MARKET_MAKER, DAY, 5, -100));
+    }
+    for life in 0..=3 {
+        for class in 1..=3 {
+            events.push(order(30, SELL, class, life, 5, -100));
+            events.push(order(30, BUY, class, life, 5, -90));
+        }
+    }
+    // A free slot, used by orders that end at once.
+    events.push(cancel(5, 5));
+    for life in [3, 1, 1, 3] {
+        events.push(order(31, SELL, MARKET_MAKER, life, 5, -100));
+        events.push(order(31, BUY, MARKET_MAKER, life, 5, -100));
+    }
+    events.push(order(32, BUY, MARKET_MAKER, DAY, 5, -100));
+    events.push(order(33, BUY, MARKET_MAKER, DAY, 5, -100));
+    events.push(day_end(1));
+    day("a full table of complex orders", &events)
+}
+
+fn full_sweeps() -> Day {
+    let mut events = vec![
+        series(0, 1),
+        series(1, 1),
+        strategy(&[(0, BUY, 1), (1, SELL, 1)]),
+        leg_order(1, 0, BUY, 5, 300),
+        leg_order(1, 1, SELL, 5, 100),
+        order(2, BUY, CUSTOMER, DAY, 100, 250),
+    ];
+    for member in 1..=SWEEPS as u16 + 2 {
+        events.push(sweep(member, SELL, 7, 240));
+    }
+    // Replaced, withdrawn, none to remove, and one more.
+    for member in 1..=SWEEPS as u16 + 2 {
+        events.push(sweep(member, SELL, 8, 240));
+    }
+    events.push(sweep(3, SELL, 0, 240));
+    events.push(sweep(3, SELL, 0, 240));
+    events.push(sweep(40, SELL, 9, 240));
+    events.push(sweep(41, SELL, 9, 240));
+    events.push(sweep(42, SELL, 0, 240));
+    events.push(clock(4_999));
+    events.push(clock(5_000));
+    events.push(sweep(43, SELL, 9, 240));
+    events.push(day_end(1));
+    day("a full table of sweeps", &events)
+}
+
+fn full_leg_orders() -> Day {
+    let mut events = vec![series(0, 1)];
+    for member in 1..=LEG_ORDERS as u16 + 1 {
+        events.push(leg_order(member, 0, BUY, 5, 300 - u32::from(member)));
+    }
+    events.push(leg_order(50, 0, SELL, 5, 100));
+    events.push(leg_order(50, 1, SELL, 5, 100));
+    events.push(cancel(9, 9));
+    events.push(leg_order(51, 0, SELL, 12, 100));
+    events.push(leg_order(52, 0, SELL, 9_999, 1));
+    events.push(day_end(1));
+    day("a full table of leg orders", &events)
+}
+
+/// Numbers at the ends of their ranges.
+pub fn extremes() -> Vec<Day> {
+    let mut days = Vec::new();
+    for buy_legs in [6, 5, 3, 0] {
+        let legs: Vec<(u8, u8, u8)> = (0..6)
+            .map(|leg| {
+                let side = if leg < buy_legs { BUY } else { SELL };
+                (31 - leg, side, 12 - leg)
+            })
+            .collect();
+        for (bid, offer) in [(1, 2), (1, 99_999), (99_998, 99_999)] {
+            days.push(extreme(&legs, bid, offer));
+        }
+    }
+    for timer in [1, 4_999, 5_000] {
+        let last = 86_400_000 - u32::from(timer);
+        days.push(late(timer, last));
+        days.push(late(timer, last + 1));
+    }
+    days
+}
+
+/// A strategy of these legs whose leg orders stand at one price each, and orders
+/// of any life and class at the ends of the limits.
+fn extreme(legs: &[(u8, u8, u8)], bid: u32, offer: u32) -> Day {
+    let mut events: Vec<Event> = (0..32).map(|number| series(number, 1)).collect();
+    events.push(strategy(legs));
+    for (number, _, _) in legs {
+        for contracts in [9_999, 9_999] {
+            events.push(leg_order(65_535, *number, BUY, contracts, bid));
+            events.push(leg_order(65_535, *number, SELL, contracts, offer));
+        }
+    }
+    let ends = [-9_999_999, 9_999_999, -5_699_943, 5_699_943, 0];
+    let mut now = 0;
+    for limit in ends {
+        for life in 0..=3 {
+            for class in 1..=3 {
+                for side in [BUY, SELL] {
+                    events.push(order(65_535, side, class, life, 9_999, limit));
+                    events.push(sweep(1, 1 - side, 9_999, limit));
+                    events.push(sweep(2, 1 - side, 9_998, -limit));
+                    now += 5_000;
+                    events.push(clock(now));
+                }
+            }
+        }
+    }
+    events.push(day_end(5_000));
+    let sides: Vec<u8> = legs.iter().map(|(_, side, _)| *side).collect();
+    day(
+        &format!("legs at {bid} and {offer}, sides {sides:?}"),
+        &events,
+    )
+}
+
+/// An auction begun when the clock is near its end: the last one that can end by
+/// the clock, or one that cannot.
+fn late(timer: u16, begin: u32) -> Day {
+    let events = [
+        day_end(timer),
+        series(0, 1),
+        series(1, 1),
+        strategy(&[(0, BUY, 1), (1, SELL, 1)]),
+        leg_order(1, 0, BUY, 50, 300),
+        leg_order(1, 1, SELL, 50, 100),
+        clock(begin),
+        order(2, BUY, CUSTOMER, 1, 10, 250),
+        sweep(3, SELL, 7, 240),
+        clock(begin + u32::from(timer) - 1),
+        clock(86_400_000),
+        clock(86_399_999),
+        day_end(5_000),
+        clock(0),
+    ];
+    day(
+        &format!("an auction begun at {begin}, timer {timer}"),
+        &events,
+    )
+}

@@ -1,0 +1,199 @@
+//! The proved program `tape` against the reckoning. The program is the one that
+//! TAPE_PROGRAM names, or target/bin/tape, which `rt check tape` builds.
+
+#![forbid(unsafe_code)]
+#![deny(warnings)]
+
+use reckoning::coverage::SITUATIONS;
+use std::path::Path;
+use std::time::Duration;
+use tapes::agree::agrees;
+use tapes::days::{
+    any_frames, damaged_frames, every_number, generated, inputs_of_any_bytes, several_days, Day,
+};
+use tapes::hand::{ends, extremes, full_tables, long_frames};
+use tapes::program::{Delivery, Program};
+use tapes::tally::Tally;
+
+/// The tally, printed; or the difference, which fails the test.
+fn agreed(what: &str, days: &[Day]) -> Tally {
+    agreed_by(what, days, Delivery::Whole)
+}
+
+fn agreed_by(what: &str, days: &[Day], delivery: Delivery) -> Tally {
+    let mut program = Program::named(
+        "TAPE_PROGRAM",
+        concat!(env!("CARGO_MANIFEST_DIR"), "/../../target/bin/tape"),
+    );
+    program.delivery = delivery;
+    match agrees(&program, days) {
+        Ok(tally) => {
+            println!("{what}, the same lines:\n{tally}");
+            assert_eq!(tally.days, days.len() as u64);
+            tally
+        }
+        Err(different) => {
+            let name = format!("{}.frames", what.replace(' ', "-"));
+            let saved = Path::new(env!("CARGO_TARGET_TMPDIR")).join(name);
+            std::fs::write(&saved, different.day.bytes()).expect("the day is saved");
+            panic!("{what}: {different}\n  the day:   {}", saved.display());
+        }
+    }
+}
+
+/// Every answer that each kind can have on a tape.
+const ANSWERS: &[(u32, &[u32])] = &[
+    (1, &[0, 2, 3, 5, 12]),
+    (2, &[0, 2, 3, 4, 9, 12]),
+    (3, &[0, 2, 3, 4, 9, 10, 12]),
+    (4, &[0, 2, 3, 6, 12]),
+    (5, &[0, 2, 3, 7, 8]),
+    (6, &[0, 2, 3]),
+    (7, &[0, 2, 3, 11]),
+    (8, &[0, 2]),
+    (9, &[2]),
+];
+
+#[test]
+fn generated_days() {
+    let tally = agreed("generated days", &generated(760));
+    assert!(tally.total() >= 2_000_000);
+    for (kind, answers) in ANSWERS {
+        for answer in *answers {
+            let count = tally.of(*kind, *answer);
+            assert!(count >= 50, "kind {kind}, answer {answer}: {count}");
+        }
+    }
+    for answer in (0..=12).filter(|answer| *answer != 1) {
+        let count = tally.answered(answer);
+        assert!(count >= 2_000, "answer {answer}: {count}");
+    }
+    for kind in 1..=5 {
+        let count = tally.written(kind);
+        assert!(count >= 20_000, "records of kind {kind}: {count}");
+    }
+    for situation in SITUATIONS {
+        let count = tally.reached(situation);
+        assert!(count >= 100, "{situation}: {count}");
+    }
+    assert!(tally.most >= 256);
+}
+
+#[test]
+fn days_that_give_every_number() {
+    let tally = agreed("days that give every number", &every_number(8));
+    assert!(tally.total() >= 800_000);
+    assert_eq!(tally.highest, 100_000);
+    for kind in 2..=4 {
+        let count = tally.of(kind, 13);
+        assert!(count >= 50, "kind {kind}, answer 13: {count}");
+    }
+    assert!(tally.of(3, 0) >= 100 && tally.of(5, 0) >= 100);
+}
+
+#[test]
+fn several_days_in_a_row() {
+    let days = several_days(60);
+    let tally = agreed("several days in a row", &days);
+    assert!(tally.total() >= 100_000);
+    assert!(tally.of(8, 0) >= 4 * days.len() as u64);
+    for kind in 1..=5 {
+        assert!(tally.written(kind) >= 1_000, "records of kind {kind}");
+    }
+}
+
+#[test]
+fn frames_of_any_sort() {
+    let tally = agreed("frames of any sort", &any_frames(20));
+    assert!(tally.total() >= 200_000);
+    for kind in 1..=8 {
+        for answer in [2, 3] {
+            let count = tally.of(kind, answer);
+            assert!(count >= 500, "kind {kind}, answer {answer}: {count}");
+        }
+    }
+}
+
+#[test]
+fn damaged_frames_alone() {
+    let tally = agreed("damaged frames alone", &damaged_frames(20));
+    assert!(tally.total() >= 100_000);
+    assert_eq!(tally.total(), tally.answered(2) + tally.answered(3));
+    for kind in 1..=8 {
+        for answer in [2, 3] {
+            let count = tally.of(kind, answer);
+            assert!(count >= 500, "kind {kind}, answer {answer}: {count}");
+        }
+    }
+}
+
+#[test]
+fn inputs_of_few_bytes() {
+    let mut days = ends();
+    let made = days.len();
+    days.extend(inputs_of_any_bytes(400));
+    let tally = agreed("inputs of few bytes, and cut ones", &days);
+    assert!(made >= 500);
+    assert!(tally.of(9, 2) >= 500, "inputs that stop");
+}
+
+#[test]
+fn frames_of_up_to_65535_bytes() {
+    let tally = agreed("long frames", &long_frames());
+    assert!(tally.bytes >= 50_000_000);
+    // After each long frame the program goes on.
+    assert!(tally.of(6, 0) >= 1_000);
+    for kind in 1..=8 {
+        assert!(tally.of(kind, 2) >= 100, "kind {kind}, answer 2");
+    }
+}
+
+#[test]
+fn inputs_in_pieces_and_from_a_file() {
+    let mut days = generated(6);
+    days.extend(several_days(2));
+    days.extend(long_frames().into_iter().step_by(30));
+    days.extend(ends().into_iter().step_by(10));
+    let tally = agreed_by("inputs from a file", &days, Delivery::File);
+    assert!(tally.total() >= 10_000);
+    for piece in [1_000, 4_096, 65_536] {
+        let what = format!("inputs in pieces of {piece} bytes");
+        let tally = agreed_by(&what, &days, Delivery::Pieces(piece, Duration::ZERO));
+        assert!(tally.total() >= 10_000);
+    }
+    // With a pause after each piece, so that the program reads it alone.
+    let cut = ends();
+    let cut = &cut[cut.len() - 60..];
+    let short = Day::Generated {
+        seed: 5,
+        events: 300,
+    };
+    let pause = Duration::from_millis(1);
+    for piece in [1, 2, 3, 7, 13] {
+        let what = format!("inputs in pieces of {piece} bytes, one by one");
+        agreed_by(&what, cut, Delivery::Pieces(piece, pause));
+    }
+    for piece in [5, 16, 100] {
+        let what = format!("a day in pieces of {piece} bytes, one by one");
+        let day = std::slice::from_ref(&short);
+        let tally = agreed_by(&what, day, Delivery::Pieces(piece, pause));
+        assert!(tally.total() >= 300);
+    }
+}
+
+#[test]
+fn tables_that_are_full() {
+    let tally = agreed("full tables", &full_tables());
+    for (kind, least) in [(1, 3), (2, 20), (3, 4), (4, 2)] {
+        let count = tally.of(kind, 12);
+        assert!(count >= least, "kind {kind}, answer 12: {count}");
+    }
+    assert!(tally.of(3, 10) >= 2 && tally.of(2, 9) >= 1 && tally.of(4, 6) >= 1);
+}
+
+#[test]
+fn numbers_at_the_ends_of_their_ranges() {
+    let tally = agreed("extremes", &extremes());
+    assert!(tally.written(1) >= 1_000 && tally.written(2) >= 5_000);
+    assert!(tally.of(7, 0) >= 1_000 && tally.of(7, 11) >= 6);
+}

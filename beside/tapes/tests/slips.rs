@@ -1,0 +1,416 @@
+//! The comparison finds slips in the book itself: the reckoning's sources with
+//! one edit each are built anew, and their tape has to differ from the
+//! reckoning's. Among them are the slips that document 01 names.
+
+#![forbid(unsafe_code)]
+#![deny(warnings)]
+
+use std::fs;
+use std::path::{Path, PathBuf};
+use std::process::Command;
+use std::time::Duration;
+use tapes::agree::agrees;
+use tapes::days::{any_frames, every_number, generated, several_days, Day};
+use tapes::hand::{ends, extremes, full_tables};
+use tapes::program::Program;
+
+/// An edit of the reckoning: what it does, the file, and its text before and
+/// after, where the text stands once.
+type Slip = (&'static str, &'static str, &'static str, &'static str);
+
+const SLIPS: &[Slip] = &[
+    // "Which slips tempt?"
+    (
+        "5 contracts at ratio 2 as 3 units",
+        "passes.rs",
+        ".map(|entry| entry.contracts / u32::from(entry.leg.ratio))",
+        ".map(|entry| entry.contracts.div_ceil(u32::from(entry.leg.ratio)))",
+    ),
+    (
+        "leftover units to the largest",
+        "passes.rs",
+        "    for share in &mut shares {\n        if left > 0 {",
+        "    let most = shares.iter().copied().max();\n    for share in &mut shares {\n        if left > 0 && Some(*share) == most {",
+    ),
+    (
+        "a customer passed by for a sweep",
+        "book.rs",
+        "                        CUSTOMER => 0,",
+        "                        CUSTOMER => 1,",
+    ),
+    (
+        "a sell leg added into a net",
+        "nets.rs",
+        "                -value\n",
+        "                value\n",
+    ),
+    (
+        "sweeps kept past the end",
+        "auctions.rs",
+        "None | Some(RESPONSE) | Some(IMMEDIATE) => {",
+        "None => {}\n                Some(RESPONSE) | Some(IMMEDIATE) => {",
+    ),
+    // "Which books fail?"
+    (
+        "fills reported and the leg orders let be",
+        "passes.rs",
+        "                    self.reduce(order.number, contracts);\n",
+        "",
+    ),
+    (
+        "the first turn of a pass only",
+        "passes.rs",
+        "        while let Some(active) = self.entry(strategy, number) {",
+        "        if let Some(active) = self.entry(strategy, number) {",
+    ),
+    (
+        "full beside a free slot of complex orders",
+        "events.rs",
+        "self.complex_orders.len() >= COMPLEX_ORDERS {",
+        "self.complex_orders.len() + 1 >= COMPLEX_ORDERS {",
+    ),
+    (
+        "full beside a free slot of sweeps",
+        "events.rs",
+        "self.sweeps.len() >= SWEEPS {",
+        "self.sweeps.len() + 1 >= SWEEPS {",
+    ),
+    (
+        "full beside a free slot of leg orders",
+        "events.rs",
+        "self.leg_orders.len() >= LEG_ORDERS {",
+        "self.leg_orders.len() + 1 >= LEG_ORDERS {",
+    ),
+    (
+        "one strategy more than there are slots for",
+        "events.rs",
+        "self.strategies.len() >= STRATEGIES {",
+        "self.strategies.len() > STRATEGIES {",
+    ),
+    // Passes.
+    (
+        "legs before an equal limit",
+        "passes.rs",
+        "        first < second\n",
+        "        first <= second\n",
+    ),
+    (
+        "a limit that is not met",
+        "passes.rs",
+        "        price >= limit\n",
+        "        price > limit\n",
+    ),
+    (
+        "legs ready only above the ratio",
+        "nets.rs",
+        "entry.contracts >= u32::from(entry.leg.ratio)",
+        "entry.contracts > u32::from(entry.leg.ratio)",
+    ),
+    (
+        "customers share too",
+        "passes.rs",
+        "let quantities = if group == 0 {",
+        "let quantities = if group == 3 {",
+    ),
+    (
+        "broker-dealers in turn",
+        "passes.rs",
+        "let quantities = if group == 0 {",
+        "let quantities = if group != 1 {",
+    ),
+    (
+        "broker-dealers before market makers",
+        "passes.rs",
+        "for group in 0..3 {",
+        "for group in [0, 2, 1] {",
+    ),
+    (
+        "leftover units to the last",
+        "passes.rs",
+        "    for share in &mut shares {\n",
+        "    for share in shares.iter_mut().rev() {\n",
+    ),
+    (
+        "a leg fill with its price where whole met whole",
+        "passes.rs",
+        "                    units * u32::from(leg.ratio),\n                    0,\n",
+        "                    units * u32::from(leg.ratio),\n                    price,\n",
+    ),
+    (
+        "the other side first",
+        "passes.rs",
+        "for number in [active, other] {",
+        "for number in [other, active] {",
+    ),
+    (
+        "legs-only passes during an auction",
+        "passes.rs",
+        "if !self.all_open(strategy) || self.auction_runs(strategy) {",
+        "if !self.all_open(strategy) {",
+    ),
+    (
+        "legs-only passes beside a shut series",
+        "passes.rs",
+        "if !self.all_open(strategy) || self.auction_runs(strategy) {",
+        "if self.auction_runs(strategy) {",
+    ),
+    (
+        "legs-only passes from the last number",
+        "passes.rs",
+        "            for entry in self.entries(strategy) {\n                if entry.life == Some(DAY) {",
+        "            for entry in self.entries(strategy).into_iter().rev() {\n                if entry.life == Some(DAY) {",
+    ),
+    // Auctions.
+    (
+        "an auction that ends one millisecond late",
+        "auctions.rs",
+        "self.clock - auction.begun >= self.timer,",
+        "self.clock - auction.begun > self.timer,",
+    ),
+    (
+        "legs never barred",
+        "auctions.rs",
+        "            !auction.legs_barred,\n",
+        "            true,\n",
+    ),
+    (
+        "a starter's pass by number",
+        "auctions.rs",
+        "            Holders::Shared,\n",
+        "            Holders::Numbered,\n",
+    ),
+    (
+        "shared passes for the other entries",
+        "auctions.rs",
+        "                    Holders::Numbered,\n",
+        "                    Holders::Shared,\n",
+    ),
+    (
+        "sweeps that use legs",
+        "auctions.rs",
+        "                    !is_sweep,\n",
+        "                    true,\n",
+    ),
+    (
+        "passes for the orders from before",
+        "auctions.rs",
+        "if entry.number > auction.starter {",
+        "if entry.number != auction.starter {",
+    ),
+    (
+        "responses kept past the end",
+        "auctions.rs",
+        "None | Some(RESPONSE) | Some(IMMEDIATE) => {",
+        "None | Some(IMMEDIATE) => {",
+    ),
+    (
+        "fills when a series shuts",
+        "auctions.rs",
+        "            if self.auction_runs(strategy) {\n                self.close_auction(strategy, records);",
+        "            if self.auction_runs(strategy) {\n                self.end_auction(strategy, records);",
+    ),
+    (
+        "a starter at its own net",
+        "events.rs",
+        ".is_some_and(|net| limit < net)",
+        ".is_some_and(|net| limit <= net)",
+    ),
+    (
+        "an auction where the net is unknown",
+        "events.rs",
+        "self.bid_net(order.strategy).is_some_and(|net| limit > net)",
+        "self.bid_net(order.strategy).map_or(true, |net| limit > net)",
+    ),
+    (
+        "a market maker's auction",
+        "events.rs",
+        "(order.class == CUSTOMER || order.class == BROKER_DEALER)",
+        "(order.class >= CUSTOMER)",
+    ),
+    (
+        "a waiting order that does not bar the legs",
+        "events.rs",
+        "                self.accepted_meanwhile(strategy, side);\n            }\n        } else if starts {",
+        "            }\n        } else if starts {",
+    ),
+    // Leg orders, the opening, the day end.
+    (
+        "a leg trade at the incoming price",
+        "events.rs",
+        "                            contracts,\n                            i64::from(resting.price),",
+        "                            contracts,\n                            limit,",
+    ),
+    (
+        "no passes after a leg order",
+        "events.rs",
+        "            self.legs_only_passes(incoming.series, records);\n",
+        "",
+    ),
+    (
+        "passes after a leg order that is gone",
+        "events.rs",
+        "        if self.live(number) > 0 {\n            self.legs_only_passes",
+        "        if number > 0 {\n            self.legs_only_passes",
+    ),
+    (
+        "an opening at the higher number's limit",
+        "events.rs",
+        "if buy.number < sell.number {",
+        "if buy.number > sell.number {",
+    ),
+    (
+        "an opening by number before price",
+        "events.rs",
+        ".min_by_key(|entry| (-entry.limit, entry.number));",
+        ".min_by_key(|entry| (entry.number, -entry.limit));",
+    ),
+    (
+        "an opening that opens nothing",
+        "events.rs",
+        "            self.open |= 1 << series;\n            for strategy",
+        "            for strategy",
+    ),
+    (
+        "passes before the matches of an opening",
+        "events.rs",
+        "            self.open |= 1 << series;\n",
+        "            self.open |= 1 << series;\n            self.legs_only_passes(series, records);\n",
+    ),
+    (
+        "the clock kept over the day end",
+        "events.rs",
+        "        *self = Book::fresh(timer);\n",
+        "        let clock = self.clock;\n        *self = Book::fresh(timer);\n        self.clock = clock;\n",
+    ),
+    (
+        "the timer kept over the day end",
+        "events.rs",
+        "        *self = Book::fresh(timer);\n",
+        "        *self = Book::fresh(timer.max(self.timer));\n",
+    ),
+    // Strategies and refusals.
+    (
+        "ratios not divided",
+        "nets.rs",
+        "ratio: leg.ratio / divisor,",
+        "ratio: leg.ratio / divisor * divisor,",
+    ),
+    (
+        "legs as they were sent",
+        "nets.rs",
+        "    legs.sort_by_key(|leg| leg.series);\n",
+        "    legs.rotate_left(0);\n",
+    ),
+    (
+        "a ratio of 3 x the smallest refused",
+        "nets.rs",
+        "largest > 3 * smallest",
+        "largest >= 3 * smallest",
+    ),
+    (
+        "a sweep that replaces one needs a slot",
+        "events.rs",
+        "if units > 0 && replaced.is_none() && self.sweeps.len()",
+        "if units > 0 && self.sweeps.len()",
+    ),
+    (
+        "the largest refusal",
+        "events.rs",
+        "causes.iter().min()",
+        "causes.iter().max()",
+    ),
+    (
+        "number 100,000 not given",
+        "events.rs",
+        "if self.given >= LAST_NUMBER {",
+        "if self.given + 1 >= LAST_NUMBER {",
+    ),
+    (
+        "an equal clock refused",
+        "events.rs",
+        "if milliseconds < self.clock {",
+        "if milliseconds <= self.clock && milliseconds > 0 {",
+    ),
+];
+
+/// A part of the days that the proved tape is compared on.
+fn days() -> Vec<Day> {
+    let mut days = full_tables();
+    days.extend(generated(60));
+    days.extend(several_days(10));
+    days.extend(any_frames(1));
+    days.extend(extremes());
+    days.extend(ends().into_iter().step_by(40));
+    days.extend(every_number(1));
+    days
+}
+
+/// Copies the sources of the reckoning to the folder, with the edit.
+fn edited(folder: &Path, slip: &Slip) {
+    let (name, file, before, after) = slip;
+    let from = Path::new(env!("CARGO_MANIFEST_DIR")).join("../reckoning");
+    fs::create_dir_all(folder.join("src/bin")).expect("a folder is made");
+    let copy = |path: &str| {
+        let text = fs::read_to_string(from.join(path)).expect("a source is read");
+        let text = if path == format!("src/{file}") {
+            let times = text.matches(before).count();
+            assert_eq!(times, 1, "the text of '{name}' in {file}");
+            text.replacen(before, after, 1)
+        } else {
+            text
+        };
+        // An edit may leave a name unused.
+        let text = text.replace("#![deny(warnings)]", "");
+        fs::write(folder.join(path), text).expect("a source is written");
+    };
+    copy("Cargo.toml");
+    copy("Cargo.lock");
+    copy("src/bin/tape.rs");
+    for entry in fs::read_dir(from.join("src")).expect("the sources are listed") {
+        let entry = entry.expect("a source is listed");
+        let name = entry.file_name().into_string().expect("a plain name");
+        if name.ends_with(".rs") {
+            copy(&format!("src/{name}"));
+        }
+    }
+}
+
+/// The tape of the edited reckoning.
+fn built(folder: &Path, slip: &Slip) -> PathBuf {
+    edited(folder, slip);
+    let output = Command::new(env!("CARGO"))
+        .args(["build", "--quiet", "--offline", "--bin", "tape"])
+        .current_dir(folder)
+        .env("CARGO_TARGET_DIR", folder.join("target"))
+        .env("CARGO_PROFILE_DEV_DEBUG", "false")
+        .env_remove("RUSTFLAGS")
+        .output()
+        .expect("cargo runs");
+    let said = String::from_utf8_lossy(&output.stderr);
+    assert!(output.status.success(), "{}: {said}", slip.0);
+    folder.join("target/debug/tape")
+}
+
+#[test]
+fn slips_in_the_book_are_found() {
+    let days = days();
+    let folder = Path::new(env!("CARGO_TARGET_TMPDIR")).join("slips");
+    fs::remove_dir_all(&folder).ok();
+    let unchanged = ("none", "lib.rs", "pub mod tape;\n", "pub mod tape;\n");
+    let program = Program::new(built(&folder, &unchanged), &[]);
+    if let Err(different) = agrees(&program, &days) {
+        panic!("without an edit: {different}");
+    }
+    let mut missed = Vec::new();
+    for slip in SLIPS {
+        let mut program = Program::new(built(&folder, slip), &[]);
+        program.limit = Duration::from_secs(20);
+        match agrees(&program, &days) {
+            Ok(_) => missed.push(slip.0),
+            Err(different) => println!("{}: {different}", slip.0),
+        }
+    }
+    assert!(missed.is_empty(), "slips not found: {missed:#?}");
+    println!("slips found: {}", SLIPS.len());
+    assert!(SLIPS.len() >= 50);
+}
