@@ -1,9 +1,9 @@
 -- Texts put into a space of bytes from a place on; everything else stays as it was.
 use mathlib.Core.Path.{_≡_, refl, sym, _∙_, ap}
 use mathlib.Core.Bool.{true, false}
-use mathlib.Core.List.{List, [], _∷_, _++_, append-assoc, append-nil}
+use mathlib.Core.List.{List, [], _∷_, _++_, append-assoc}
 use Prim.Native.Nat.{ℕ, zero, suc, _+_, _*_, _/_, _%_, _^_, _≤_, _<_}
-use native.Mathlib.Nat.{add-zero, add-suc, suc-add, div-lt-iff-lt-mul, div-add-mod', pow-suc}
+use native.Mathlib.Nat.{add-zero, add-suc, suc-add, div-add-mod', pow-suc}
 use native.Mathlib.Numerals.{add-one}
 use native.Mathlib.Omega.{arith}
 use lib.Dec.{ltb}
@@ -11,8 +11,8 @@ use lib.IntN.{ℤ, pos, negsuc, natAbs}
 use lib.Signed.{ltZ}
 use lib.ListN.{length, take, drop, getD, set, length-append}
 use lib.Seq.{sets, length-sets, take-suc}
-use borrow.Author.Tests.{lt-ltb, le-ltb, ltb-true, ltb-false}
-use Rattle.base.specs.Pick.{pick, pick-by, pick-true, pick-false, pick-ap, tests}
+use borrow.Author.Tests.{lt-ltb, le-ltb, ltb-true}
+use Rattle.base.specs.Pick.{pick, pick-by, pick-true, pick-false}
 use Rattle.rules.specs.declared.Answer.{Answer}
 use Rattle.rules.specs.declared.Answer.the-variants.{Accepted, Refused}
 use Rattle.rules.specs.Step.{answerNumber, answerValue, answerCount}

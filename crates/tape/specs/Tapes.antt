@@ -75,6 +75,14 @@ pub record Drained (t : Tape) (out : List ℕ) (x : Tape) : Type 0 where
   pub rest : x .rest ≡ t .rest
   pub room : x .used + 189526 ≤ length out
 
+-- a turn after reading: of the bytes that are then there, which begin with the rest, the rules say the book and what stays
+pub record Advanced (t : Tape) (index : ℕ) (block next : List ℕ) (space : List ℤ) (out : List ℕ) (x : Tape) : Type 0 where
+  pub bytes : List ℕ
+  pub begun : take (t .rest .«end» - t .rest .at) bytes ≡ restOf block (t .rest)
+  pub state : x .book .state ≡ turnOf (t .book .state) index bytes .state
+  pub rest : restOf next (x .rest) ≡ turnOf (t .book .state) index bytes .rest
+  pub ready : Ready x next space out
+
 -- laws
 
 -- the lines of records that stand one after the other are those of the first and of the others
@@ -195,15 +203,17 @@ pub cut-told :
 unfolding eventText recordLines answerCount
 cut-told index space w = record { put = rw append-nil at (w .put); few = omega (arith, w .few) }
 
-pub ready-again :
-    {t x : Tape} {index : ℕ} {block s q : List ℕ} {space : List ℤ} → length space ≡ 15360 → Turned t index block s q x → {y : Tape} → Drained x q y → Ready y block space q
-ready-again l u d =
-    record { valid = rw (d .book) (u .valid); lies = rw (d .rest) (u .lies); size = l; room = d .room }
-
-pub ready-filled :
-    {t : Tape} {block next out : List ℕ} {space : List ℤ} {q : Rest} → Ready t block space out → More block next (t .rest) q →
-    Ready (record { book = t .book; rest = q; used = t .used; on = t .on }) next space out
-ready-filled y m = record { valid = y .valid; lies = m .lies; size = y .size; room = y .room }
+pub advanced :
+    {t : Tape} {index : ℕ} {block next s q : List ℕ} {space : List ℤ} {r : Rest} {x y : Tape} → More block next (t .rest) r → length space ≡ 15360 →
+    Turned (record { book = t .book; rest = r; used = t .used; on = t .on }) index next s q x → Drained x q y → Advanced t index block next space q y
+advanced {next = next} {r = r} m l u d =
+    record {
+      bytes = restOf next r;
+      begun = m .kept;
+      state = ap (λ (b : Book). b .state) (d .book) ∙ u .state;
+      rest = ap (restOf next) (d .rest) ∙ u .rest;
+      ready = record { valid = rw (d .book) (u .valid); lies = rw (d .rest) (u .lies); size = l; room = d .room };
+    }
 
 -- the loop: ready for the next event, and no length has changed
 pub record Running (block₀ : List ℕ) (space₀ : List ℤ) (out₀ : List ℕ) (t : Tape) (block : List ℕ) (space : List ℤ) (out : List ℕ) : Type 0 where

@@ -7,7 +7,7 @@ ghost use Rattle.lines.specs.Cuts.{cutOf};
 ghost use Rattle.lines.specs.Lines.{eventLine};
 ghost use Rattle.lines.specs.Puts.{Within};
 ghost use Rattle.tape.specs.Rests.{Lies, restOf, More, Added};
-ghost use Rattle.tape.specs.Tapes.{Tells, Ready, Turned, Drained};
+ghost use Rattle.tape.specs.Tapes.{Tells, Ready, Turned, Drained, Advanced};
 use book::Book;
 use libc::STDIN_FILENO;
 use libc::STDOUT_FILENO;
@@ -224,7 +224,7 @@ fn drain(t: Tape, out: &[u8]) -> Tape
 // One event of the input, read, taken and printed.
 fn advance(t: Tape, index: u64, block: &mut [u8], space: &mut [i32], out: &mut [u8]) -> Tape
     requires { ⌜ Ready t (now block) (now space) (now out) ⌝ }
-    ensures { λ x. ⌜ Ready x (now (block .exit)) (now (space .exit)) (now (out .exit)) ⌝ }
+    ensures { λ x. ⌜ Advanced t index (now (block .entry)) (now (block .exit)) (now (space .exit)) (now (out .exit)) x ⌝ }
 {
     let r = t.rest;
     let q = fill_frame(block, r);

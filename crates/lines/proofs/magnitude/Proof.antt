@@ -1,10 +1,8 @@
-use mathlib.Core.Path.{_≡_, subst, ap, _∙_}
+use mathlib.Core.Path.{_≡_, subst, ap}
 use mathlib.Core.Bool.{true, false}
 use native.Mathlib.Omega.{arith}
 use lib.IntN.{ℤ, pos, natAbs}
 use lib.Signed.{ltZ}
-use mir.Syntax.{w64}
-use mir.Val.{toZ, ofZ}
 use mir.Facts.{toZ-ofZ}
 use Rattle.lines.specs.Signs.{wide-is, wide-fits, turned-fits, turned-size, turned-whole, whole, size-fits}
 use Rattle.lines.proofs.magnitude.Statement.{statement}

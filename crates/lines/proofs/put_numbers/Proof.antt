@@ -1,7 +1,6 @@
 use mir.Syntax.{w32}
 use mir.Facts.{toZ-ofZ}
 use lib.IntN.{pos}
-use mathlib.Core.Path.{_∙_}
 use Prim.Native.Nat.{_*_, _+_, _-_}
 use lib.ListN.{drop, getD, length-drop}
 use lib.Seq.{getD-drop}

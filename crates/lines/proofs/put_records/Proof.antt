@@ -1,4 +1,4 @@
-use Prim.Native.Nat.{_*_, _-_, _≤_}
+use Prim.Native.Nat.{_-_, _≤_}
 use native.Mathlib.Omega.{arith}
 use Rattle.lines.specs.Puts.{put-length, Listing, listing-first, listing-next, listing-done}
 use Rattle.lines.proofs.put_records.Statement.{statement}

@@ -1,5 +1,5 @@
 use mathlib.Core.Path.{_∙_}
-use Rattle.tape.specs.Tapes.{ready-again}
+use Rattle.tape.specs.Tapes.{advanced}
 use borrow.Author.Needs.{needs}
 use Rattle.tape.proofs.advance.Statement.{statement}
 use Rattle.tape.proofs.advance.Tie as tie
@@ -35,7 +35,7 @@ same-length-3 c = search needs
 
 -- src/main.rt:211:1
 returns : tie.Need-returns
-returns c = ready-again (c .before .before .before .before .before .turn .kept .1 .1 .1 .0 ∙ c .before .before .before .before .before .before .before .before .before .before .before .before .before .before .before .before .before .pre .size) (c .before .before .before .before .before .turn .ensures) (c .drain .ensures)
+returns c = advanced (c .before .before .before .before .before .before .before .before .before .before .before .before .fill-frame .ensures) (c .before .before .before .before .before .turn .kept .1 .1 .1 .0 ∙ c .before .before .before .before .before .before .before .before .before .before .before .before .before .before .before .before .before .pre .size) (c .before .before .before .before .before .turn .ensures) (c .drain .ensures)
 
 pub advance-spec : {M : Type 1} → statement M
 advance-spec =

@@ -40,7 +40,7 @@ loop-less c = omega (arith, ltb-true (c .before .before .before .before .before 
 
 -- src/main.rt:241:5
 loop-again : tie.Need-loop-again Inv-loop μ-loop
-loop-again c = record { ready = c .before .before .before .before .before .advance .ensures; blocks = c .before .before .before .before .before .advance .kept .1 .1 .0 ∙ c .before .before .before .before .before .before .before .before .before .before .before .loop .inv .blocks; spaces = c .before .before .before .before .before .advance .kept .1 .1 .1 .0 ∙ c .before .before .before .before .before .before .before .before .before .before .before .loop .inv .spaces; outs = c .before .before .before .before .before .advance .kept .1 .1 .1 .1 .0 ∙ c .before .before .before .before .before .before .before .before .before .before .before .loop .inv .outs }
+loop-again c = record { ready = c .before .before .before .before .before .advance .ensures .ready; blocks = c .before .before .before .before .before .advance .kept .1 .1 .0 ∙ c .before .before .before .before .before .before .before .before .before .before .before .loop .inv .blocks; spaces = c .before .before .before .before .before .advance .kept .1 .1 .1 .0 ∙ c .before .before .before .before .before .before .before .before .before .before .before .loop .inv .spaces; outs = c .before .before .before .before .before .advance .kept .1 .1 .1 .1 .0 ∙ c .before .before .before .before .before .before .before .before .before .before .before .loop .inv .outs }
 
 -- src/main.rt:246:34
 slice-reshare-prefix-write-all : tie.Need-slice-reshare-prefix-write-all Inv-loop μ-loop
