@@ -1,6 +1,6 @@
 -- Sets of the numbers 0 to 31, each a number of 32 binary digits.
 use mathlib.Core.Bool.{Bool, true, false}
-use Prim.Native.Nat.{ℕ, _+_, _-_, _/_, _%_, _^_}
+use Prim.Native.Nat.{ℕ, _/_, _%_, _^_}
 use lib.Count.{onesIn, trailingZeros}
 use lib.Dec.{eqb}
 use Rattle.base.specs.Pick.{pick}

@@ -2,8 +2,7 @@
 ghost use mathlib.Core.Path.{_≡_};
 ghost use mathlib.Core.List.{[], _∷_};
 ghost use Prim.Native.Nat.{_+_, _*_, _-_, _<_, _≤_, min};
-ghost use lib.ListN.{length, getD, set};
-ghost use lib.IntN.{ℤ, pos};
+ghost use lib.ListN.{set};
 ghost use Rattle.rules.specs.Records.{kindNumber, cents};
 ghost use Rattle.rules.specs.State.{withEntries, withOrders};
 ghost use Rattle.records.specs.Space.{Small, Wrote, Room};

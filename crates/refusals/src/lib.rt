@@ -1,7 +1,7 @@
 // The causes of refusals, each by what the book holds, and the refusal of each kind of event: 0 where no cause applies.
 ghost use mathlib.Core.Path.{_≡_};
 ghost use mathlib.Core.Bool.{not};
-ghost use Prim.Native.Nat.{_+_, _<_, _≤_};
+ghost use Prim.Native.Nat.{_+_, _<_};
 ghost use Rattle.base.specs.Walks.{sumN, anyN};
 ghost use Rattle.events.specs.declared.Event.the-variants as E;
 ghost use Rattle.rules.specs.Auctions.{running};

@@ -16,7 +16,6 @@ use Rattle.rules.specs.declared.State.{State}
 use Rattle.rules.specs.declared.Allocation.the-variants.{LegsOnly, Shared, Numbered}
 use Rattle.rules.specs.State.{noEntry, noOrder, entryAt, orderAt, strategyAt, withEntries, withOrders, withOpened, withClock, withLast}
 use Rattle.rules.specs.Moves.{Moved, and-then, each}
-use Rattle.rules.specs.Passes.{pass}
 use Rattle.rules.specs.Fills.{wholeFill, cancelEntry}
 use Rattle.rules.specs.Auctions.{liveIn, isNumber, starterSlot, cancelLapsed, endUnfilled, starterPass, later, laterPass, endAuction, endDue, endHolding, dayOrder, legPass, legPassesIn, legPasses, bestSlot, matchOnce, matchAll, matchIn}
 use Rattle.rules.specs.Events.{live, liveOrder, behind, enter, enterOrder, restOrCancel, waits, trades, arrive, onOrder, oldSweep, enterSweep, onSweep, bestOrder, tradeOnce, tradeAll, ifRests, onLegOrder, cancelEntryOf, cancelOrderOf, cancelNumber, onClock, shut, reopen, onSeries, closeRunning, lowestLive, cancelLowest, restart, onDayEnd}

@@ -1,17 +1,15 @@
 -- "No fill record has quantity 0."
-use mathlib.Core.Path.{_≡_, refl, sym, ap, _∙_}
-use mathlib.Core.Bool.{Bool, true, false}
-use mathlib.Core.List.{List, [], _∷_, _++_}
-use Prim.Native.Nat.{ℕ, zero, suc, _+_, _*_, _≤_, _<_, min}
+use mathlib.Core.Path.{_≡_, refl, _∙_}
+use mathlib.Core.List.{List}
+use Prim.Native.Nat.{ℕ, zero, suc, _*_, _≤_, _<_, min}
 use native.Mathlib.Nat.{mul-le-mul}
 use native.Mathlib.Omega.{arith}
 use borrow.Author.Tests.{eqb-false}
 use lib.Dec.{eqb}
 use lib.ListN.{getD, length, replicate}
-use Rattle.base.specs.Pick.{pick, pick-by, pick-all}
+use Rattle.base.specs.Pick.{pick-by, pick-all}
 use Rattle.base.specs.All.{All, all-nil, all-cons, all-append, all-at}
 use Rattle.base.specs.Walks.{slot, joinN}
-use Rattle.rules.specs.declared.Leg.{Leg}
 use Rattle.rules.specs.declared.Strategy.{Strategy}
 use Rattle.rules.specs.declared.Entry.{Entry}
 use Rattle.rules.specs.declared.LegOrder.{LegOrder}
@@ -23,7 +21,7 @@ use Rattle.rules.specs.State.{noStrategy, freeStrategy, noOrder, fresh, 
 use Rattle.rules.specs.Moves.{Moved, still, and-then, each}
 use Rattle.rules.specs.Nets.{prices, netOf, unitsOf}
 use Rattle.rules.specs.Fills.{partyRecords, legRecordAt, noPrices, wholeFill, orderRow, orderRows, orderRecords, quotasAt, takeLegs, legFill, legTrade, cancelEntry, cancelOrder}
-use Rattle.rules.specs.Auctions.{begin, close, answer}
+use Rattle.rules.specs.Auctions.{begin, close}
 use Rattle.rules.specs.Events.{liveOrder, enter, enterOrder, onSweep, enterSweep, onSeries, closeRunning, cancelLowest, restart, onDayEnd}
 use Rattle.rules.specs.Given.{orderGiven, sweepGiven, legOrderGiven}
 use Rattle.rules.specs.Step.{Outcome, accept, refused, perform, decide, step}
@@ -35,8 +33,8 @@ use Rattle.events.specs.declared.Reading.the-variants as R
 use Rattle.frames.specs.Frames.{readOf}
 use Rattle.rules.proofs.Tables.{behind-length}
 use Rattle.rules.proofs.Entering.{fit-past}
-use Rattle.rules.proofs.Shrinks.{Shrinks, shrinks-refl, whole-shrinks, legs-shrinks, trade-shrinks, cancel-shrinks, cancelOrder-shrinks, begin-shrinks, close-shrinks, answer-shrinks}
-use Rattle.rules.proofs.Control.{Proper, Legged, Trading, Kept, meets-standing, legged-some, each-kept, closeRunning-kept, cancelLowest-kept, shut-kept, reopen-kept, onOrder-kept, onLegOrder-kept, cancelNumber-kept, onClock-kept}
+use Rattle.rules.proofs.Shrinks.{Shrinks, whole-shrinks, legs-shrinks, trade-shrinks, cancel-shrinks, cancelOrder-shrinks, begin-shrinks, close-shrinks, answer-shrinks}
+use Rattle.rules.proofs.Control.{Legged, Trading, Kept, meets-standing, legged-some, each-kept, closeRunning-kept, cancelLowest-kept, shut-kept, reopen-kept, onOrder-kept, onLegOrder-kept, cancelNumber-kept, onClock-kept}
 
 -- a record of a fill has some quantity
 unfoldable pub Filled : Record → Type 0

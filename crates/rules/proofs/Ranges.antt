@@ -18,14 +18,9 @@ use Rattle.events.specs.Laws.{first-field}
 use Rattle.events.specs.declared.Field.{Field}
 use Rattle.events.specs.declared.Kind.{Kind}
 use Rattle.events.specs.declared.Kind.the-variants as K
-use Rattle.events.specs.declared.Event.{Event}
 use Rattle.events.specs.declared.Event.the-variants as E
-use Rattle.events.specs.declared.Reading.{Reading}
 use Rattle.events.specs.declared.Reading.the-variants as R
 use Rattle.events.specs.declared.Strategy.{Strategy as GivenStrategy}
-use Rattle.events.specs.declared.Order.{Order as GivenOrder}
-use Rattle.events.specs.declared.Sweep.{Sweep as GivenSweep}
-use Rattle.events.specs.declared.LegOrder.{LegOrder as GivenLegOrder}
 use Rattle.frames.specs.Number.{number}
 use Rattle.frames.specs.Bodies.{valueAt, row-at}
 use Rattle.frames.specs.Frames.{kindAt, countAt, rowAt, judgeOf, readOf}

@@ -1,23 +1,23 @@
 -- What is repeated up to a bound is never cut short by it.
-use mathlib.Core.Path.{_≡_, refl, sym, ap, _∙_}
-use mathlib.Core.Bool.{Bool, true, false, not}
-use mathlib.Core.List.{List, [], _∷_, append-nil}
+use mathlib.Core.Path.{_≡_, refl, sym}
+use mathlib.Core.Bool.{Bool, true, false}
+use mathlib.Core.List.{List, append-nil}
 use mathlib.Core.Logic.{_⊎_, inl, inr, ⊎-elim}
-use Prim.Native.Nat.{ℕ, zero, suc, _+_, _-_, _≤_, _<_, min}
+use Prim.Native.Nat.{ℕ, zero, suc, _+_, _-_, _≤_, _<_}
 use native.Mathlib.Omega.{arith}
-use borrow.Author.Tests.{eqb-true, eqb-false, eq-eqb, ne-eqb}
-use lib.Dec.{eqb, ltb}
-use lib.ListN.{getD, length}
-use Rattle.base.specs.Pick.{pick, pick-true, pick-false, pick-by, pick-all}
-use Rattle.base.specs.Walks.{sumN, walk, clash, below}
+use borrow.Author.Tests.{eqb-false}
+use lib.Dec.{eqb}
+use lib.ListN.{getD}
+use Rattle.base.specs.Pick.{pick, pick-by}
+use Rattle.base.specs.Walks.{sumN, walk, below}
 use Rattle.rules.specs.declared.Strategy.{Strategy}
 use Rattle.rules.specs.declared.Entry.{Entry}
 use Rattle.rules.specs.declared.LegOrder.{LegOrder}
 use Rattle.rules.specs.declared.State.{State}
-use Rattle.rules.specs.State.{noEntry, entryAt}
+use Rattle.rules.specs.State.{noEntry}
 use Rattle.rules.specs.Moves.{Moved, still, and-then, each}
 use Rattle.rules.specs.Sides.{other, better, bestPrice}
-use Rattle.rules.specs.Nets.{legUnits, unitsStep, unitsOf}
+use Rattle.rules.specs.Nets.{unitsStep, unitsOf}
 use Rattle.rules.specs.Passes.{opposes, limitWith, limitStep, bestOpposite}
 
 -- a move after which nothing moves is that move

@@ -1,7 +1,7 @@
 -- Every state that events lead to is valid, and a refused event leaves the state as it was.
 use mathlib.Core.Path.{_≡_, refl, sym, _∙_}
 use mathlib.Core.Bool.{Bool, true, false, not}
-use mathlib.Core.Logic.{_⊎_, inl, inr, ⊎-elim, _≢_}
+use mathlib.Core.Logic.{_⊎_, inl, inr, ⊎-elim}
 use mathlib.Core.List.{List, _∷_}
 use Prim.Native.Nat.{ℕ, _+_, _≤_, _<_}
 use native.Mathlib.Nat.{le-refl}
@@ -25,7 +25,6 @@ use Rattle.rules.specs.declared.Strategy.{Strategy}
 use Rattle.rules.specs.declared.Entry.{Entry}
 use Rattle.rules.specs.declared.State.{State}
 use Rattle.rules.specs.State.{noStrategy, fresh, entryAt, strategyAt, withStrategies}
-use Rattle.rules.specs.Moves.{still}
 use Rattle.rules.specs.Strategies.{twice, held, define, shutSet}
 use Rattle.rules.specs.Auctions.{liveIn, running, isNumber, starterSlot}
 use Rattle.rules.specs.Events.{live, oldSweep}

@@ -14,7 +14,6 @@ use Rattle.rules.specs.declared.Allocation.the-variants.{LegsOnly, Share
 use Rattle.rules.specs.State.{entryAt, strategyAt, withStrategies}
 use Rattle.rules.specs.Moves.{Moved, still, and-then, each}
 use Rattle.rules.specs.Sides.{other, better}
-use Rattle.rules.specs.Nets.{legNet}
 use Rattle.rules.specs.Strategies.{allOpen, holds}
 use Rattle.rules.specs.Fills.{wholeFill, cancelEntry}
 use Rattle.rules.specs.Passes.{pass}

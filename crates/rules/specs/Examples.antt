@@ -35,7 +35,6 @@ use Rattle.events.specs.declared.Event.{Event}
 use Rattle.events.specs.declared.Event.the-variants as E
 use Rattle.events.specs.declared.Leg.{Leg as GivenLeg}
 use Rattle.events.specs.declared.Reading.the-variants as R
-use Rattle.rules.specs.declared.Leg.{Leg}
 use Rattle.rules.specs.declared.LegOrder.{LegOrder}
 use Rattle.rules.specs.declared.State.{State}
 use Rattle.rules.specs.declared.Record.{Record}

@@ -7,7 +7,6 @@ use lib.ListN.{getD, length}
 use Rattle.base.specs.Pick.{pick}
 use Rattle.base.specs.Walks.{sumN, slot, allN}
 use Rattle.base.specs.Sets.{sizeOf, lowestOf}
-use Rattle.rules.specs.declared.Entry.{Entry}
 use Rattle.rules.specs.declared.LegOrder.{LegOrder}
 use Rattle.rules.specs.declared.State.{State}
 use Rattle.rules.specs.declared.OrderEntry.{OrderEntry}
@@ -15,7 +14,7 @@ use Rattle.rules.specs.declared.Depth.{Depth}
 use Rattle.rules.specs.declared.Depth.the-variants as D
 use Rattle.rules.specs.declared.Shut.{Shut}
 use Rattle.rules.specs.declared.Shut.the-variants as S
-use Rattle.rules.specs.State.{noOrder, entryAt, orderAt}
+use Rattle.rules.specs.State.{entryAt, orderAt}
 use Rattle.rules.specs.Strategies.{shutSet}
 use Rattle.rules.specs.Nets.{priceOf, lots}
 use Rattle.rules.specs.Refusals.{undefined}

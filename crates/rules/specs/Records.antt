@@ -1,5 +1,5 @@
 -- "Records": what is written of a record. Tags of the rules are not: a reader sees six numbers.
-use mathlib.Core.List.{List, [], _∷_, map}
+use mathlib.Core.List.{List, [], _∷_}
 use Prim.Native.Nat.{ℕ}
 use lib.IntN.{ℤ, pos, _-ℤ_}
 use Rattle.rules.specs.declared.Kind.{Kind}

@@ -1,9 +1,8 @@
 -- "Refusals by cause": the causes of each kind with their numbers, and the smallest that applies.
 use mathlib.Core.Bool.{Bool, true, false, not}
 use mathlib.Core.List.{List, [], _∷_}
-use Prim.Native.Nat.{ℕ, _+_}
+use Prim.Native.Nat.{ℕ}
 use lib.Dec.{eqb, ltb, leb}
-use lib.ListN.{length}
 use Rattle.base.specs.Pick.{pick}
 use Rattle.base.specs.Walks.{sumN, anyN}
 use Rattle.base.specs.Sets.{has}

@@ -1,5 +1,5 @@
 -- The state of the book: empty rows, the fresh state, rows by their place, and a setter for each part that changes.
-use mathlib.Core.Bool.{Bool, false}
+use mathlib.Core.Bool.{false}
 use mathlib.Core.List.{List, []}
 use Prim.Native.Nat.{ℕ}
 use lib.ListN.{getD, replicate}

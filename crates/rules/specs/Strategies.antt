@@ -1,5 +1,5 @@
 -- A strategy's definition: ratios in lowest terms, legs by rising series, and the comparison with those held.
-use mathlib.Core.Bool.{Bool, true, false}
+use mathlib.Core.Bool.{Bool, false}
 use mathlib.Core.List.{List, [], _∷_, _++_}
 use Prim.Native.Nat.{ℕ, _+_, _*_, _/_, min, max}
 use lib.Dec.{eqb, ltb}
@@ -11,7 +11,7 @@ use Rattle.base.specs.Gcd.{gcd}
 use Rattle.rules.specs.declared.Leg.{Leg}
 use Rattle.rules.specs.declared.Strategy.{Strategy}
 use Rattle.rules.specs.declared.State.{State}
-use Rattle.rules.specs.State.{noLeg, noStrategy, strategyAt, legAt, withStrategies}
+use Rattle.rules.specs.State.{noLeg, strategyAt, legAt, withStrategies}
 
 -- a definition's legs: six rows, the first count in use
 abbrev pub ratioOf : List Leg → ℕ → ℕ

@@ -16,7 +16,6 @@ use Rattle.events.specs.declared.Strategy.{Strategy as GivenStrategy}
 use Rattle.frames.specs.Frames.{readOf}
 use Rattle.rules.specs.declared.Leg.{Leg}
 use Rattle.rules.specs.declared.State.{State}
-use Rattle.rules.specs.State.{fresh}
 use Rattle.rules.specs.Strategies.{seriesOf, ratioOf, divisor}
 use Rattle.rules.specs.Given.{legsGiven}
 use Rattle.rules.specs.Step.{Outcome, step}

@@ -11,7 +11,7 @@ use lib.Count.{ones}
 use lib.Dec.{eqb}
 use lib.ListN.{length, getD, set, replicate, length-append}
 use lib.Pow.{pow-mono, pow-pos}
-use Rattle.base.specs.Pick.{pick, pick-all, pick-by, pick-ap, pick-both, pick-true, pick-false, tests}
+use Rattle.base.specs.Pick.{pick, pick-all, pick-by, pick-ap, pick-both, pick-true, pick-false}
 use Rattle.base.specs.Walks.{sumN, firstN, joinN, length-join, sum-same, sum-zero, sum-more, sum-add, sum-mono}
 use Rattle.base.specs.Sets.{setN, sizeOf}
 use Rattle.base.specs.SetLaws.{set-lt, size-set, size-ones}

@@ -1,12 +1,12 @@
 use Rattle.records.specs.Space.{record-stores}
-use Rattle.records.specs.Space.{kind-small, cents-fits, numbers, laid}
-use Rattle.rules.specs.Records.{kindNumber, numbersOf, lineOf}
+use Rattle.records.specs.Space.{kind-small, cents-fits}
+use Rattle.rules.specs.Records.{kindNumber}
 use mathlib.Core.Path.{refl}
 use mir.Syntax.{w32}
 use mir.Facts.{toZ-pos, toZ-ofZ}
 use lib.ListN.{length-set}
 use native.Mathlib.Omega.{arith}
-use Prim.Native.Nat.{_<_, _≤_, _^_}
+use Prim.Native.Nat.{_<_, _^_}
 use borrow.Author.Needs.{needs}
 use Rattle.records.proofs.push.Statement.{statement}
 use Rattle.records.proofs.push.Tie as tie

@@ -1,6 +1,5 @@
 use Rattle.rules.specs.State.{withOrders}
 use mathlib.Core.Path.{refl}
-use borrow.Author.Needs.{needs}
 use Rattle.records.proofs.with_orders.Statement.{statement}
 use Rattle.records.proofs.with_orders.Tie as tie
 use Rattle.records.proofs.with_orders.Reads as reads

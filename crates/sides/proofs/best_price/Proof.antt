@@ -1,6 +1,5 @@
 use Rattle.rules.specs.Sides.{bestPrice}
 use Rattle.base.specs.Pick.{tests, told}
-use native.Mathlib.Omega.{arith}
 use borrow.Author.Needs.{needs}
 use Rattle.sides.proofs.best_price.Statement.{statement}
 use Rattle.sides.proofs.best_price.Tie as tie

@@ -1,6 +1,5 @@
 use Rattle.rules.specs.Sides.{legSide}
-use Rattle.base.specs.Pick.{tests, told}
-use native.Mathlib.Omega.{arith}
+use Rattle.base.specs.Pick.{tests}
 use borrow.Author.Needs.{needs}
 use Rattle.sides.proofs.leg_side.Statement.{statement}
 use Rattle.sides.proofs.leg_side.Tie as tie

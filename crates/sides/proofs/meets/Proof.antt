@@ -1,7 +1,5 @@
 use Rattle.rules.specs.Sides.{meets}
-use Rattle.base.specs.Pick.{tests, told}
-use borrow.Author.Needs.{needs}
-use native.Mathlib.Omega.{arith}
+use Rattle.base.specs.Pick.{tests}
 use Rattle.sides.proofs.meets.Statement.{statement}
 use Rattle.sides.proofs.meets.Tie as tie
 use Rattle.sides.proofs.meets.Reads as reads
