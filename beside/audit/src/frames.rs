@@ -1,0 +1,145 @@
+//! The frames of an input, and what the proved reader reads in them.
+
+use assemble::codec::{read, write, Row, NUMBERS};
+
+/// A part of the input that `tape` answers with a line `E`: a frame, or where it
+/// stops, "a length under 4 or past the input's end, a lone last byte included".
+#[derive(Clone, Copy, Debug, PartialEq, Eq)]
+pub enum Part<'a> {
+    Frame(&'a [u8]),
+    Stop,
+}
+
+/// The parts of an input in their order.
+pub fn frames(input: &[u8]) -> Vec<Part<'_>> {
+    let mut parts = Vec::new();
+    let mut rest = input;
+    while !rest.is_empty() {
+        let length = match rest {
+            [low, high, ..] => usize::from(u16::from_le_bytes([*low, *high])),
+            _ => 0,
+        };
+        if length < 4 || length > rest.len() {
+            parts.push(Part::Stop);
+            break;
+        }
+        let (frame, after) = rest.split_at(length);
+        parts.push(Part::Frame(frame));
+        rest = after;
+    }
+    parts
+}
+
+/// The frames of the input and a day end after them, in the place of what is no
+/// frame at the end.
+pub fn with_day_end(input: &[u8]) -> Result<Vec<u8>, String> {
+    let mut bytes = Vec::new();
+    for part in frames(input) {
+        if let Part::Frame(frame) = part {
+            bytes.extend(frame);
+        }
+    }
+    let mut row: Row = [0; NUMBERS];
+    row[..2].copy_from_slice(&[8, 5_000]);
+    let end = write(&row).map_err(|refusal| format!("the writer refuses a day end: {refusal}"))?;
+    bytes.extend(end);
+    Ok(bytes)
+}
+
+/// What an order or sweep is. The strategy of the first two, the series of the
+/// third.
+#[derive(Clone, Copy, Debug, PartialEq, Eq)]
+pub enum What {
+    ComplexOrder { strategy: u32 },
+    Sweep { strategy: u32 },
+    LegOrder { series: u32 },
+}
+
+/// What an event brings in, if it is accepted and given a number.
+#[derive(Clone, Copy, Debug, PartialEq, Eq)]
+pub struct Terms {
+    pub what: What,
+    pub member: u32,
+    pub side: u32,
+    pub quantity: i128,
+    /// "the limit (a leg order's price)".
+    pub limit: i128,
+}
+
+/// A leg of a strategy: its series and its ratio in lowest terms.
+#[derive(Clone, Copy, Debug, PartialEq, Eq, PartialOrd, Ord)]
+pub struct Leg {
+    pub series: i128,
+    pub ratio: i128,
+}
+
+/// What of an event the totals speak of.
+#[derive(Clone, Debug, PartialEq, Eq)]
+pub enum Event {
+    Strategy(Vec<Leg>),
+    Entry(Terms),
+    DayEnd,
+    Other,
+    Refused(u32),
+}
+
+/// What the row of a limit has more than the limit.
+const MORE: i128 = 10_000_000;
+
+fn divisor(a: u32, b: u32) -> u32 {
+    if b == 0 {
+        a
+    } else {
+        divisor(b, a % b)
+    }
+}
+
+/// The legs of a strategy's row, "divided by their greatest common divisor", by
+/// series.
+fn legs(row: &Row) -> Vec<Leg> {
+    let count = row[1] as usize;
+    let given: Vec<&[u32]> = row[2..2 + 3 * count].chunks(3).collect();
+    let common = given.iter().fold(0, |common, leg| divisor(common, leg[2]));
+    let mut legs: Vec<Leg> = (given.iter())
+        .map(|leg| Leg {
+            series: i128::from(leg[0]),
+            ratio: i128::from(leg[2] / common),
+        })
+        .collect();
+    legs.sort_unstable();
+    legs
+}
+
+/// The event of a part of the input.
+pub fn event(part: Part) -> Event {
+    let Part::Frame(frame) = part else {
+        return Event::Refused(2);
+    };
+    let row = match read(frame) {
+        Ok(row) => row,
+        Err(refusal) => return Event::Refused(refusal),
+    };
+    let entry = |what: What, quantity: usize, limit: i128| {
+        Event::Entry(Terms {
+            what,
+            member: row[1],
+            side: row[3],
+            quantity: i128::from(row[quantity]),
+            limit,
+        })
+    };
+    match row[0] {
+        1 => Event::Strategy(legs(&row)),
+        2 => {
+            let what = What::ComplexOrder { strategy: row[2] };
+            entry(what, 6, i128::from(row[7]) - MORE)
+        }
+        3 => {
+            let what = What::Sweep { strategy: row[2] };
+            entry(what, 4, i128::from(row[5]) - MORE)
+        }
+        4 => entry(What::LegOrder { series: row[2] }, 4, i128::from(row[5])),
+        8 => Event::DayEnd,
+        _ => Event::Other,
+    }
+}
