@@ -5,10 +5,9 @@ use mathlib.Core.Logic.{_⊎_, inl, inr}
 use mathlib.Core.List.{List}
 use Prim.Native.Nat.{ℕ, suc, _+_, _≤_, _<_}
 use native.Mathlib.Omega.{arith}
-use lib.Dec.{eqb}
 use lib.IntN.{ℤ}
 use lib.ListN.{length, getD, List·getD-eq-default}
-use Rattle.base.specs.Pick.{pick, tests}
+use Rattle.base.specs.Pick.{tests}
 use Rattle.base.specs.Walks.{firstN, first-none, first-is, below}
 use Rattle.rules.specs.declared.Entry.{Entry}
 use Rattle.rules.specs.declared.State.{State}
@@ -18,7 +17,7 @@ use Rattle.rules.specs.State.{noEntry, entryAt, strategyAt}
 use Rattle.rules.specs.Moves.{still, each}
 use Rattle.rules.specs.Sides.{other}
 use Rattle.rules.specs.Fills.{cancelEntry}
-use Rattle.rules.specs.Auctions.{liveIn, putAuction, starterSlot, answer, lapses, cancelLapsed}
+use Rattle.rules.specs.Auctions.{putAuction, starterSlot, answer, lapses, cancelLapsed}
 use Rattle.rules.specs.Valid.{FitEntry}
 use Rattle.rules.proofs.Control.{each-kept, cancelLapsed-kept, shrinks-kept}
 use Rattle.records.specs.Space.{Small}
@@ -35,9 +34,6 @@ endedRecord n k = record { kind = AuctionEnded; number = n; place = k; side = 0;
 -- none of the first i slots has f
 pub record Passed (f : ℕ → Bool) (i : ℕ) : Type 0 where
   pub none : (j : ℕ) → j < i → f j ≡ false
-
-abbrev pub numbered : List Entry → ℕ → ℕ → ℕ → Bool
-numbered es k n i = pick (liveIn k (getD es i noEntry)) (eqb (getD es i noEntry .number) n) false
 
 -- laws
 

@@ -1,14 +1,13 @@
 // Auctions: their start, their answer, what lapses at their end, and their end without fills.
 ghost use mathlib.Core.Path.{_≡_};
 ghost use mathlib.Core.Bool.{false};
-ghost use Prim.Native.Nat.{_+_, _*_, _-_, _<_, _≤_};
+ghost use Prim.Native.Nat.{_+_, _-_, _<_, _≤_};
 ghost use lib.Dec.{eqb};
-ghost use lib.ListN.{length, getD, set};
 ghost use Rattle.base.specs.Pick.{pick};
 ghost use Rattle.rules.specs.State.{entryAt, strategyAt};
 ghost use Rattle.rules.specs.Moves.{each};
 ghost use Rattle.rules.specs.Auctions.{liveIn, putAuction, begin, close, starterSlot, answer, lapses, cancelLapsed, endUnfilled};
-ghost use Rattle.records.specs.Space.{Wrote, Room};
+ghost use Rattle.records.specs.Space.{Room};
 ghost use Rattle.records.specs.Done.{Done};
 ghost use Rattle.ranges.specs.Fit.{Fit};
 ghost use Rattle.auctions.specs.Auctions.{begunRecord, endedRecord};
@@ -50,10 +49,10 @@ pub fn starter_slot(b: State, k: usize) -> usize
 {
     let s = b.strategies[k];
     let n = s.starter;
-    let es = b.entries;
     let mut i: usize = 0;
     while i < 32 {
-        if is_number(k, n, es[i]) {
+        let e = b.entries[i];
+        if is_number(k, n, e) {
             return i;
         }
         i += 1;
@@ -171,19 +170,7 @@ fn lapses(k: usize, e: Entry) -> bool
     false
 }
 
-fn cancel_lapsed(b: State, k: usize, i: usize, space: &mut [i32], n: usize) -> After
-    requires { ⌜ (i < 32) × Fit b ⌝ }
-    requires { ⌜ Room (now space) n (cancelLapsed k i b .records) ⌝ }
-    ensures { λ t. ⌜ Done (now (space .entry)) (now (space .exit)) n (t .count) (t .state) (cancelLapsed k i b) ⌝ }
-{
-    let e = b.entries[i];
-    if lapses(k, e) {
-        return cancel_entry(b, i, space, n);
-    }
-    After { state: b, count: n }
-}
-
-// By number.
+// What lapses is cancelled, by number.
 fn cancel_lapses(b: State, k: usize, space: &mut [i32], n: usize) -> After
     requires { ⌜ Fit b ⌝ }
     requires { ⌜ Room (now space) n (each (cancelLapsed k) 32 b .records) ⌝ }
@@ -193,9 +180,12 @@ fn cancel_lapses(b: State, k: usize, space: &mut [i32], n: usize) -> After
     let mut m = n;
     let mut i: usize = 0;
     while i < 32 {
-        let t = cancel_lapsed(c, k, i, space, m);
-        c = t.state;
-        m = t.count;
+        let e = c.entries[i];
+        if lapses(k, e) {
+            let t = cancel_entry(c, i, space, m);
+            c = t.state;
+            m = t.count;
+        }
         i += 1;
     }
     After { state: c, count: m }

@@ -1,24 +1,24 @@
 // Cancels, the clock, the series, the leg order, and the day's end.
 ghost use mathlib.Core.Path.{_≡_};
-ghost use mathlib.Core.Bool.{false};
-ghost use Prim.Native.Nat.{_+_, _*_, _-_, _/_, _%_, _^_, _<_, _≤_};
-ghost use lib.ListN.{length, getD};
+ghost use mathlib.Core.Bool.{false, not};
+ghost use Prim.Native.Nat.{_+_, _-_, _%_, _^_, _<_, _≤_};
+ghost use lib.Dec.{eqb, leb};
 ghost use Rattle.base.specs.Pick.{pick};
 ghost use Rattle.base.specs.Walks.{walk};
-ghost use Rattle.base.specs.Sets.{has};
-ghost use Rattle.rules.specs.State.{fresh, freeStrategy, strategyAt, withOpened, withClock};
+ghost use Rattle.base.specs.Sets.{has, minus};
+ghost use Rattle.rules.specs.State.{fresh, freeStrategy, withOpened, withClock};
 ghost use Rattle.rules.specs.Moves.{each};
-ghost use Rattle.rules.specs.Auctions.{putAuction, close, endHolding, matchIn};
-ghost use Rattle.rules.specs.Events.{live, liveOrder, freeOrderSlot, ifRests, onLegOrder, cancelEntryOf, cancelOrderOf, cancelNumber, onClock, shut, reopen, onSeries, closeRunning, lower, lowerEntry, lowestLive, cancelLowest, onDayEnd};
+ghost use Rattle.rules.specs.Auctions.{matchIn};
+ghost use Rattle.rules.specs.Events.{live, liveOrder, freeOrderSlot, ifRests, onLegOrder, cancelEntryOf, cancelOrderOf, cancelNumber, onClock, shut, reopen, onSeries, closeRunning, lower, cancelLowest, onDayEnd};
 ghost use Rattle.rules.specs.Valid.{FitOrder};
-ghost use Rattle.records.specs.Space.{Wrote, Room};
+ghost use Rattle.records.specs.Space.{Room};
 ghost use Rattle.records.specs.Done.{Done};
 ghost use Rattle.ranges.specs.Fit.{Fit};
 ghost use Rattle.auctions.specs.Ranged.{Ranged};
+ghost use Rattle.closing.specs.Closing.{lowerIn, lowerOrderIn};
 use auctions::close;
-use endings::end_due;
-use endings::end_holding;
-use endings::running;
+use auctions::end_unfilled;
+use endings::end_auction;
 use fills::cancel_entry;
 use legs::enter_order;
 use legs::free_order_slot;
@@ -90,30 +90,6 @@ pub fn fresh(timer: u32) -> State
     }
 }
 
-fn cancel_entry_of(b: State, number: u32, i: usize, space: &mut [i32], n: usize) -> After
-    requires { ⌜ (i < 32) × Fit b ⌝ }
-    requires { ⌜ Room (now space) n (cancelEntryOf number i b .records) ⌝ }
-    ensures { λ t. ⌜ Done (now (space .entry)) (now (space .exit)) n (t .count) (t .state) (cancelEntryOf number i b) ⌝ }
-{
-    let e = b.entries[i];
-    if e.number == number {
-        return cancel_entry(b, i, space, n);
-    }
-    After { state: b, count: n }
-}
-
-fn cancel_order_of(b: State, number: u32, i: usize, space: &mut [i32], n: usize) -> After
-    requires { ⌜ (i < 32) × Fit b ⌝ }
-    requires { ⌜ Room (now space) n (cancelOrderOf number i b .records) ⌝ }
-    ensures { λ t. ⌜ Done (now (space .entry)) (now (space .exit)) n (t .count) (t .state) (cancelOrderOf number i b) ⌝ }
-{
-    let o = b.orders[i];
-    if o.number == number {
-        return cancel_order(b, i, space, n);
-    }
-    After { state: b, count: n }
-}
-
 fn cancel_entries(b: State, number: u32, space: &mut [i32], n: usize) -> After
     requires { ⌜ Fit b ⌝ }
     requires { ⌜ Room (now space) n (each (cancelEntryOf number) 32 b .records) ⌝ }
@@ -123,9 +99,12 @@ fn cancel_entries(b: State, number: u32, space: &mut [i32], n: usize) -> After
     let mut m = n;
     let mut i: usize = 0;
     while i < 32 {
-        let t = cancel_entry_of(c, number, i, space, m);
-        c = t.state;
-        m = t.count;
+        let e = c.entries[i];
+        if e.number == number {
+            let t = cancel_entry(c, i, space, m);
+            c = t.state;
+            m = t.count;
+        }
         i += 1;
     }
     After { state: c, count: m }
@@ -140,9 +119,12 @@ fn cancel_orders(b: State, number: u32, space: &mut [i32], n: usize) -> After
     let mut m = n;
     let mut i: usize = 0;
     while i < 32 {
-        let t = cancel_order_of(c, number, i, space, m);
-        c = t.state;
-        m = t.count;
+        let o = c.orders[i];
+        if o.number == number {
+            let t = cancel_order(c, i, space, m);
+            c = t.state;
+            m = t.count;
+        }
         i += 1;
     }
     After { state: c, count: m }
@@ -190,41 +172,46 @@ fn lower_order(n: u32, o: LegOrder) -> u32
     lower(n, o.number)
 }
 
-fn lowest_entry(b: State) -> u32
-    ensures { λ r. ⌜ r ≡ walk (lowerEntry b) 0 32 ⌝ }
+// The lowest number of the live entries, 0 where none is.
+fn lowest_entry(es: [Entry; 32]) -> u32
+    ensures { λ r. ⌜ r ≡ walk (lowerIn es) 0 32 ⌝ }
 {
     let mut n: u32 = 0;
     let mut i: usize = 0;
     while i < 32 {
-        n = lower_entry(n, b.entries[i]);
+        n = lower_entry(n, es[i]);
         i += 1;
     }
     n
 }
 
-// The lowest number that is live, 0 where none is.
-fn lowest_live(b: State) -> u32
-    ensures { λ r. ⌜ r ≡ lowestLive b ⌝ }
+// The lower of a number and those of the live leg orders.
+fn lowest_order(os: [LegOrder; 32], low: u32) -> u32
+    ensures { λ r. ⌜ r ≡ walk (lowerOrderIn os) low 32 ⌝ }
 {
-    let mut n = lowest_entry(b);
+    let mut n = low;
     let mut i: usize = 0;
     while i < 32 {
-        n = lower_order(n, b.orders[i]);
+        n = lower_order(n, os[i]);
         i += 1;
     }
     n
 }
 
+// The cancel of the lowest number that is live.
 fn cancel_lowest(b: State, space: &mut [i32], n: usize) -> After
     requires { ⌜ Fit b ⌝ }
     requires { ⌜ Room (now space) n (cancelLowest 0 b .records) ⌝ }
     ensures { λ t. ⌜ Done (now (space .entry)) (now (space .exit)) n (t .count) (t .state) (cancelLowest 0 b) ⌝ }
 {
-    let low = lowest_live(b);
-    cancel_number(b, low, space, n)
+    let es = b.entries;
+    let low = lowest_entry(es);
+    let os = b.orders;
+    let lowest = lowest_order(os, low);
+    cancel_number(b, lowest, space, n)
 }
 
-// At the day's end: all that is live, by number.
+// At the day's end: all that is live, by number, until a turn cancels nothing.
 pub fn cancel_all(b: State, space: &mut [i32], n: usize) -> After
     requires { ⌜ Fit b ⌝ }
     requires { ⌜ Room (now space) n (each cancelLowest 64 b .records) ⌝ }
@@ -235,22 +222,14 @@ pub fn cancel_all(b: State, space: &mut [i32], n: usize) -> After
     let mut i: usize = 0;
     while i < 64 {
         let t = cancel_lowest(c, space, m);
+        if t.count == m {
+            return t;
+        }
         c = t.state;
         m = t.count;
         i += 1;
     }
     After { state: c, count: m }
-}
-
-fn close_running(b: State, k: usize, space: &mut [i32], n: usize) -> After
-    requires { ⌜ (k < 16) × Ranged b ⌝ }
-    requires { ⌜ Room (now space) n (closeRunning k b .records) ⌝ }
-    ensures { λ t. ⌜ Done (now (space .entry)) (now (space .exit)) n (t .count) (t .state) (closeRunning k b) ⌝ }
-{
-    if running(b, k) {
-        return close(b, k, space, n);
-    }
-    After { state: b, count: n }
 }
 
 // At the day's end: the auctions, by strategy.
@@ -263,9 +242,12 @@ pub fn close_all(b: State, space: &mut [i32], n: usize) -> After
     let mut m = n;
     let mut k: usize = 0;
     while k < 16 {
-        let t = close_running(c, k, space, m);
-        c = t.state;
-        m = t.count;
+        let s = c.strategies[k];
+        if s.starter != 0 {
+            let t = close(c, k, space, m);
+            c = t.state;
+            m = t.count;
+        }
         k += 1;
     }
     After { state: c, count: m }
@@ -294,6 +276,18 @@ fn with_clock(b: State, t: u32) -> State
     c
 }
 
+// Whether an auction of a strategy runs and was begun at least the timer ago.
+fn due(s: Strategy, timer: u32, clock: u32) -> bool
+    requires { ⌜ s .begun + timer < 4294967296 ⌝ }
+    ensures { λ r. ⌜ r ≡ pick (not (eqb (s .starter) 0)) (leb (s .begun + timer) clock) false ⌝ }
+{
+    if s.starter == 0 {
+        return false;
+    }
+    let t = s.begun + timer;
+    t <= clock
+}
+
 // The clock, then the auctions that are due, by strategy.
 pub fn on_clock(b: State, t: u32, space: &mut [i32], n: usize) -> After
     requires { ⌜ (t ≤ 86400000) × Ranged b ⌝ }
@@ -304,9 +298,12 @@ pub fn on_clock(b: State, t: u32, space: &mut [i32], n: usize) -> After
     let mut m = n;
     let mut k: usize = 0;
     while k < 16 {
-        let x = end_due(c, k, space, m);
-        c = x.state;
-        m = x.count;
+        let s = c.strategies[k];
+        if due(s, c.timer, c.clock) {
+            let x = end_auction(c, k, space, m);
+            c = x.state;
+            m = x.count;
+        }
         k += 1;
     }
     After { state: c, count: m }
@@ -320,6 +317,26 @@ fn with_opened(b: State, x: u32) -> State
     c
 }
 
+// Whether a set of series has a series.
+fn has(x: u32, s: u8) -> bool
+    requires { ⌜ s < 32 ⌝ }
+    ensures { λ r. ⌜ r ≡ has x s ⌝ }
+{
+    let y = (x >> s as u32) % 2;
+    y == 1
+}
+
+// Whether an auction runs in a strategy that holds a series.
+fn ends(h: Strategy, s: u8) -> bool
+    requires { ⌜ s < 32 ⌝ }
+    ensures { λ r. ⌜ r ≡ pick (not (eqb (h .starter) 0)) (has (h .series) s) false ⌝ }
+{
+    if h.starter == 0 {
+        return false;
+    }
+    has(h.series, s)
+}
+
 // A series shuts: the auctions of strategies that hold it end, by strategy.
 fn shut(b: State, s: u8, space: &mut [i32], n: usize) -> After
     requires { ⌜ (s < 32) × Ranged b ⌝ }
@@ -331,12 +348,27 @@ fn shut(b: State, s: u8, space: &mut [i32], n: usize) -> After
     let mut m = n;
     let mut k: usize = 0;
     while k < 16 {
-        let t = end_holding(c, s, k, space, m);
-        c = t.state;
-        m = t.count;
+        let h = c.strategies[k];
+        if ends(h, s) {
+            let t = end_unfilled(c, k, space, m);
+            c = t.state;
+            m = t.count;
+        }
         k += 1;
     }
     After { state: c, count: m }
+}
+
+// Whether a strategy holds a series and no leg of it is shut.
+fn matches(h: Strategy, opened: u32, s: u8) -> bool
+    requires { ⌜ s < 32 ⌝ }
+    ensures { λ r. ⌜ r ≡ pick (has (h .series) s) (eqb (minus (h .series) opened) 0) false ⌝ }
+{
+    if has(h.series, s) {
+        let shut = h.series & (u32::MAX - opened);
+        return shut == 0;
+    }
+    false
 }
 
 fn match_series(b: State, s: u8, space: &mut [i32], n: usize) -> After
@@ -348,9 +380,12 @@ fn match_series(b: State, s: u8, space: &mut [i32], n: usize) -> After
     let mut m = n;
     let mut k: usize = 0;
     while k < 16 {
-        let t = match_in(c, s, k, space, m);
-        c = t.state;
-        m = t.count;
+        let h = c.strategies[k];
+        if matches(h, c.opened, s) {
+            let t = match_in(c, s, k, space, m);
+            c = t.state;
+            m = t.count;
+        }
         k += 1;
     }
     After { state: c, count: m }
@@ -381,8 +416,7 @@ pub fn is_open(b: State, s: u8) -> bool
     requires { ⌜ s < 32 ⌝ }
     ensures { λ r. ⌜ r ≡ has (b .opened) s ⌝ }
 {
-    let x = (b.opened >> s as u32) % 2;
-    x == 1
+    has(b.opened, s)
 }
 
 // A series shuts (state 0), opens, or stays.

@@ -14,9 +14,8 @@ use Rattle.rules.specs.declared.Allocation.{Allocation}
 use Rattle.rules.specs.declared.Allocation.the-variants.{Shared, Numbered}
 use Rattle.rules.specs.State.{noEntry, entryAt, strategyAt}
 use Rattle.rules.specs.Moves.{still, each}
-use Rattle.rules.specs.Strategies.{holds}
 use Rattle.rules.specs.Passes.{pass, turn}
-use Rattle.rules.specs.Auctions.{running, starterSlot, starterPass, later, laterPass, endUnfilled, endAuction, due, endDue, endHolding}
+use Rattle.rules.specs.Auctions.{starterSlot, starterPass, later, laterPass}
 use Rattle.rules.proofs.Control.{each-kept, starterPass-kept, laterPass-kept, shrinks-kept}
 use Rattle.records.specs.Done.{Done}
 use Rattle.ranges.specs.Fit.{Fit, fit-done}
@@ -46,28 +45,6 @@ module _ (k n i : ℕ) (b : State) where
   pub later-yes : {legs : Bool} → later k n (entryAt b i) ≡ true → legs ≡ not (eqb (entryAt b i .life) 4) → laterPass k n i b ≡ pass Numbered legs i b
   unfolding laterPass
   later-yes e l = rw l (search tests)
-
-module _ (k : ℕ) (b : State) where
-  pub due-not : due b k ≡ false → endDue k b ≡ still b
-  unfolding endDue
-  due-not e = search tests
-
-  pub due-yes : due b k ≡ true → endDue k b ≡ endAuction k b
-  unfolding endDue
-  due-yes e = search tests
-
-module _ (s k : ℕ) (b : State) where
-  pub holding-idle : running b k ≡ false → endHolding s k b ≡ still b
-  unfolding endHolding
-  holding-idle r = search tests
-
-  pub holding-not : running b k ≡ true → holds b s k ≡ false → endHolding s k b ≡ still b
-  unfolding endHolding
-  holding-not r h = search tests
-
-  pub holding-ends : running b k ≡ true → holds b s k ≡ true → endHolding s k b ≡ endUnfilled k b
-  unfolding endHolding
-  holding-ends r h = search tests
 
 -- the ranges after the passes
 pub fit-later : (k n i : ℕ) (b : State) {c : State} {sp sq : List ℤ} {p q : ℕ} → Fit b → Done sp sq p q c (each (laterPass k n) i b) → Fit c

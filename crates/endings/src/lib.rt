@@ -1,12 +1,12 @@
 // The end of an auction: the starter's pass, the others' by number, the cancels and its record.
 ghost use mathlib.Core.Path.{_≡_};
-ghost use mathlib.Core.Bool.{not};
-ghost use Prim.Native.Nat.{_+_, _*_, _-_, _/_, _%_, _^_, _<_, _≤_};
-ghost use lib.ListN.{length, getD};
+ghost use mathlib.Core.Bool.{false, not};
+ghost use Prim.Native.Nat.{_+_, _-_, _%_, _<_};
+ghost use lib.Dec.{eqb};
+ghost use Rattle.base.specs.Sets.{has};
 ghost use Rattle.rules.specs.Moves.{each};
-ghost use Rattle.rules.specs.Strategies.{holds};
-ghost use Rattle.rules.specs.Auctions.{running, starterPass, later, laterPass, endAuction, due, endDue, endHolding};
-ghost use Rattle.records.specs.Space.{Wrote, Room};
+ghost use Rattle.rules.specs.Auctions.{running, starterPass, later, laterPass, endAuction};
+ghost use Rattle.records.specs.Space.{Room};
 ghost use Rattle.records.specs.Done.{Done};
 ghost use Rattle.ranges.specs.Fit.{Fit};
 ghost use Rattle.auctions.specs.Ranged.{Ranged};
@@ -18,11 +18,22 @@ use records::After;
 use rules::Allocation;
 use rules::Entry;
 use rules::State;
+use rules::Strategy;
 
 fn no(x: bool) -> bool
     ensures { λ r. ⌜ r ≡ not x ⌝ }
 {
     if x {
+        return false;
+    }
+    true
+}
+
+// Whether an auction runs in a strategy.
+fn runs(s: Strategy) -> bool
+    ensures { λ r. ⌜ r ≡ not (eqb (s .starter) 0) ⌝ }
+{
+    if s.starter == 0 {
         return false;
     }
     true
@@ -34,18 +45,14 @@ pub fn running(b: State, k: usize) -> bool
     ensures { λ r. ⌜ r ≡ running b k ⌝ }
 {
     let s = b.strategies[k];
-    if s.starter == 0 {
-        return false;
-    }
-    true
+    runs(s)
 }
 
-// Whether strategy k holds a series.
-pub fn holds(b: State, s: u8, k: usize) -> bool
-    requires { ⌜ (s < 32) × (k < 16) ⌝ }
-    ensures { λ r. ⌜ r ≡ holds b s k ⌝ }
+// Whether a strategy holds a series.
+pub fn holds(t: Strategy, s: u8) -> bool
+    requires { ⌜ s < 32 ⌝ }
+    ensures { λ r. ⌜ r ≡ has (t .series) s ⌝ }
 {
-    let t = b.strategies[k];
     let x = (t.series >> s as u32) % 2;
     x == 1
 }
@@ -75,21 +82,7 @@ fn later(k: usize, n: u32, e: Entry) -> bool
     false
 }
 
-// A numbered pass of an entry accepted meanwhile; sweeps never use legs.
-fn later_pass(b: State, k: usize, n: u32, i: usize, space: &mut [i32], m: usize) -> After
-    requires { ⌜ (i < 32) × Fit b ⌝ }
-    requires { ⌜ Room (now space) m (laterPass k n i b .records) ⌝ }
-    ensures { λ t. ⌜ Done (now (space .entry)) (now (space .exit)) m (t .count) (t .state) (laterPass k n i b) ⌝ }
-{
-    let e = b.entries[i];
-    if later(k, n, e) {
-        let legs = no(e.life == 4);
-        return pass(Allocation::Numbered, legs, b, i, space, m);
-    }
-    After { state: b, count: m }
-}
-
-// By number.
+// A numbered pass of each entry accepted meanwhile, by number; sweeps never use legs.
 fn later_passes(b: State, k: usize, n: u32, space: &mut [i32], m: usize) -> After
     requires { ⌜ Fit b ⌝ }
     requires { ⌜ Room (now space) m (each (laterPass k n) 32 b .records) ⌝ }
@@ -99,9 +92,13 @@ fn later_passes(b: State, k: usize, n: u32, space: &mut [i32], m: usize) -> Afte
     let mut o = m;
     let mut i: usize = 0;
     while i < 32 {
-        let t = later_pass(c, k, n, i, space, o);
-        c = t.state;
-        o = t.count;
+        let e = c.entries[i];
+        if later(k, n, e) {
+            let legs = no(e.life == 4);
+            let t = pass(Allocation::Numbered, legs, c, i, space, o);
+            c = t.state;
+            o = t.count;
+        }
         i += 1;
     }
     After { state: c, count: o }
@@ -119,43 +116,4 @@ pub fn end_auction(b: State, k: usize, space: &mut [i32], n: usize) -> After
     let y = later_passes(c, k, s.starter, space, x.count);
     let d = y.state;
     end_unfilled(d, k, space, y.count)
-}
-
-// Whether an auction of strategy k was begun at least the timer ago.
-fn due(b: State, k: usize) -> bool
-    requires { ⌜ (k < 16) × Ranged b ⌝ }
-    ensures { λ r. ⌜ r ≡ due b k ⌝ }
-{
-    if running(b, k) {
-        let s = b.strategies[k];
-        let t = s.begun + b.timer;
-        return t <= b.clock;
-    }
-    false
-}
-
-pub fn end_due(b: State, k: usize, space: &mut [i32], n: usize) -> After
-    requires { ⌜ (k < 16) × Ranged b ⌝ }
-    requires { ⌜ Room (now space) n (endDue k b .records) ⌝ }
-    ensures { λ t. ⌜ Done (now (space .entry)) (now (space .exit)) n (t .count) (t .state) (endDue k b) ⌝ }
-{
-    if due(b, k) {
-        return end_auction(b, k, space, n);
-    }
-    After { state: b, count: n }
-}
-
-// A shut series ends the auction of a strategy that holds it, without fills.
-pub fn end_holding(b: State, s: u8, k: usize, space: &mut [i32], n: usize) -> After
-    requires { ⌜ (s < 32) × (k < 16) × Ranged b ⌝ }
-    requires { ⌜ Room (now space) n (endHolding s k b .records) ⌝ }
-    ensures { λ t. ⌜ Done (now (space .entry)) (now (space .exit)) n (t .count) (t .state) (endHolding s k b) ⌝ }
-{
-    if running(b, k) {
-        if holds(b, s, k) {
-            return end_unfilled(b, k, space, n);
-        }
-        return After { state: b, count: n };
-    }
-    After { state: b, count: n }
 }

@@ -1,19 +1,12 @@
--- How many orders and sweeps are live, and the sweep that a new one replaces, by the rows that the code reads.
-use mathlib.Core.Bool.{Bool}
-use mathlib.Core.List.{List}
+-- How many orders and sweeps are live.
 use Prim.Native.Nat.{ℕ, _≤_}
 use native.Mathlib.Omega.{arith}
-use lib.ListN.{getD}
 use Rattle.base.specs.Pick.{pick-all}
 use Rattle.base.specs.Walks.{sumN, sum-le}
 use Rattle.rules.specs.declared.Entry.{Entry}
 use Rattle.rules.specs.declared.State.{State}
-use Rattle.rules.specs.State.{noEntry, entryAt}
-use Rattle.rules.specs.Events.{sameSweep}
+use Rattle.rules.specs.State.{entryAt}
 use Rattle.rules.specs.Refusals.{isOrder, isSweep, isOrderAt, isSweepAt}
-
-abbrev pub replacedAt : List Entry → Entry → ℕ → Bool
-replacedAt es e i = sameSweep e (getD es i noEntry)
 
 pub order-most : (e : Entry) → isOrder e ≤ 1
 unfolding isOrder

@@ -1,20 +1,13 @@
 // The table of complex orders and sweeps: insertion, its counts, and the sweep that a new one replaces.
 ghost use mathlib.Core.Path.{_≡_};
-ghost use Prim.Native.Nat.{_+_, _<_, _≤_};
+ghost use Prim.Native.Nat.{_<_};
 ghost use lib.ListN.{length};
 ghost use Rattle.base.specs.Walks.{sumN};
 ghost use Rattle.rules.specs.State.{noEntry};
 ghost use Rattle.rules.specs.Events.{live, keep, behind, enter, freeSlot, sameSweep, oldSweep};
 ghost use Rattle.rules.specs.Refusals.{isOrder, isSweep, isOrderAt, isSweepAt};
-ghost use Rattle.entries.specs.Insert.{keepEntry, Compact};
 use rules::Entry;
 use rules::State;
-
-// Live entries put one behind the other: the first `count` rows are in use.
-pub struct Packed {
-    pub rows: [Entry; 32],
-    pub count: usize,
-}
 
 pub fn live(e: Entry) -> bool
     ensures { λ r. ⌜ r ≡ live e ⌝ }
@@ -25,23 +18,10 @@ pub fn live(e: Entry) -> bool
     true
 }
 
-fn keep_entry(p: Packed, e: Entry) -> Packed
-    requires { ⌜ p .count < 32 ⌝ }
-    ensures { λ q. ⌜ q ≡ keepEntry p e ⌝ }
-{
-    if e.units == 0 {
-        return p;
-    }
-    let at = p.count;
-    let mut q = p;
-    q.rows[at] = e;
-    q.count = at + 1;
-    q
-}
-
-// The live entries in front, in their order.
-fn compact(es: [Entry; 32]) -> Packed
-    ensures { λ p. ⌜ Compact es p ⌝ }
+// The live entries in front, in their order, and one more behind them.
+fn insert(es: [Entry; 32], e: Entry) -> [Entry; 32]
+    requires { ⌜ length (keep live es) < 32 ⌝ }
+    ensures { λ rows. ⌜ rows ≡ behind live noEntry e es ⌝ }
 {
     let none = Entry {
         number: 0,
@@ -53,27 +33,34 @@ fn compact(es: [Entry; 32]) -> Packed
         units: 0,
         level: 0,
     };
-    let mut p = Packed {
-        rows: [none; 32],
-        count: 0,
-    };
+    let mut rows = [none; 32];
+    let mut n: usize = 0;
     let mut i: usize = 0;
     while i < 32 {
-        p = keep_entry(p, es[i]);
+        let x = es[i];
+        if live(x) {
+            rows[n] = x;
+            n += 1;
+        }
         i += 1;
     }
-    p
+    rows[n] = e;
+    rows
 }
 
-fn insert(es: [Entry; 32], e: Entry) -> [Entry; 32]
-    requires { ⌜ length (keep live es) < 32 ⌝ }
-    ensures { λ rows. ⌜ rows ≡ behind live noEntry e es ⌝ }
+// The number of live entries.
+fn count(es: [Entry; 32]) -> usize
+    ensures { λ r. ⌜ r ≡ length (keep live es) ⌝ }
 {
-    let p = compact(es);
-    let at = p.count;
-    let mut rows = p.rows;
-    rows[at] = e;
-    rows
+    let mut n: usize = 0;
+    let mut i: usize = 0;
+    while i < 32 {
+        if live(es[i]) {
+            n += 1;
+        }
+        i += 1;
+    }
+    n
 }
 
 // The slot that the next entry takes.
@@ -81,8 +68,7 @@ pub fn free_slot(b: State) -> usize
     ensures { λ r. ⌜ r ≡ freeSlot b ⌝ }
 {
     let es = b.entries;
-    let p = compact(es);
-    p.count
+    count(es)
 }
 
 // An order or sweep enters behind the live ones.
@@ -178,10 +164,9 @@ fn same_sweep(e: Entry, f: Entry) -> bool
 pub fn old_sweep(b: State, e: Entry) -> usize
     ensures { λ r. ⌜ r ≡ oldSweep b e ⌝ }
 {
-    let es = b.entries;
     let mut i: usize = 0;
     while i < 32 {
-        if same_sweep(e, es[i]) {
+        if same_sweep(e, b.entries[i]) {
             return i;
         }
         i += 1;

@@ -1,9 +1,9 @@
 // Fills of whole against whole, the ways that the holders of one limit are met, and cancels.
 ghost use mathlib.Core.Path.{_≡_};
+ghost use mathlib.Core.List.{_++_};
 ghost use Prim.Native.Nat.{_+_, _*_, _-_, _<_, _≤_};
-ghost use lib.ListN.{length, getD};
 ghost use Rattle.base.specs.Walks.{joinN};
-ghost use Rattle.rules.specs.Fills.{wholeRecord, legRecord, legRecordAt, partyRecords, cutEntry, cut, wholeFill, cancelRecord, cancelEntry};
+ghost use Rattle.rules.specs.Fills.{wholeRecord, legRecord, legRecordAt, partyRecords, noPrices, cutEntry, cut, wholeFill, cancelRecord, cancelEntry};
 ghost use Rattle.rules.specs.Passes.{give, giveInTurn, giveGroup, giveShared};
 ghost use Rattle.rules.specs.Valid.{FitLeg, FitEntry};
 ghost use Rattle.records.specs.Space.{Wrote, Room};
@@ -16,7 +16,6 @@ use quotas::sizes;
 use records::After;
 use records::less;
 use records::push;
-use records::with_entry;
 use rules::Entry;
 use rules::Kind;
 use rules::Leg;
@@ -111,9 +110,29 @@ pub fn cut(b: State, i: usize, q: u32) -> State
     requires { ⌜ i < 32 ⌝ }
     ensures { λ c. ⌜ c ≡ cut b i q ⌝ }
 {
-    let e = b.entries[i];
-    let f = cut_entry(e, q);
-    with_entry(b, i, f)
+    let mut c = b;
+    let e = c.entries[i];
+    c.entries[i] = cut_entry(e, q);
+    c
+}
+
+// The records of both parties of a fill of whole against whole.
+fn fill_records(
+    space: &mut [i32],
+    n: usize,
+    e: Entry,
+    f: Entry,
+    s: Strategy,
+    q: u32,
+    level: u32,
+) -> usize
+    requires { ⌜ FitEntry e × FitEntry f × FitLegs s × (q ≤ 9999) × (level ≤ 20000000) ⌝ }
+    requires { ⌜ Room (now space) n (partyRecords e s q level noPrices ++ partyRecords f s q level noPrices) ⌝ }
+    ensures { λ m. ⌜ Wrote (now (space .entry)) (now (space .exit)) n m (partyRecords e s q level noPrices ++ partyRecords f s q level noPrices) ⌝ }
+{
+    let prices: [u32; 6] = [0; 6];
+    let m = party_records(space, n, e, s, q, level, prices);
+    party_records(space, m, f, s, q, level, prices)
 }
 
 // Entries a (active) and h fill q units of each other at a net.
@@ -133,16 +152,16 @@ pub fn whole_fill(
     if q == 0 {
         return After { state: b, count: n };
     }
-    let e = b.entries[a];
-    let f = b.entries[h];
+    let mut c = b;
+    let e = c.entries[a];
+    let f = c.entries[h];
     let k = e.strategy as usize;
-    let s = b.strategies[k];
-    let prices: [u32; 6] = [0; 6];
-    let m = party_records(space, n, e, s, q, level, prices);
-    let o = party_records(space, m, f, s, q, level, prices);
-    let c = cut(b, a, q);
-    let d = cut(c, h, q);
-    After { state: d, count: o }
+    let s = c.strategies[k];
+    let m = fill_records(space, n, e, f, s, q, level);
+    c.entries[a] = cut_entry(e, q);
+    let g = c.entries[h];
+    c.entries[h] = cut_entry(g, q);
+    After { state: c, count: m }
 }
 
 // Entry a meets each slot for its quota.
@@ -155,9 +174,17 @@ fn give(b: State, a: usize, level: u32, qs: [u32; 32], space: &mut [i32], n: usi
     let mut m = n;
     let mut i: usize = 0;
     while i < 32 {
-        let t = whole_fill(c, a, i, level, qs[i], space, m);
-        c = t.state;
-        m = t.count;
+        let q = qs[i];
+        if q != 0 {
+            let e = c.entries[a];
+            let f = c.entries[i];
+            let k = e.strategy as usize;
+            let s = c.strategies[k];
+            m = fill_records(space, m, e, f, s, q, level);
+            c.entries[a] = cut_entry(e, q);
+            let g = c.entries[i];
+            c.entries[i] = cut_entry(g, q);
+        }
         i += 1;
     }
     After { state: c, count: m }
@@ -221,12 +248,13 @@ pub fn cancel_entry(b: State, i: usize, space: &mut [i32], n: usize) -> After
     requires { ⌜ Room (now space) n (cancelEntry i b .records) ⌝ }
     ensures { λ t. ⌜ Done (now (space .entry)) (now (space .exit)) n (t .count) (t .state) (cancelEntry i b) ⌝ }
 {
-    let e = b.entries[i];
+    let mut c = b;
+    let e = c.entries[i];
     if e.units == 0 {
-        return After { state: b, count: n };
+        return After { state: c, count: n };
     }
     let r = cancel_record(e);
     let m = push(space, n, r);
-    let c = cut(b, i, e.units);
+    c.entries[i] = cut_entry(e, e.units);
     After { state: c, count: m }
 }

@@ -1,23 +1,21 @@
 -- What the code of the legs' part leaves, the ranges of its records, and the rules by what the code tests.
-use mathlib.Core.Path.{_≡_, refl, sym, _∙_, ap}
-use mathlib.Core.Bool.{Bool, true, false}
+use mathlib.Core.Path.{_≡_}
 use mathlib.Core.List.{List, [], _∷_}
-use Prim.Native.Nat.{ℕ, zero, suc, _+_, _*_, _-_, _≤_, _<_, min}
+use Prim.Native.Nat.{ℕ, _+_, _*_, _-_, _≤_}
 use native.Mathlib.Nat.{mul-le-mul}
 use native.Mathlib.Omega.{arith}
 use lib.IntN.{ℤ}
 use lib.ListN.{getD}
-use Rattle.base.specs.Pick.{pick, tests}
-use Rattle.base.specs.Walks.{slot, walk, joinN, walk-first, walk-next}
+use Rattle.base.specs.Pick.{tests}
+use Rattle.base.specs.Walks.{slot, joinN, walk-first, walk-next}
 use Rattle.rules.specs.declared.Leg.{Leg}
 use Rattle.rules.specs.declared.Strategy.{Strategy}
 use Rattle.rules.specs.declared.LegOrder.{LegOrder}
 use Rattle.rules.specs.declared.State.{State}
 use Rattle.rules.specs.State.{noLeg, entryAt, strategyOf}
 use Rattle.rules.specs.Quotas.{inTurn, inTurnAt}
-use Rattle.rules.specs.Nets.{prices, netOf, unitsOf, legNet}
+use Rattle.rules.specs.Nets.{prices, netOf, unitsOf}
 use Rattle.rules.specs.Fills.{legQuotas, orderRecord, orderRow, orderRows, cutOrders, orderRecords, cutStep, cutByLegs, takeLegs, legFill}
-use Rattle.rules.specs.Passes.{ready, readyNet}
 use Rattle.rules.specs.Valid.{FitOrder}
 use Rattle.records.specs.Space.{Small, Wrote, wrote-first, wrote-next}
 use Rattle.ranges.specs.Most.{AtMost, table-most}
@@ -73,17 +71,3 @@ fill-is a b p u = rw (u, p)
 
 pub level-fits : (s : Strategy) (ps : List ℕ) → FitLegs s → AtMost 99_999 ps → netOf s ps ≤ 20_000_000
 level-fits s ps f m = omega (arith, net-most s ps f m)
-
--- the ready leg net by what the code tests
-module _ (legs : Bool) (a : ℕ) (b : State) where
-  pub net-barred : legs ≡ false → 0 ≡ readyNet legs a b
-  unfolding readyNet
-  net-barred l = search tests
-
-  pub net-none : legs ≡ true → ready a b ≡ false → 0 ≡ readyNet legs a b
-  unfolding readyNet
-  net-none l e = search tests
-
-  pub net-ready : legs ≡ true → ready a b ≡ true → legNet b (entryAt b a .side) (entryAt b a .strategy) ≡ readyNet legs a b
-  unfolding readyNet legNet
-  net-ready l e = search tests

@@ -1,11 +1,9 @@
 // Fills of whole against legs.
 ghost use mathlib.Core.Path.{_≡_};
 ghost use Prim.Native.Nat.{_+_, _*_, _-_, _<_, _≤_};
-ghost use lib.ListN.{length, getD};
 ghost use Rattle.base.specs.All.{All};
 ghost use Rattle.base.specs.Walks.{joinN};
-ghost use Rattle.rules.specs.Fills.{legQuotas, orderRow, orderRows, orderRecords, cutOrder, cutOrders, takeLegs, legFill};
-ghost use Rattle.rules.specs.Passes.{readyNet};
+ghost use Rattle.rules.specs.Fills.{legQuotas, orderRow, orderRows, orderRecords, cutOrders, takeLegs, legFill};
 ghost use Rattle.rules.specs.Valid.{FitOrder};
 ghost use Rattle.records.specs.Space.{Wrote, Room};
 ghost use Rattle.records.specs.Done.{Done};
@@ -14,16 +12,13 @@ ghost use Rattle.ranges.specs.Fit.{FitLegs, Fit};
 ghost use Rattle.legging.specs.Legging.{OneLeg, AllLegs};
 use fills::cut;
 use fills::party_records;
-use nets::leg_net;
 use nets::lots;
 use nets::net_of;
 use nets::prices;
-use nets::ready;
 use nets::units_of;
 use quotas::in_turn;
 use records::After;
 use records::push;
-use records::with_orders;
 use rules::Leg;
 use rules::LegOrder;
 use rules::Record;
@@ -160,10 +155,10 @@ fn take_legs(
     let m = party_records(space, n, e, s, q, level, ps);
     let c = all_legs(os, e.side, q, s, ps, space, m);
     let rows = c.rows;
-    let d = cut(b, a, q);
-    let f = with_orders(d, rows);
+    let mut d = cut(b, a, q);
+    d.orders = rows;
     After {
-        state: f,
+        state: d,
         count: c.count,
     }
 }
@@ -182,20 +177,4 @@ pub fn leg_fill(b: State, a: usize, space: &mut [i32], n: usize) -> After
     let ps = prices(os, e.side, legs);
     let q = units_of(os, e.side, s, ps, e.units);
     take_legs(b, a, s, ps, q, space, n)
-}
-
-// The leg net of entry a where the legs may be used and are ready, else 0.
-pub fn ready_net(legs: bool, b: State, a: usize) -> u32
-    requires { ⌜ (a < 32) × Fit b ⌝ }
-    ensures { λ r. ⌜ r ≡ readyNet legs a b ⌝ }
-{
-    if legs {
-        if ready(b, a) {
-            let e = b.entries[a];
-            let k = e.strategy as usize;
-            return leg_net(b, e.side, k);
-        }
-        return 0;
-    }
-    0
 }

@@ -1,10 +1,10 @@
 // The table of leg orders: insertion, and the best opposite order.
 ghost use mathlib.Core.Path.{_≡_};
-ghost use Prim.Native.Nat.{_+_, _<_, _≤_};
+ghost use Prim.Native.Nat.{_<_};
 ghost use lib.ListN.{length};
 ghost use Rattle.rules.specs.State.{noOrder};
-ghost use Rattle.rules.specs.Events.{liveOrder, keep, behind, enterOrder, freeOrderSlot, meetsOrder, aheadOrder, bestOrderStep, bestOrder};
-ghost use Rattle.legs.specs.Insert.{keepOrder, Compact};
+ghost use Rattle.rules.specs.Events.{liveOrder, keep, behind, enterOrder, freeOrderSlot, meetsOrder, bestOrder};
+ghost use Rattle.legs.specs.Search.{aheadOf};
 use nets::stands;
 use records::with_orders;
 use rules::LegOrder;
@@ -13,29 +13,20 @@ use sides::better;
 use sides::meets;
 use sides::other;
 
-// Live orders put one behind the other: the first `count` rows are in use.
-pub struct Packed {
-    pub rows: [LegOrder; 32],
-    pub count: usize,
-}
-
-fn keep_order(p: Packed, o: LegOrder) -> Packed
-    requires { ⌜ p .count < 32 ⌝ }
-    ensures { λ q. ⌜ q ≡ keepOrder p o ⌝ }
+// Whether an order has contracts.
+fn live(o: LegOrder) -> bool
+    ensures { λ r. ⌜ r ≡ liveOrder o ⌝ }
 {
     if o.contracts == 0 {
-        return p;
+        return false;
     }
-    let at = p.count;
-    let mut q = p;
-    q.rows[at] = o;
-    q.count = at + 1;
-    q
+    true
 }
 
-// The live orders in front, in their order.
-fn compact(os: [LegOrder; 32]) -> Packed
-    ensures { λ p. ⌜ Compact os p ⌝ }
+// The live orders in front, in their order, and one more behind them.
+fn insert(os: [LegOrder; 32], o: LegOrder) -> [LegOrder; 32]
+    requires { ⌜ length (keep liveOrder os) < 32 ⌝ }
+    ensures { λ rows. ⌜ rows ≡ behind liveOrder noOrder o os ⌝ }
 {
     let none = LegOrder {
         number: 0,
@@ -45,27 +36,34 @@ fn compact(os: [LegOrder; 32]) -> Packed
         contracts: 0,
         price: 0,
     };
-    let mut p = Packed {
-        rows: [none; 32],
-        count: 0,
-    };
+    let mut rows = [none; 32];
+    let mut n: usize = 0;
     let mut i: usize = 0;
     while i < 32 {
-        p = keep_order(p, os[i]);
+        let x = os[i];
+        if live(x) {
+            rows[n] = x;
+            n += 1;
+        }
         i += 1;
     }
-    p
+    rows[n] = o;
+    rows
 }
 
-fn insert(os: [LegOrder; 32], o: LegOrder) -> [LegOrder; 32]
-    requires { ⌜ length (keep liveOrder os) < 32 ⌝ }
-    ensures { λ rows. ⌜ rows ≡ behind liveOrder noOrder o os ⌝ }
+// The number of live orders.
+fn count(os: [LegOrder; 32]) -> usize
+    ensures { λ r. ⌜ r ≡ length (keep liveOrder os) ⌝ }
 {
-    let p = compact(os);
-    let at = p.count;
-    let mut rows = p.rows;
-    rows[at] = o;
-    rows
+    let mut n: usize = 0;
+    let mut i: usize = 0;
+    while i < 32 {
+        if live(os[i]) {
+            n += 1;
+        }
+        i += 1;
+    }
+    n
 }
 
 // The slot that the next leg order takes.
@@ -73,8 +71,7 @@ pub fn free_order_slot(b: State) -> usize
     ensures { λ r. ⌜ r ≡ freeOrderSlot b ⌝ }
 {
     let os = b.orders;
-    let p = compact(os);
-    p.count
+    count(os)
 }
 
 // A leg order enters behind the live ones.
@@ -100,30 +97,17 @@ fn meets_order(o: LegOrder, p: LegOrder) -> bool
     false
 }
 
-// Whether the order at slot i comes before the best one so far (32: none).
-fn ahead_order(b: State, o: LegOrder, i: usize, best: usize) -> bool
-    requires { ⌜ (i < 32) × (best ≤ 32) ⌝ }
-    ensures { λ r. ⌜ r ≡ aheadOrder b o i best ⌝ }
+// Whether p comes before the best order so far: its slot (32: none) and its price.
+fn ahead_order(o: LegOrder, p: LegOrder, best: usize, price: u32) -> bool
+    ensures { λ r. ⌜ r ≡ aheadOf o p best price ⌝ }
 {
-    let p = b.orders[i];
     if meets_order(o, p) {
         if best == 32 {
             return true;
         }
-        let q = b.orders[best];
-        return better(o.side, p.price, q.price);
+        return better(o.side, p.price, price);
     }
     false
-}
-
-fn best_order_with(b: State, o: LegOrder, i: usize, best: usize) -> usize
-    requires { ⌜ (i < 32) × (best ≤ 32) ⌝ }
-    ensures { λ r. ⌜ r ≡ bestOrderStep b o i best ⌝ }
-{
-    if ahead_order(b, o, i, best) {
-        return i;
-    }
-    best
 }
 
 // The slot of the order that o trades with first: best price, then number; 32 where there is none.
@@ -131,9 +115,14 @@ pub fn best_order(b: State, o: LegOrder) -> usize
     ensures { λ r. ⌜ r ≡ bestOrder b o ⌝ }
 {
     let mut best: usize = 32;
+    let mut price: u32 = 0;
     let mut i: usize = 0;
     while i < 32 {
-        best = best_order_with(b, o, i, best);
+        let p = b.orders[i];
+        if ahead_order(o, p, best, price) {
+            best = i;
+            price = p.price;
+        }
         i += 1;
     }
     best

@@ -1,26 +1,77 @@
 -- The rules of the match and of the passes by legs only, by what the code tests, and the ranges that they keep.
-use mathlib.Core.Path.{_≡_, refl, ap}
-use mathlib.Core.Bool.{true, false}
+use mathlib.Core.Path.{_≡_, refl, _∙_, ap}
+use mathlib.Core.Bool.{Bool, true, false, not}
 use mathlib.Core.List.{List}
-use Prim.Native.Nat.{ℕ, _-_, _^_, _≤_, _<_, min}
+use Prim.Native.Nat.{ℕ, _+_, _-_, _^_, _≤_, _<_, min}
 use native.Mathlib.Omega.{arith}
 use borrow.Author.Tests.{ltb-true, lt-ltb, le-ltb}
 use lib.Bits.{bitAnd}
-use lib.Dec.{eqb, ltb}
+use lib.Dec.{eqb, ltb, leb}
 use lib.IntN.{ℤ}
-use Rattle.base.specs.Pick.{pick, pick-all, pick-yes, tests}
+use lib.ListN.{length, getD, List·getD-eq-default}
+use Rattle.base.specs.Pick.{pick, pick-yes, tests}
+use Rattle.base.specs.Walks.{walk}
+use Rattle.base.specs.Sets.{has, minus}
 use Rattle.base.specs.SetLaws.{minus-and}
+use Rattle.rules.specs.declared.Strategy.{Strategy}
+use Rattle.rules.specs.declared.Entry.{Entry}
 use Rattle.rules.specs.declared.State.{State}
 use Rattle.rules.specs.declared.Allocation.the-variants.{LegsOnly}
-use Rattle.rules.specs.State.{entryAt, strategyAt}
-use Rattle.rules.specs.Moves.{still, each}
+use Rattle.rules.specs.State.{noEntry, entryAt, strategyAt}
+use Rattle.rules.specs.Moves.{Moved, still, each}
+use Rattle.rules.specs.Sides.{other, better}
 use Rattle.rules.specs.Strategies.{shutSet, allOpen, holds}
 use Rattle.rules.specs.Fills.{wholeFill}
 use Rattle.rules.specs.Passes.{pass}
-use Rattle.rules.specs.Auctions.{running, dayOrder, legPass, legPassesIn, ahead, bestSlot, crossed, matchOnce, matchAll, matchIn}
+use Rattle.rules.specs.Auctions.{liveIn, dayOrder, legPass, legPassesIn, ahead, bestSlot, crossed, matchOnce, matchAll, matchIn}
 use Rattle.rules.proofs.Control.{each-kept, legPass-kept, legPassesIn-kept, matchOnce-kept, shrinks-kept}
 use Rattle.records.specs.Done.{Done}
 use Rattle.ranges.specs.Fit.{Fit, fit-entry, fit-done}
+use Rattle.passes.specs.Passes.{idle}
+
+-- whether a strategy holds series s, is all open and has no auction
+unfoldable pub passesLegs : Strategy → ℕ → ℕ → Bool
+passesLegs t s opened = pick (has (t .series) s) (pick (eqb (minus (t .series) opened) 0) (eqb (t .starter) 0) false) false
+
+-- whether an entry goes before the best so far of a side, which is at that slot and level
+unfoldable pub aheadOf : ℕ → ℕ → Entry → ℕ → ℕ → Bool
+aheadOf k side e best level = pick (liveIn k e) (pick (eqb (e .side) side) (pick (eqb best 32) true (better (other side) (e .level) level)) false) false
+
+-- one slot more: the best so far, or this one
+abbrev pub bestNext : List Entry → ℕ → ℕ → ℕ → ℕ → ℕ
+bestNext es k side i best = pick (aheadOf k side (getD es i noEntry) best (getD es best noEntry .level)) i best
+
+-- the best slot by the entries
+unfoldable pub bestOf : List Entry → ℕ → ℕ → ℕ
+bestOf es k side = walk (bestNext es k side) 32 32
+
+-- whether two entries meet
+unfoldable pub meet : List Entry → ℕ → ℕ → Bool
+meet es x y = pick (ltb x 32) (pick (ltb y 32) (leb (getD es y noEntry .level) (getD es x noEntry .level)) false) false
+
+-- two entries that meet
+unfoldable pub matched : State → ℕ → ℕ → Moved
+matched b x y =
+    let a : ℕ = pick (ltb (entryAt b x .number) (entryAt b y .number)) x y in
+    let h : ℕ = pick (ltb (entryAt b x .number) (entryAt b y .number)) y x in
+    wholeFill b a h (entryAt b a .level) (min (entryAt b a .units) (entryAt b h .units))
+
+-- laws
+
+-- three tests, the last one turned, and the choice by them
+all-three : (t u v : Bool) (x y : Moved) → pick t (pick u v false) false ≡ true → pick t (pick u (pick (not v) x y) x) x ≡ y
+unfolding pick
+all-three true true true x y e = refl
+all-three true true false x y e = absurd (let z : _≡_ {A = ℕ} 0 1 = cc in omega arith)
+all-three true false v x y e = absurd (let z : _≡_ {A = ℕ} 0 1 = cc in omega arith)
+all-three false u v x y e = absurd (let z : _≡_ {A = ℕ} 0 1 = cc in omega arith)
+
+not-three : (t u v : Bool) (x y : Moved) → pick t (pick u v false) false ≡ false → pick t (pick u (pick (not v) x y) x) x ≡ x
+unfolding pick
+not-three true true true x y e = absurd (let z : _≡_ {A = ℕ} 0 1 = cc in omega arith)
+not-three true true false x y e = refl
+not-three true false v x y e = refl
+not-three false u v x y e = refl
 
 module _ (k i : ℕ) (b : State) where
   pub legs-not : dayOrder k (entryAt b i) ≡ false → legPass k i b ≡ still b
@@ -32,62 +83,71 @@ module _ (k i : ℕ) (b : State) where
   legs-yes e = search tests
 
 module _ (s k : ℕ) (b : State) where
-  pub in-without : holds b s k ≡ false → legPassesIn s k b ≡ still b
-  unfolding legPassesIn
-  in-without h = search tests
+  pub in-yes : passesLegs (strategyAt b k) s (b .opened) ≡ true → legPassesIn s k b ≡ each (legPass k) 32 b
+  unfolding passesLegs legPassesIn shutSet
+  in-yes e = all-three _ _ _ _ _ e
 
-  pub in-shut : holds b s k ≡ true → allOpen b k ≡ false → legPassesIn s k b ≡ still b
-  unfolding legPassesIn
-  in-shut h o = search tests
-
-  pub in-auction : holds b s k ≡ true → allOpen b k ≡ true → running b k ≡ true → legPassesIn s k b ≡ still b
-  unfolding legPassesIn
-  in-auction h o r = search tests
-
-  pub in-passes : holds b s k ≡ true → allOpen b k ≡ true → running b k ≡ false → legPassesIn s k b ≡ each (legPass k) 32 b
-  unfolding legPassesIn
-  in-passes h o r = search tests
+  pub in-not : passesLegs (strategyAt b k) s (b .opened) ≡ false → legPassesIn s k b ≡ still b
+  unfolding passesLegs legPassesIn shutSet
+  in-not e = not-three _ _ _ _ _ e
 
   pub match-without : holds b s k ≡ false → matchIn s k b ≡ still b
   unfolding matchIn
   match-without h = search tests
 
-  pub match-shut : holds b s k ≡ true → allOpen b k ≡ false → matchIn s k b ≡ still b
-  unfolding matchIn
+  pub match-shut : holds b s k ≡ true → eqb (minus (strategyAt b k .series) (b .opened)) 0 ≡ false → matchIn s k b ≡ still b
+  unfolding matchIn shutSet
   match-shut h o = search tests
 
-  pub match-open : holds b s k ≡ true → allOpen b k ≡ true → matchIn s k b ≡ matchAll k b
-  unfolding matchIn
+  pub match-open : holds b s k ≡ true → eqb (minus (strategyAt b k .series) (b .opened)) 0 ≡ true → matchIn s k b ≡ matchAll k b
+  unfolding matchIn shutSet
   match-open h o = search tests
 
 -- what the code computes of the shut legs
-pub open-is : (b : State) (k : ℕ) → strategyAt b k .series < 2 ^ 32 → b .opened < 2 ^ 32 → eqb (bitAnd (strategyAt b k .series) (4294967295 - b .opened)) 0 ≡ allOpen b k
+pub shut-is : (x y : ℕ) → x < 2 ^ 32 → y < 2 ^ 32 → eqb (bitAnd x (4294967295 - y)) 0 ≡ eqb (minus x y) 0
+shut-is x y h g = ap (λ (z : ℕ). eqb z 0) (minus-and x y h g)
+
+pub open-is : (b : State) (k : ℕ) {r : Bool} → r ≡ eqb (minus (strategyAt b k .series) (b .opened)) 0 → r ≡ allOpen b k
 unfolding shutSet
-open-is b k h g = ap (λ (x : ℕ). eqb x 0) (minus-and (strategyAt b k .series) (b .opened) h g)
+open-is b k e = e
 
--- the best slot so far is a slot or 32
-pub best-most : (b : State) (k side i best : ℕ) → i < 32 → best ≤ 32 → pick (ahead b k side i best) i best ≤ 32
-best-most b k side i best h l = pick-all (λ (x : ℕ). x ≤ 32) _ (omega arith) l
+-- the level of the best so far: none yet, or an entry's
+pub level-none : (es : List Entry) → length es ≡ 32 → 0 ≡ getD es 32 noEntry .level
+level-none es n = rw (List·getD-eq-default es noEntry {n = 32} (omega arith))
 
-pub crossed-slots : (b : State) (x y : ℕ) → crossed b x y ≡ true → (x < 32) × (y < 32)
-unfolding crossed
-crossed-slots b x y e = let p = pick-yes _ e in (ltb-true _ _ (p .0), ltb-true _ _ (pick-yes _ (p .1) .0))
+module _ (es : List Entry) (k side i best : ℕ) {level : ℕ} (l : level ≡ getD es best noEntry .level) where
+  pub best-yes : aheadOf k side (getD es i noEntry) best level ≡ true → i ≡ bestNext es k side i best
+  best-yes e = let t : aheadOf k side (getD es i noEntry) best (getD es best noEntry .level) ≡ true = rw l at e in search tests
+
+  pub best-not : aheadOf k side (getD es i noEntry) best level ≡ false → best ≡ bestNext es k side i best
+  best-not e = let t : aheadOf k side (getD es i noEntry) best (getD es best noEntry .level) ≡ false = rw l at e in search tests
+
+pub meet-slots : (es : List Entry) (x y : ℕ) → meet es x y ≡ true → (x < 32) × (y < 32)
+unfolding meet
+meet-slots es x y e = let p = pick-yes _ e in (ltb-true _ _ (p .0), ltb-true _ _ (pick-yes _ (p .1) .0))
+
+best-is : (b : State) (k side : ℕ) → bestOf (b .entries) k side ≡ bestSlot b k side
+unfolding bestOf bestSlot aheadOf ahead
+best-is b k side = refl
 
 -- one match by the slots that the code has found
-module _ (k : ℕ) (b : State) {x y : ℕ} (p : x ≡ bestSlot b k 0) (q : y ≡ bestSlot b k 1) where
-  pub match-none : crossed b x y ≡ false → matchOnce k 0 b ≡ still b
-  unfolding matchOnce pick
-  match-none e = rw (← p, ← q, e)
+module _ (k i : ℕ) (b : State) {x y : ℕ} (p : x ≡ bestOf (b .entries) k 0) (q : y ≡ bestOf (b .entries) k 1) where
+  pub match-none : meet (b .entries) x y ≡ false → matchOnce k i b ≡ still b
+  unfolding matchOnce pick meet crossed
+  match-none e = rw (← best-is b k 0, ← best-is b k 1, ← p, ← q, e)
 
-  pub match-buy : crossed b x y ≡ true → entryAt b x .number < entryAt b y .number → {u : ℕ} → u ≡ min (entryAt b x .units) (entryAt b y .units)
-      → matchOnce k 0 b ≡ wholeFill b x y (entryAt b x .level) u
-  unfolding matchOnce pick
-  match-buy e h z = let t : ltb (entryAt b x .number) (entryAt b y .number) ≡ true = lt-ltb _ _ h in rw (← p, ← q, e, t, z)
+  pub match-some : meet (b .entries) x y ≡ true → matchOnce k i b ≡ matched b x y
+  unfolding matchOnce pick meet crossed matched
+  match-some e = rw (← best-is b k 0, ← best-is b k 1, ← p, ← q, e)
 
-  pub match-sell : crossed b x y ≡ true → entryAt b y .number ≤ entryAt b x .number → {u : ℕ} → u ≡ min (entryAt b y .units) (entryAt b x .units)
-      → matchOnce k 0 b ≡ wholeFill b y x (entryAt b y .level) u
-  unfolding matchOnce pick
-  match-sell e h z = let t : ltb (entryAt b x .number) (entryAt b y .number) ≡ false = le-ltb _ _ h in rw (← p, ← q, e, t, z)
+module _ (b : State) (x y : ℕ) where
+  pub match-buy : entryAt b x .number < entryAt b y .number → {u : ℕ} → u ≡ min (entryAt b x .units) (entryAt b y .units) → matched b x y ≡ wholeFill b x y (entryAt b x .level) u
+  unfolding matched pick
+  match-buy h z = let t : ltb (entryAt b x .number) (entryAt b y .number) ≡ true = lt-ltb _ _ h in rw (t, z)
+
+  pub match-sell : entryAt b y .number ≤ entryAt b x .number → {u : ℕ} → u ≡ min (entryAt b y .units) (entryAt b x .units) → matched b x y ≡ wholeFill b y x (entryAt b y .level) u
+  unfolding matched pick
+  match-sell h z = let t : ltb (entryAt b x .number) (entryAt b y .number) ≡ false = le-ltb _ _ h in rw (t, z)
 
 pub units-fit : {b : State} → Fit b → (x y : ℕ) → min (entryAt b x .units) (entryAt b y .units) ≤ 9999
 units-fit f x y = omega (arith, fit-entry (f .entries) x .units)
@@ -96,9 +156,16 @@ pub limit-fits : {b : State} → Fit b → (x : ℕ) → entryAt b x .level ≤ 
 limit-fits f x = omega (arith, fit-entry (f .entries) x .level)
 
 -- a match is the same at every turn
-pub match-turn : (k i : ℕ) (b : State) → matchOnce k i b ≡ matchOnce k 0 b
+match-turn : (k i j : ℕ) (b : State) → matchOnce k i b ≡ matchOnce k j b
 unfolding matchOnce
-match-turn k i b = refl
+match-turn k i j b = refl
+
+-- from a turn that matches nothing on nothing is matched
+pub match-stops : (k i : ℕ) (b c : State) → i ≤ 32 → c ≡ each (matchOnce k) i b .state → matchOnce k i c ≡ still c → each (matchOnce k) 32 b ≡ each (matchOnce k) i b
+match-stops k i b c h e s =
+    let g : matchOnce k i (each (matchOnce k) i b .state) ≡ still (each (matchOnce k) i b .state) = rw e at s in
+    let q : _≡_ {A = ℕ} 32 (32 - i + i) = omega arith in
+    ap (λ (j : ℕ). each (matchOnce k) j b) q ∙ idle (matchOnce k) b i (λ j. match-turn k j i (each (matchOnce k) i b .state) ∙ g) (32 - i)
 
 -- the ranges after some passes, and after some matches
 pub fit-passes : (k i : ℕ) (b : State) {c : State} {sp sq : List ℤ} {n m : ℕ} → Fit b → Done sp sq n m c (each (legPass k) i b) → Fit c

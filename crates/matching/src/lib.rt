@@ -1,17 +1,17 @@
 // Where a series opens or its leg orders change: the match of the resting orders, and the passes by legs only.
 ghost use mathlib.Core.Path.{_≡_};
-ghost use Prim.Native.Nat.{_+_, _*_, _-_, _<_, _≤_, min};
-ghost use lib.ListN.{length, getD};
-ghost use Rattle.base.specs.Pick.{pick};
+ghost use Prim.Native.Nat.{_+_, _-_, _<_};
+ghost use lib.Dec.{eqb};
+ghost use Rattle.base.specs.Sets.{minus};
 ghost use Rattle.rules.specs.Moves.{each};
 ghost use Rattle.rules.specs.Strategies.{allOpen};
-ghost use Rattle.rules.specs.Auctions.{dayOrder, legPass, legPassesIn, legPasses, ahead, bestSlot, crossed, matchOnce, matchAll, matchIn};
-ghost use Rattle.records.specs.Space.{Wrote, Room};
+ghost use Rattle.rules.specs.Auctions.{dayOrder, legPass, legPasses, matchAll, matchIn};
+ghost use Rattle.records.specs.Space.{Room};
 ghost use Rattle.records.specs.Done.{Done};
 ghost use Rattle.ranges.specs.Fit.{Fit};
+ghost use Rattle.matching.specs.Matching.{passesLegs, aheadOf, bestOf, meet, matched};
 use auctions::live_in;
 use endings::holds;
-use endings::running;
 use fills::whole_fill;
 use passes::pass;
 use records::After;
@@ -19,17 +19,39 @@ use records::least;
 use rules::Allocation;
 use rules::Entry;
 use rules::State;
+use rules::Strategy;
 use sides::better;
 use sides::other;
+
+// Whether no leg of a strategy is shut.
+fn none_shut(t: Strategy, opened: u32) -> bool
+    ensures { λ r. ⌜ r ≡ eqb (minus (t .series) opened) 0 ⌝ }
+{
+    let shut = t.series & (u32::MAX - opened);
+    shut == 0
+}
 
 // Whether no leg of strategy k is shut.
 pub fn all_open(b: State, k: usize) -> bool
     requires { ⌜ k < 16 ⌝ }
     ensures { λ r. ⌜ r ≡ allOpen b k ⌝ }
 {
-    let s = b.strategies[k];
-    let shut = s.series & (u32::MAX - b.opened);
-    shut == 0
+    let t = b.strategies[k];
+    none_shut(t, b.opened)
+}
+
+// Whether a strategy holds series s, is all open and has no auction.
+fn passes_legs(t: Strategy, s: u8, opened: u32) -> bool
+    requires { ⌜ s < 32 ⌝ }
+    ensures { λ r. ⌜ r ≡ passesLegs t s opened ⌝ }
+{
+    if holds(t, s) {
+        if none_shut(t, opened) {
+            return t.starter == 0;
+        }
+        return false;
+    }
+    false
 }
 
 fn day_order(k: usize, e: Entry) -> bool
@@ -41,20 +63,7 @@ fn day_order(k: usize, e: Entry) -> bool
     false
 }
 
-// A pass by legs only, where entry i is a day order of strategy k.
-fn leg_pass(b: State, k: usize, i: usize, space: &mut [i32], n: usize) -> After
-    requires { ⌜ (i < 32) × Fit b ⌝ }
-    requires { ⌜ Room (now space) n (legPass k i b .records) ⌝ }
-    ensures { λ t. ⌜ Done (now (space .entry)) (now (space .exit)) n (t .count) (t .state) (legPass k i b) ⌝ }
-{
-    let e = b.entries[i];
-    if day_order(k, e) {
-        return pass(Allocation::LegsOnly, true, b, i, space, n);
-    }
-    After { state: b, count: n }
-}
-
-// By number.
+// A pass by legs only of each day order of strategy k, by number.
 fn leg_passes_of(b: State, k: usize, space: &mut [i32], n: usize) -> After
     requires { ⌜ Fit b ⌝ }
     requires { ⌜ Room (now space) n (each (legPass k) 32 b .records) ⌝ }
@@ -64,30 +73,15 @@ fn leg_passes_of(b: State, k: usize, space: &mut [i32], n: usize) -> After
     let mut m = n;
     let mut i: usize = 0;
     while i < 32 {
-        let t = leg_pass(c, k, i, space, m);
-        c = t.state;
-        m = t.count;
+        let e = c.entries[i];
+        if day_order(k, e) {
+            let t = pass(Allocation::LegsOnly, true, c, i, space, m);
+            c = t.state;
+            m = t.count;
+        }
         i += 1;
     }
     After { state: c, count: m }
-}
-
-// The day orders of strategy k, where it holds series s, is all open and has no auction.
-fn leg_passes_in(b: State, s: u8, k: usize, space: &mut [i32], n: usize) -> After
-    requires { ⌜ (s < 32) × (k < 16) × Fit b ⌝ }
-    requires { ⌜ Room (now space) n (legPassesIn s k b .records) ⌝ }
-    ensures { λ t. ⌜ Done (now (space .entry)) (now (space .exit)) n (t .count) (t .state) (legPassesIn s k b) ⌝ }
-{
-    if holds(b, s, k) {
-        if all_open(b, k) {
-            if running(b, k) {
-                return After { state: b, count: n };
-            }
-            return leg_passes_of(b, k, space, n);
-        }
-        return After { state: b, count: n };
-    }
-    After { state: b, count: n }
 }
 
 // The passes by legs only of a series, by strategy.
@@ -100,65 +94,60 @@ pub fn leg_passes(b: State, s: u8, space: &mut [i32], n: usize) -> After
     let mut m = n;
     let mut k: usize = 0;
     while k < 16 {
-        let t = leg_passes_in(c, s, k, space, m);
-        c = t.state;
-        m = t.count;
+        let t = c.strategies[k];
+        if passes_legs(t, s, c.opened) {
+            let u = leg_passes_of(c, k, space, m);
+            c = u.state;
+            m = u.count;
+        }
         k += 1;
     }
     After { state: c, count: m }
 }
 
-// Whether entry i is of that strategy and side, and goes before the best so far (32: none yet).
-fn ahead(b: State, k: usize, side: u8, i: usize, best: usize) -> bool
-    requires { ⌜ (i < 32) × (best ≤ 32) ⌝ }
-    ensures { λ r. ⌜ r ≡ ahead b k side i best ⌝ }
+// Whether an entry is of that strategy and side, and goes before the best so far, which is at that slot (32: none yet) and level.
+fn ahead(k: usize, side: u8, e: Entry, best: usize, level: u32) -> bool
+    ensures { λ r. ⌜ r ≡ aheadOf k side e best level ⌝ }
 {
-    let e = b.entries[i];
     if live_in(k, e) {
         if e.side == side {
             if best == 32 {
                 return true;
             }
-            let f = b.entries[best];
             let on = other(side);
-            return better(on, e.level, f.level);
+            return better(on, e.level, level);
         }
         return false;
     }
     false
 }
 
-fn best_with(b: State, k: usize, side: u8, i: usize, best: usize) -> usize
-    requires { ⌜ (i < 32) × (best ≤ 32) ⌝ }
-    ensures { λ r. ⌜ r ≡ pick (ahead b k side i best) i best ⌝ }
-{
-    if ahead(b, k, side, i, best) {
-        return i;
-    }
-    best
-}
-
 // The slot of the best entry of a side, by price, then number; 32 where there is none.
-fn best_slot(b: State, k: usize, side: u8) -> usize
-    ensures { λ r. ⌜ r ≡ bestSlot b k side ⌝ }
+fn best_slot(es: [Entry; 32], k: usize, side: u8) -> usize
+    ensures { λ r. ⌜ r ≡ bestOf es k side ⌝ }
 {
     let mut best: usize = 32;
+    let mut level: u32 = 0;
     let mut i: usize = 0;
     while i < 32 {
-        best = best_with(b, k, side, i, best);
+        let e = es[i];
+        if ahead(k, side, e, best, level) {
+            best = i;
+            level = e.level;
+        }
         i += 1;
     }
     best
 }
 
 // Whether the best buy and the best sell meet.
-fn crossed(b: State, x: usize, y: usize) -> bool
-    ensures { λ r. ⌜ r ≡ crossed b x y ⌝ }
+fn crossed(es: [Entry; 32], x: usize, y: usize) -> bool
+    ensures { λ r. ⌜ r ≡ meet es x y ⌝ }
 {
     if x < 32 {
         if y < 32 {
-            let e = b.entries[x];
-            let f = b.entries[y];
+            let e = es[x];
+            let f = es[y];
             return f.level <= e.level;
         }
         return false;
@@ -167,24 +156,19 @@ fn crossed(b: State, x: usize, y: usize) -> bool
 }
 
 // The best buy with the best sell, at the lower number's limit, its order active.
-fn match_once(b: State, k: usize, space: &mut [i32], n: usize) -> After
-    requires { ⌜ Fit b ⌝ }
-    requires { ⌜ Room (now space) n (matchOnce k 0 b .records) ⌝ }
-    ensures { λ t. ⌜ Done (now (space .entry)) (now (space .exit)) n (t .count) (t .state) (matchOnce k 0 b) ⌝ }
+fn match_once(b: State, x: usize, y: usize, space: &mut [i32], n: usize) -> After
+    requires { ⌜ (x < 32) × (y < 32) × Fit b ⌝ }
+    requires { ⌜ Room (now space) n (matched b x y .records) ⌝ }
+    ensures { λ t. ⌜ Done (now (space .entry)) (now (space .exit)) n (t .count) (t .state) (matched b x y) ⌝ }
 {
-    let x = best_slot(b, k, 0);
-    let y = best_slot(b, k, 1);
-    if crossed(b, x, y) {
-        let e = b.entries[x];
-        let f = b.entries[y];
-        if e.number < f.number {
-            let q = least(e.units, f.units);
-            return whole_fill(b, x, y, e.level, q, space, n);
-        }
-        let p = least(f.units, e.units);
-        return whole_fill(b, y, x, f.level, p, space, n);
+    let e = b.entries[x];
+    let f = b.entries[y];
+    if e.number < f.number {
+        let q = least(e.units, f.units);
+        return whole_fill(b, x, y, e.level, q, space, n);
     }
-    After { state: b, count: n }
+    let p = least(f.units, e.units);
+    whole_fill(b, y, x, f.level, p, space, n)
 }
 
 // While they meet.
@@ -197,10 +181,17 @@ fn match_all(b: State, k: usize, space: &mut [i32], n: usize) -> After
     let mut m = n;
     let mut i: usize = 0;
     while i < 32 {
-        let t = match_once(c, k, space, m);
-        c = t.state;
-        m = t.count;
-        i += 1;
+        let es = c.entries;
+        let x = best_slot(es, k, 0);
+        let y = best_slot(es, k, 1);
+        if crossed(es, x, y) {
+            let t = match_once(c, x, y, space, m);
+            c = t.state;
+            m = t.count;
+            i += 1;
+        } else {
+            i = 32;
+        }
     }
     After { state: c, count: m }
 }
@@ -211,8 +202,9 @@ pub fn match_in(b: State, s: u8, k: usize, space: &mut [i32], n: usize) -> After
     requires { ⌜ Room (now space) n (matchIn s k b .records) ⌝ }
     ensures { λ t. ⌜ Done (now (space .entry)) (now (space .exit)) n (t .count) (t .state) (matchIn s k b) ⌝ }
 {
-    if holds(b, s, k) {
-        if all_open(b, k) {
+    let t = b.strategies[k];
+    if holds(t, s) {
+        if none_shut(t, b.opened) {
             return match_all(b, k, space, n);
         }
         return After { state: b, count: n };

@@ -1,2 +1,3 @@
 pub mod Nets
 pub mod Best
+pub mod Ready

@@ -1,24 +1,20 @@
 -- Bounds of prices, contracts and nets, and the rules by what the code tests.
-use mathlib.Core.Path.{_≡_, refl, sym, _∙_, ap}
-use mathlib.Core.Bool.{Bool, true, false, not}
+use mathlib.Core.Path.{_≡_, sym}
+use mathlib.Core.Bool.{true, false}
 use mathlib.Core.List.{List}
-use Prim.Native.Nat.{ℕ, zero, suc, _+_, _*_, _-_, _/_, _≤_, _<_, min}
+use Prim.Native.Nat.{ℕ, zero, suc, _+_, _*_, _-_, _≤_}
 use native.Mathlib.Nat.{mul-le-mul}
 use native.Mathlib.Omega.{arith}
-use borrow.Author.Tests.{ne-eqb}
-use lib.Dec.{eqb, ltb}
-use lib.ListN.{getD, length}
-use Rattle.base.specs.Pick.{pick, pick-all, pick-true, pick-false, tests}
+use lib.ListN.{getD}
+use Rattle.base.specs.Pick.{pick-all, tests}
 use Rattle.base.specs.All.{All}
-use Rattle.base.specs.Walks.{sumN, slot, table, walk, sum-le, sum-same, table-slot}
+use Rattle.base.specs.Walks.{sumN, slot, walk, sum-le, sum-same, table-slot}
 use Rattle.rules.specs.declared.Leg.{Leg}
 use Rattle.rules.specs.declared.Strategy.{Strategy}
 use Rattle.rules.specs.declared.LegOrder.{LegOrder}
-use Rattle.rules.specs.declared.State.{State}
-use Rattle.rules.specs.State.{noLeg, noOrder, entryAt, strategyOf}
-use Rattle.rules.specs.Sides.{other, legSide, better, bestPrice}
-use Rattle.rules.specs.Nets.{stands, priceWith, priceStep, priceOf, lot, lotAt, lots, legPrice, priceAt, prices, known, weight, weightAt, weighed, netOf, unitsOf}
-use Rattle.rules.specs.Passes.{ready}
+use Rattle.rules.specs.State.{noLeg, noOrder}
+use Rattle.rules.specs.Sides.{other, legSide, bestPrice}
+use Rattle.rules.specs.Nets.{priceWith, priceStep, priceOf, lot, lotAt, lots, legPrice, priceAt, prices, known, weight, weightAt, weighed, netOf}
 use Rattle.rules.specs.Valid.{FitLeg, FitOrder}
 use Rattle.ranges.specs.Most.{AtMost, table-most}
 use Rattle.ranges.specs.Fit.{FitLegs, fit-leg, fit-order}
@@ -89,17 +85,3 @@ module _ (s : Strategy) (ps : List ℕ) where
       → 10_000_000 + buys - sells ≡ netOf s ps
   unfolding netOf
   net-known k p q = rw (p, q) (search tests)
-
--- readiness by the units that the code has found
-module _ (a : ℕ) (b : State) {ps : List ℕ} {n : ℕ} (p : ps ≡ prices (b .orders) (entryAt b a .side) (strategyOf b (entryAt b a) .legs))
-    (q : n ≡ unitsOf (b .orders) (entryAt b a .side) (strategyOf b (entryAt b a)) ps 1) where
-  units-are : unitsOf (b .orders) (entryAt b a .side) (strategyOf b (entryAt b a)) (prices (b .orders) (entryAt b a .side) (strategyOf b (entryAt b a) .legs)) 1 ≡ n
-  units-are = rw (← p) (sym q)
-
-  pub ready-not : n ≡ 0 → false ≡ ready a b
-  unfolding ready
-  ready-not e = rw (units-are, e)
-
-  pub ready-yes : ¬ (n ≡ 0) → true ≡ ready a b
-  unfolding ready
-  ready-yes e = rw (units-are, ne-eqb n 0 e)

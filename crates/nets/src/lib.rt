@@ -1,16 +1,14 @@
 // Best prices of the leg orders, nets, and the units that the legs give.
 ghost use mathlib.Core.Path.{_≡_};
-ghost use Prim.Native.Nat.{_+_, _*_, _-_, _/_, _<_, _≤_, min};
-ghost use lib.ListN.{length, getD};
+ghost use Prim.Native.Nat.{_+_, _*_, _-_, _/_, _<_, _≤_};
 ghost use Rattle.base.specs.All.{All};
-ghost use Rattle.base.specs.Walks.{sumN, slot, table};
 ghost use Rattle.rules.specs.Nets.{stands, priceWith, priceOf, lot, lots, legPrice, prices, known, weight, weighed, netOf, legUnits, unitsOf, legNet};
-ghost use Rattle.rules.specs.Valid.{FitLeg, FitEntry, FitOrder};
+ghost use Rattle.rules.specs.Valid.{FitLeg, FitOrder};
 ghost use Rattle.ranges.specs.Most.{AtMost};
 ghost use Rattle.ranges.specs.Fit.{FitLegs};
 ghost use Rattle.nets.specs.Nets.{contractsAt};
 ghost use Rattle.nets.specs.Best.{Priced, bestOf, bestWith};
-ghost use Rattle.rules.specs.Passes.{ready};
+ghost use Rattle.nets.specs.Ready.{netReady};
 use records::least;
 use rules::Leg;
 use rules::LegOrder;
@@ -270,20 +268,41 @@ pub fn leg_net(b: State, side: u8, k: usize) -> u32
     net_of(s, ps)
 }
 
-// Whether the legs give one unit to the entry at slot a.
-pub fn ready(b: State, a: usize) -> bool
-    requires { ⌜ (a < 32) × All FitOrder (b .orders) × All FitLegs (b .strategies) × All FitEntry (b .entries) ⌝ }
-    ensures { λ r. ⌜ r ≡ ready a b ⌝ }
+// The leg net that a complex party of that side meets where the legs give one unit, else 0.
+pub fn net_ready(os: [LegOrder; 32], side: u8, s: Strategy) -> u32
+    requires { ⌜ All FitOrder os × FitLegs s ⌝ }
+    ensures { λ r. ⌜ r ≡ netReady os side s ⌝ }
 {
-    let e = b.entries[a];
-    let k = e.strategy as usize;
-    let s = b.strategies[k];
-    let os = b.orders;
+    let count = s.count as usize;
     let legs = s.legs;
-    let ps = prices(os, e.side, legs);
-    let n = units_of(os, e.side, s, ps, 1);
-    if n == 0 {
-        return false;
+    let mut buys: u32 = 0;
+    let mut sells: u32 = 0;
+    let mut i: usize = 0;
+    while i < count {
+        let l = legs[i];
+        let on = other(leg_side(side, l));
+        let mut p: u32 = 0;
+        let mut j: usize = 0;
+        while j < 32 {
+            p = price_with(l.series, on, p, os[j]);
+            j += 1;
+        }
+        if p == 0 {
+            return 0;
+        }
+        let mut n: u32 = 0;
+        let mut h: usize = 0;
+        while h < 32 {
+            n += lot(l.series, on, p, os[h]);
+            h += 1;
+        }
+        let units = whole_units(n, l.ratio as u32);
+        if units == 0 {
+            return 0;
+        }
+        buys += weight(0, l, p);
+        sells += weight(1, l, p);
+        i += 1;
     }
-    true
+    10000000 + buys - sells
 }

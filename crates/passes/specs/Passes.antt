@@ -1,29 +1,32 @@
 -- The turns of a pass: their levels are in range, they shrink the state, and none moves after one that stops.
-use mathlib.Core.Path.{_≡_, refl}
-use mathlib.Core.Bool.{Bool, true, false}
+use mathlib.Core.Path.{_≡_, refl, sym, ap}
+use mathlib.Core.Bool.{Bool, true, false, not}
 use mathlib.Core.List.{List}
 use Prim.Native.Nat.{ℕ, zero, suc, _+_, _-_, _≤_}
 use native.Mathlib.Nat.{zero-add, suc-add}
 use native.Mathlib.Omega.{arith}
-use borrow.Author.Tests.{eqb-true, eqb-false}
+use borrow.Author.Tests.{eqb-true, eqb-false, eq-eqb}
 use lib.Dec.{eqb}
 use lib.IntN.{ℤ}
-use Rattle.base.specs.Pick.{pick-all}
+use Rattle.base.specs.Pick.{pick, pick-all, pick-true}
 use Rattle.base.specs.All.{All}
 use Rattle.rules.specs.declared.Entry.{Entry}
+use Rattle.rules.specs.declared.Strategy.{Strategy}
+use Rattle.rules.specs.declared.LegOrder.{LegOrder}
 use Rattle.rules.specs.declared.State.{State}
 use Rattle.rules.specs.declared.Allocation.{Allocation}
 use Rattle.rules.specs.declared.Allocation.the-variants.{LegsOnly, Shared, Numbered}
 use Rattle.rules.specs.declared.Turn.{Turn}
 use Rattle.rules.specs.declared.Turn.the-variants.{Stop, ByLegs, AtLimit}
-use Rattle.rules.specs.State.{entryAt}
+use Rattle.rules.specs.State.{entryAt, strategyOf}
 use Rattle.rules.specs.Moves.{Moved, still, each}
-use Rattle.rules.specs.Passes.{bestOpposite, opposite, turnAt, turnOf, take, turn}
+use Rattle.rules.specs.Passes.{bestOpposite, opposite, ready, readyNet, turnAt, turnOf, take, turn, pass}
 use Rattle.rules.specs.Valid.{FitEntry}
 use Rattle.rules.proofs.Control.{each-kept, turn-kept, shrinks-kept}
 use Rattle.rules.proofs.Turns.{then-still, opposite-holder}
 use Rattle.records.specs.Done.{Done}
 use Rattle.ranges.specs.Fit.{Fit, fit-entry, fit-done}
+use Rattle.nets.specs.Ready.{netReady}
 
 unfoldable pub stopsAt : Turn → Bool
 stopsAt Stop = true
@@ -35,7 +38,42 @@ turnLevel Stop = 0
 turnLevel ByLegs = 0
 turnLevel (AtLimit level) = level
 
+-- the best limit that a pass looks at, opposite e
+unfoldable pub oppositeIn : Allocation → List Entry → Entry → ℕ
+oppositeIn LegsOnly es e = 0
+oppositeIn Shared es e = bestOpposite es e
+oppositeIn Numbered es e = bestOpposite es e
+
+-- the leg net where the legs may be used and are ready, else 0
+unfoldable pub netIn : Bool → List LegOrder → ℕ → Strategy → ℕ
+netIn legs os side s = pick legs (netReady os side s) 0
+
 -- laws
+
+opposite-in : (way : Allocation) (a : ℕ) (b : State) → opposite way a b ≡ oppositeIn way (b .entries) (entryAt b a)
+unfolding opposite oppositeIn
+opposite-in LegsOnly a b = refl
+opposite-in Shared a b = refl
+opposite-in Numbered a b = refl
+
+pick-not : (t : Bool) (x y : ℕ) → pick (not t) x y ≡ pick t y x
+unfolding pick
+pick-not true x y = refl
+pick-not false x y = refl
+
+net-in : (legs : Bool) (a : ℕ) (b : State) → readyNet legs a b ≡ netIn legs (b .orders) (entryAt b a .side) (strategyOf b (entryAt b a))
+unfolding readyNet ready netIn netReady
+net-in legs a b = ap (λ (x : ℕ). pick legs x 0) (pick-not _ _ _)
+
+-- a turn by what it reads
+pub turn-in : (way : Allocation) (legs : Bool) (a : ℕ) (b : State)
+    → turnAt (entryAt b a) (oppositeIn way (b .entries) (entryAt b a)) (netIn legs (b .orders) (entryAt b a .side) (strategyOf b (entryAt b a))) ≡ turnOf way legs a b
+unfolding turnOf
+turn-in way legs a b = rw (opposite-in, net-in)
+
+pub turn-empty : (e : Entry) (x net : ℕ) → e .units ≡ 0 → Stop ≡ turnAt e x net
+unfolding turnAt
+turn-empty e x net z = sym (pick-true _ _ _ (eq-eqb _ _ z))
 
 best-most : (es : List Entry) (e : Entry) → All FitEntry es → bestOpposite es e ≤ 20_000_000
 best-most es e a = by (eqb (bestOpposite es e) 0) refl
@@ -80,3 +118,11 @@ pass-stops way legs a k i b c h e s =
     let g : stopsAt (turnOf way legs a (each (turn way legs a) i b .state)) ≡ true = rw e at s in
     let q : k ≡ k - i + i = omega arith in
     rw q (idle (turn way legs a) b i (λ j. stop-still way a (each (turn way legs a) i b .state) (turnOf way legs a (each (turn way legs a) i b .state)) g) (k - i))
+
+-- a pass by legs only whose first turn stops
+pub legs-still : (a : ℕ) (b : State) (net : ℕ) → net ≡ netReady (b .orders) (entryAt b a .side) (strategyOf b (entryAt b a)) → stopsAt (turnAt (entryAt b a) 0 net) ≡ true
+    → pass LegsOnly true a b ≡ still b
+unfolding pass each oppositeIn netIn pick
+legs-still a b net e s =
+    let t : turnAt (entryAt b a) 0 net ≡ turnOf LegsOnly true a b = rw e (turn-in LegsOnly true a b) in
+    pass-stops LegsOnly true a (entryAt b a .units) 0 b b (omega arith) refl (rw t at s)

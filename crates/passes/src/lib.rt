@@ -1,21 +1,24 @@
 // Passes: an active entry is filled at the best opposite limits of its strategy, by its legs, or by both.
 ghost use mathlib.Core.Path.{_≡_};
-ghost use Prim.Native.Nat.{_+_, _*_, _-_, _<_, _≤_};
-ghost use lib.ListN.{length, getD};
-ghost use Rattle.rules.specs.Passes.{opposite, legsFirst, turnAt, turnOf, meetLimit, take, pass};
-ghost use Rattle.records.specs.Space.{Wrote, Room};
+ghost use Prim.Native.Nat.{_+_, _-_, _<_, _≤_};
+ghost use Rattle.base.specs.All.{All};
+ghost use Rattle.rules.specs.Valid.{FitOrder};
+ghost use Rattle.rules.specs.Passes.{legsFirst, turnAt, meetLimit, take, pass};
+ghost use Rattle.records.specs.Space.{Room};
 ghost use Rattle.records.specs.Done.{Done};
-ghost use Rattle.ranges.specs.Fit.{Fit};
-ghost use Rattle.passes.specs.Passes.{stopsAt, turnLevel};
+ghost use Rattle.ranges.specs.Fit.{FitLegs, Fit};
+ghost use Rattle.passes.specs.Passes.{stopsAt, turnLevel, oppositeIn, netIn};
 use fills::give_in_turn;
 use fills::give_shared;
 use legging::leg_fill;
-use legging::ready_net;
+use nets::net_ready;
 use quotas::best_opposite;
 use records::After;
 use rules::Allocation;
 use rules::Entry;
+use rules::LegOrder;
 use rules::State;
+use rules::Strategy;
 use rules::Turn;
 use sides::better;
 use sides::meets;
@@ -55,12 +58,10 @@ fn turn_at(e: Entry, x: u32, net: u32) -> Turn
     Turn::Stop
 }
 
-fn opposite(way: Allocation, b: State, a: usize) -> u32
-    requires { ⌜ a < 32 ⌝ }
-    ensures { λ x. ⌜ x ≡ opposite way a b ⌝ }
+// The best limit that a pass looks at, opposite e.
+fn opposite(way: Allocation, es: [Entry; 32], e: Entry) -> u32
+    ensures { λ x. ⌜ x ≡ oppositeIn way es e ⌝ }
 {
-    let e = b.entries[a];
-    let es = b.entries;
     match way {
         Allocation::LegsOnly => 0,
         Allocation::Shared => best_opposite(es, e),
@@ -68,13 +69,34 @@ fn opposite(way: Allocation, b: State, a: usize) -> u32
     }
 }
 
-fn turn_of(way: Allocation, legs: bool, b: State, a: usize) -> Turn
-    requires { ⌜ (a < 32) × Fit b ⌝ }
-    ensures { λ t. ⌜ t ≡ turnOf way legs a b ⌝ }
+// The leg net of a complex party of that side where the legs may be used and are ready, else 0.
+fn ready_net(legs: bool, os: [LegOrder; 32], side: u8, s: Strategy) -> u32
+    requires { ⌜ All FitOrder os × FitLegs s ⌝ }
+    ensures { λ r. ⌜ r ≡ netIn legs os side s ⌝ }
 {
-    let x = opposite(way, b, a);
-    let net = ready_net(legs, b, a);
-    let e = b.entries[a];
+    if legs {
+        return net_ready(os, side, s);
+    }
+    0
+}
+
+// What entry e of strategy s does next among these entries and leg orders.
+fn turn_of(
+    way: Allocation,
+    legs: bool,
+    e: Entry,
+    es: [Entry; 32],
+    os: [LegOrder; 32],
+    s: Strategy,
+) -> Turn
+    requires { ⌜ All FitOrder os × FitLegs s ⌝ }
+    ensures { λ t. ⌜ t ≡ turnAt e (oppositeIn way es e) (netIn legs os (e .side) s) ⌝ }
+{
+    if e.units == 0 {
+        return Turn::Stop;
+    }
+    let x = opposite(way, es, e);
+    let net = ready_net(legs, os, e.side, s);
     turn_at(e, x, net)
 }
 
@@ -113,19 +135,32 @@ fn stops(t: Turn) -> bool
     }
 }
 
+// Whether a pass by legs only of entry e does nothing at the ready leg net that it meets (0: none).
+pub fn legs_idle(e: Entry, net: u32) -> bool
+    ensures { λ r. ⌜ r ≡ stopsAt (turnAt e 0 net) ⌝ }
+{
+    let t = turn_at(e, 0, net);
+    stops(t)
+}
+
 // A pass of entry a: turn after turn, each chosen anew, until one stops. There are no more than it has units.
 pub fn pass(way: Allocation, legs: bool, b: State, a: usize, space: &mut [i32], n: usize) -> After
     requires { ⌜ (a < 32) × Fit b ⌝ }
     requires { ⌜ Room (now space) n (pass way legs a b .records) ⌝ }
     ensures { λ r. ⌜ Done (now (space .entry)) (now (space .exit)) n (r .count) (r .state) (pass way legs a b) ⌝ }
 {
-    let e = b.entries[a];
-    let units = e.units;
     let mut c = b;
+    let e = c.entries[a];
+    let units = e.units;
     let mut m = n;
     let mut i: u32 = 0;
     while i < units {
-        let t = turn_of(way, legs, c, a);
+        let f = c.entries[a];
+        let k = f.strategy as usize;
+        let s = c.strategies[k];
+        let es = c.entries;
+        let os = c.orders;
+        let t = turn_of(way, legs, f, es, os, s);
         if stops(t) {
             return After { state: c, count: m };
         }

@@ -1,7 +1,6 @@
 // Who stands opposite an entry and at what limit, and how a quantity is divided over the holders of one price.
 ghost use mathlib.Core.Path.{_≡_};
-ghost use Prim.Native.Nat.{_+_, _*_, _<_, _≤_, min};
-ghost use lib.ListN.{length, getD};
+ghost use Prim.Native.Nat.{_+_, _*_, _<_, _≤_};
 ghost use Rattle.base.specs.Walks.{sumN, slot};
 ghost use Rattle.rules.specs.Quotas.{inTurn, portion, portionAt, oneOf, share};
 ghost use Rattle.rules.specs.Passes.{opposes, limitWith, bestOpposite, groupOf, within, holding, sizes};

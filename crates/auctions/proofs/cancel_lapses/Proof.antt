@@ -1,15 +1,19 @@
-use Rattle.auctions.specs.Auctions.{fit-cancels}
-use Rattle.records.specs.Done.{Done, each-first, each-next, room-each, done-length}
+use Rattle.auctions.specs.Auctions.{lapsed-none, lapsed-some, fit-cancels}
+use Rattle.records.specs.Done.{Done, each-first, each-next, room-each, done-length, done-still, done-of, room-of}
 use Rattle.rules.specs.Auctions.{cancelLapsed}
 use Rattle.rules.specs.Moves.{each}
-use native.Mathlib.Omega.{arith}
+use Rattle.base.specs.Pick.{told}
 use Prim.Native.Nat.{_≤_, _-_}
 use mathlib.Core.Path.{_≡_}
+use mathlib.Core.Logic.{⊎-elim}
+use borrow.Author.Needs.{needs}
+use native.Mathlib.Omega.{arith}
 use Rattle.auctions.proofs.cancel_lapses.Statement.{statement}
 use Rattle.auctions.proofs.cancel_lapses.Tie as tie
 use Rattle.auctions.proofs.cancel_lapses.Reads as reads
 use Rattle.auctions.proofs.cancel_lapses.Lts as lts
-use Rattle.auctions.proofs.cancel_lapsed.Reads as cancel-lapsed-reads
+use Rattle.auctions.proofs.lapses.Reads as lapses-reads
+use Rattle.fills.proofs.cancel_entry.Reads as cancel-entry-reads
 
 abbrev Inv-loop : tie.InvT-loop
 Inv-loop k space₀ n c₀ m₀ i₀ space c m i = (i ≤ 32) × Done space₀ space n m c (each (cancelLapsed k) i c₀)
@@ -17,31 +21,43 @@ Inv-loop k space₀ n c₀ m₀ i₀ space c m i = (i ≤ 32) × Done space₀ s
 abbrev μ-loop : tie.MeasureT-loop
 μ-loop k space₀ n c₀ m₀ i₀ space c m i = 32 - i
 
--- src/lib.rt:193:5
+-- src/lib.rt:183:5
 loop-holds : tie.Need-loop-holds Inv-loop μ-loop
 loop-holds c = (omega arith, each-first _ _ _ _)
 
--- src/lib.rt:194:13
-cancel-lapsed-requires : tie.Need-cancel-lapsed-requires Inv-loop μ-loop
-cancel-lapsed-requires c κs = ((c .before .loop-test .taken, fit-cancels _ _ _ (c .before .before .before .pre .0) (c .before .before .loop .inv .1)), room-each (cancelLapsed (c .before .before .before .args .k)) 32 _ _ (c .before .before .before .pre .1) (c .before .loop-test .taken) (c .before .before .loop .inv .1))
+-- src/lib.rt:184:17
+mul-e : tie.Need-mul-e Inv-loop μ-loop
+mul-e c = search needs
 
--- src/lib.rt:197:9
+-- src/lib.rt:184:17
+element-copy-out-e : tie.Need-element-copy-out-e Inv-loop μ-loop
+element-copy-out-e c = c .loop-test .taken
+
+-- src/lib.rt:185:12
+lapses-requires : tie.Need-lapses-requires Inv-loop μ-loop
+lapses-requires c κs = search needs
+
+-- src/lib.rt:186:17
+cancel-entry-requires : tie.Need-cancel-entry-requires Inv-loop μ-loop
+cancel-entry-requires c κs = ((c .before .before .before .before .loop-test .taken, fit-cancels _ _ _ (c .before .before .before .before .before .before .pre .0) (c .before .before .before .before .before .loop .inv .1)), room-of (lapsed-some _ _ _ (told (c .before .before .lapses .ensures) (c .before .if1 .taken))) (room-each (cancelLapsed (c .before .before .before .before .before .before .args .k)) 32 _ _ (c .before .before .before .before .before .before .pre .1) (c .before .before .before .before .loop-test .taken) (c .before .before .before .before .before .loop .inv .1)))
+
+-- src/lib.rt:190:9
 add-i : tie.Need-add-i Inv-loop μ-loop
 add-i c = omega arith
 
--- src/lib.rt:193:5
+-- src/lib.rt:183:5
 loop-less : tie.Need-loop-less Inv-loop μ-loop
 loop-less c = omega arith
 
--- src/lib.rt:193:5
+-- src/lib.rt:183:5
 loop-again : tie.Need-loop-again Inv-loop μ-loop
-loop-again c = (omega arith, each-next (cancelLapsed (c .before .before .before .before .before .before .args .k)) _ _ (c .before .before .before .before .before .loop .inv .1) (c .before .before .cancel-lapsed .ensures))
+loop-again c = (omega arith, ⊎-elim (λ w. rw (w .5, w .6, w .7) (each-next (cancelLapsed (c .before .before .before .before .before .args .k)) _ _ (c .before .before .before .before .loop .inv .1) (done-of (lapsed-some _ _ _ (told (c .before .lapses .ensures) (w .0 .taken))) (w .2 .ensures)))) (λ w. rw (w .1, w .2, w .3) (each-next (cancelLapsed (c .before .before .before .before .before .args .k)) _ _ (c .before .before .before .before .loop .inv .1) (done-of (lapsed-none _ _ _ (told (c .before .lapses .ensures) (w .0 .left))) (done-still _ _ _)))) (c .if1 .came))
 
--- src/lib.rt:185:1
+-- src/lib.rt:175:1
 same-length : tie.Need-same-length Inv-loop μ-loop
 same-length c = done-length (c .before .loop .inv .1)
 
--- src/lib.rt:185:1
+-- src/lib.rt:175:1
 returns : tie.Need-returns Inv-loop μ-loop
 returns c = let e : c .before .loop .i ≡ 32 = omega arith in rw e at (c .before .loop .inv .1)
 
@@ -52,7 +68,10 @@ cancel-lapses-spec =
     Inv-loop
     μ-loop
     loop-holds
-    cancel-lapsed-requires
+    mul-e
+    element-copy-out-e
+    lapses-requires
+    cancel-entry-requires
     add-i
     loop-less
     loop-again

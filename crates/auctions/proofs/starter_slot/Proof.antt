@@ -1,5 +1,5 @@
-use Rattle.auctions.specs.Auctions.{Passed, numbered, passed-first, passed-next, passed-here, passed-all}
-use Rattle.rules.specs.Auctions.{starterSlot}
+use Rattle.auctions.specs.Auctions.{Passed, passed-first, passed-next, passed-here, passed-all}
+use Rattle.rules.specs.Auctions.{isNumber, starterSlot}
 use Rattle.base.specs.Pick.{told}
 use Prim.Native.Nat.{_≤_, _-_}
 use borrow.Author.Needs.{needs}
@@ -11,10 +11,10 @@ use Rattle.auctions.proofs.starter_slot.Lts as lts
 use Rattle.auctions.proofs.is_number.Reads as is-number-reads
 
 abbrev Inv-loop : tie.InvT-loop
-Inv-loop k n es i₀ i = (i ≤ 32) × Passed (numbered es k n) i
+Inv-loop k b n i₀ i = (i ≤ 32) × Passed (isNumber b k n) i
 
 abbrev μ-loop : tie.MeasureT-loop
-μ-loop k n es i₀ i = 32 - i
+μ-loop k b n i₀ i = 32 - i
 
 -- src/lib.rt:51:13
 mul-s : tie.Need-mul-s Inv-loop μ-loop
@@ -24,17 +24,17 @@ mul-s c = omega arith
 element-copy-out-s : tie.Need-element-copy-out-s Inv-loop μ-loop
 element-copy-out-s c = omega arith
 
--- src/lib.rt:55:5
+-- src/lib.rt:54:5
 loop-holds : tie.Need-loop-holds Inv-loop μ-loop
 loop-holds c = (omega arith, passed-first _)
 
--- src/lib.rt:56:28
-mul-is-number : tie.Need-mul-is-number Inv-loop μ-loop
-mul-is-number c = omega arith
+-- src/lib.rt:55:17
+mul-e : tie.Need-mul-e Inv-loop μ-loop
+mul-e c = omega arith
 
--- src/lib.rt:56:28
-array-copy-out-is-number : tie.Need-array-copy-out-is-number Inv-loop μ-loop
-array-copy-out-is-number c = omega arith
+-- src/lib.rt:55:17
+element-copy-out-e : tie.Need-element-copy-out-e Inv-loop μ-loop
+element-copy-out-e c = omega arith
 
 -- src/lib.rt:56:12
 is-number-requires : tie.Need-is-number-requires Inv-loop μ-loop
@@ -49,11 +49,11 @@ returns c = passed-here _ _ 32 (c .before .before .before .before .loop .inv .1)
 add-i : tie.Need-add-i Inv-loop μ-loop
 add-i c = omega arith
 
--- src/lib.rt:55:5
+-- src/lib.rt:54:5
 loop-less : tie.Need-loop-less Inv-loop μ-loop
 loop-less c = omega arith
 
--- src/lib.rt:55:5
+-- src/lib.rt:54:5
 loop-again : tie.Need-loop-again Inv-loop μ-loop
 loop-again c = (omega arith, passed-next _ _ (c .before .before .before .before .loop .inv .1) (told (c .before .is-number .ensures) (c .if1 .left)))
 
@@ -71,8 +71,8 @@ starter-slot-spec =
     mul-s
     element-copy-out-s
     loop-holds
-    mul-is-number
-    array-copy-out-is-number
+    mul-e
+    element-copy-out-e
     is-number-requires
     returns
     add-i

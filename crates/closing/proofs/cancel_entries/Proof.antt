@@ -1,7 +1,8 @@
-use Rattle.closing.specs.Closing.{fit-each}
+use mathlib.Core.Logic.{⊎-elim}
+use Rattle.closing.specs.Closing.{fit-each, entry-yes, entry-not}
 use Rattle.rules.proofs.Control.{cancelEntryOf-kept, shrinks-kept}
 use Rattle.rules.specs.Events.{cancelEntryOf}
-use Rattle.records.specs.Done.{Done, each-first, each-next, room-each, done-length, done-of, room-of}
+use Rattle.records.specs.Done.{Done, each-first, each-next, room-each, done-length, done-still, done-of, room-of}
 use Rattle.rules.specs.Moves.{each}
 use borrow.Author.Needs.{needs}
 use native.Mathlib.Omega.{arith}
@@ -11,7 +12,7 @@ use Rattle.closing.proofs.cancel_entries.Statement.{statement}
 use Rattle.closing.proofs.cancel_entries.Tie as tie
 use Rattle.closing.proofs.cancel_entries.Reads as reads
 use Rattle.closing.proofs.cancel_entries.Lts as lts
-use Rattle.closing.proofs.cancel_entry_of.Reads as cancel-entry-of-reads
+use Rattle.fills.proofs.cancel_entry.Reads as cancel-entry-reads
 
 abbrev Inv-loop : tie.InvT-loop
 Inv-loop number space₀ n c₀ m₀ i₀ space c m i = (i ≤ 32) × Done space₀ space n m c (each (cancelEntryOf number) i c₀)
@@ -19,31 +20,39 @@ Inv-loop number space₀ n c₀ m₀ i₀ space c m i = (i ≤ 32) × Done space
 abbrev μ-loop : tie.MeasureT-loop
 μ-loop number space₀ n c₀ m₀ i₀ space c m i = 32 - i
 
--- src/lib.rt:70:5
+-- src/lib.rt:125:5
 loop-holds : tie.Need-loop-holds Inv-loop μ-loop
 loop-holds c = (omega arith, each-first _ _ _ _)
 
--- src/lib.rt:71:13
-cancel-entry-of-requires : tie.Need-cancel-entry-of-requires Inv-loop μ-loop
-cancel-entry-of-requires c κs = ((c .before .loop-test .taken, fit-each (cancelEntryOf (c .before .before .before .args .number)) (cancelEntryOf-kept shrinks-kept (c .before .before .before .args .number)) _ _ (c .before .before .before .pre .0) (c .before .before .loop .inv .1)), room-each (cancelEntryOf (c .before .before .before .args .number)) 32 _ _ (c .before .before .before .pre .1) (c .before .loop-test .taken) (c .before .before .loop .inv .1))
+-- src/lib.rt:126:17
+mul-e : tie.Need-mul-e Inv-loop μ-loop
+mul-e c = search needs
 
--- src/lib.rt:74:9
+-- src/lib.rt:126:17
+element-copy-out-e : tie.Need-element-copy-out-e Inv-loop μ-loop
+element-copy-out-e c = c .loop-test .taken
+
+-- src/lib.rt:128:17
+cancel-entry-requires : tie.Need-cancel-entry-requires Inv-loop μ-loop
+cancel-entry-requires c κs = ((c .before .before .before .before .loop-test .taken, fit-each (cancelEntryOf (c .before .before .before .before .before .before .args .number)) (cancelEntryOf-kept shrinks-kept (c .before .before .before .before .before .before .args .number)) _ _ (c .before .before .before .before .before .before .pre .0) (c .before .before .before .before .before .loop .inv .1)), room-of (entry-yes _ _ _ (c .before .if1 .taken)) (room-each (cancelEntryOf (c .before .before .before .before .before .before .args .number)) 32 _ _ (c .before .before .before .before .before .before .pre .1) (c .before .before .before .before .loop-test .taken) (c .before .before .before .before .before .loop .inv .1)))
+
+-- src/lib.rt:132:9
 add-i : tie.Need-add-i Inv-loop μ-loop
 add-i c = omega arith
 
--- src/lib.rt:70:5
+-- src/lib.rt:125:5
 loop-less : tie.Need-loop-less Inv-loop μ-loop
 loop-less c = omega arith
 
--- src/lib.rt:70:5
+-- src/lib.rt:125:5
 loop-again : tie.Need-loop-again Inv-loop μ-loop
-loop-again c = (omega arith, each-next (cancelEntryOf (c .before .before .before .before .before .before .args .number)) _ _ (c .before .before .before .before .before .loop .inv .1) (c .before .before .cancel-entry-of .ensures))
+loop-again c = (omega arith, ⊎-elim (λ w. rw (w .5, w .6, w .7) (each-next (cancelEntryOf (c .before .before .before .before .before .args .number)) _ _ (c .before .before .before .before .loop .inv .1) (done-of (entry-yes _ _ _ (w .0 .taken)) (w .2 .ensures)))) (λ w. rw (w .1, w .2, w .3) (each-next (cancelEntryOf (c .before .before .before .before .before .args .number)) _ _ (c .before .before .before .before .loop .inv .1) (done-of (entry-not _ _ _ (w .0 .left)) (done-still _ _ _)))) (c .if1 .came))
 
--- src/lib.rt:62:1
+-- src/lib.rt:117:1
 same-length : tie.Need-same-length Inv-loop μ-loop
 same-length c = done-length (c .before .loop .inv .1)
 
--- src/lib.rt:62:1
+-- src/lib.rt:117:1
 returns : tie.Need-returns Inv-loop μ-loop
 returns c = let e : c .before .loop .i ≡ 32 = omega arith in rw e at (c .before .loop .inv .1)
 
@@ -54,7 +63,9 @@ cancel-entries-spec =
     Inv-loop
     μ-loop
     loop-holds
-    cancel-entry-of-requires
+    mul-e
+    element-copy-out-e
+    cancel-entry-requires
     add-i
     loop-less
     loop-again

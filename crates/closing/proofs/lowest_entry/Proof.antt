@@ -1,4 +1,4 @@
-use Rattle.rules.specs.Events.{lowerEntry}
+use Rattle.closing.specs.Closing.{lowerIn}
 use Rattle.base.specs.Walks.{walk, walk-first, walk-next}
 use borrow.Author.Needs.{needs}
 use native.Mathlib.Omega.{arith}
@@ -11,10 +11,10 @@ use Rattle.closing.proofs.lowest_entry.Lts as lts
 use Rattle.closing.proofs.lower_entry.Reads as lower-entry-reads
 
 abbrev Inv-loop : tie.InvT-loop
-Inv-loop b n₀ i₀ n i = (i ≤ 32) × (n ≡ walk (lowerEntry b) 0 i)
+Inv-loop es n₀ i₀ n i = (i ≤ 32) × (n ≡ walk (lowerIn es) 0 i)
 
 abbrev μ-loop : tie.MeasureT-loop
-μ-loop b n₀ i₀ n i = 32 - i
+μ-loop es n₀ i₀ n i = 32 - i
 
 -- src/lib.rt:143:5
 loop-holds : tie.Need-loop-holds Inv-loop μ-loop
@@ -25,8 +25,8 @@ mul-lower-entry : tie.Need-mul-lower-entry Inv-loop μ-loop
 mul-lower-entry c = omega arith
 
 -- src/lib.rt:144:28
-element-copy-out-lower-entry : tie.Need-element-copy-out-lower-entry Inv-loop μ-loop
-element-copy-out-lower-entry c = omega arith
+array-copy-out-lower-entry : tie.Need-array-copy-out-lower-entry Inv-loop μ-loop
+array-copy-out-lower-entry c = omega arith
 
 -- src/lib.rt:144:9
 lower-entry-requires : tie.Need-lower-entry-requires Inv-loop μ-loop
@@ -42,7 +42,7 @@ loop-less c = omega arith
 
 -- src/lib.rt:143:5
 loop-again : tie.Need-loop-again Inv-loop μ-loop
-loop-again c = (omega arith, walk-next (lowerEntry (c .before .before .before .before .args .t1)) _ _ (c .before .before .before .loop .inv .1) (c .lower-entry .ensures))
+loop-again c = (omega arith, walk-next (lowerIn (c .before .before .before .before .args .t1)) _ _ (c .before .before .before .loop .inv .1) (c .lower-entry .ensures))
 
 -- src/lib.rt:138:1
 returns : tie.Need-returns Inv-loop μ-loop
@@ -56,7 +56,7 @@ lowest-entry-spec =
     μ-loop
     loop-holds
     mul-lower-entry
-    element-copy-out-lower-entry
+    array-copy-out-lower-entry
     lower-entry-requires
     add-i
     loop-less

@@ -5,22 +5,14 @@ use Rattle.endings.proofs.holds.Tie as tie
 use Rattle.endings.proofs.holds.Reads as reads
 use Rattle.endings.proofs.holds.Lts as lts
 
--- src/lib.rt:48:13
-mul-t : tie.Need-mul-t
-mul-t c = search needs
-
--- src/lib.rt:48:13
-element-copy-out-t : tie.Need-element-copy-out-t
-element-copy-out-t c = search needs
-
--- src/lib.rt:49:14
+-- src/lib.rt:58:14
 shr-x : tie.Need-shr-x
 shr-x c = search needs
 
--- src/lib.rt:44:1
+-- src/lib.rt:54:1
 returns : tie.Need-returns
 unfolding has
 returns c = search needs
 
 pub holds-spec : {M : Type 1} → statement M
-holds-spec = tie.close (tie.spec mul-t element-copy-out-t shr-x returns)
+holds-spec = tie.close (tie.spec shr-x returns)

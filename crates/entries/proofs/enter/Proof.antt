@@ -1,6 +1,5 @@
 use Rattle.rules.specs.Events.{enter, freeSlot}
 use Rattle.rules.specs.State.{withEntries, withLast}
-use borrow.Author.Needs.{needs}
 use Rattle.entries.proofs.enter.Statement.{statement}
 use Rattle.entries.proofs.enter.Tie as tie
 use Rattle.entries.proofs.enter.Reads as reads

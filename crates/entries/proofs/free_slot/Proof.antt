@@ -4,14 +4,16 @@ use Rattle.entries.proofs.free_slot.Statement.{statement}
 use Rattle.entries.proofs.free_slot.Tie as tie
 use Rattle.entries.proofs.free_slot.Reads as reads
 use Rattle.entries.proofs.free_slot.Lts as lts
-use Rattle.entries.proofs.compact.Reads as compact-reads
+use Rattle.entries.proofs.count.Reads as count-reads
 
-compact-requires : tie.Need-compact-requires
-compact-requires c κs = search needs
+-- src/lib.rt:70:5
+count-requires : tie.Need-count-requires
+count-requires c κs = search needs
 
+-- src/lib.rt:66:1
 returns : tie.Need-returns
 unfolding freeSlot
-returns c = c .compact .ensures .count
+returns c = c .count .ensures
 
 pub free-slot-spec : {M : Type 1} → statement M
-free-slot-spec = tie.close (tie.spec compact-requires returns)
+free-slot-spec = tie.close (tie.spec count-requires returns)

@@ -1,6 +1,5 @@
 use Rattle.rules.specs.Refusals.{isOrder}
 use Rattle.base.specs.Pick.{tests, told}
-use native.Mathlib.Omega.{arith}
 use borrow.Author.Needs.{needs}
 use Rattle.entries.proofs.is_order.Statement.{statement}
 use Rattle.entries.proofs.is_order.Tie as tie

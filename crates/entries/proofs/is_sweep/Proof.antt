@@ -1,6 +1,5 @@
 use Rattle.rules.specs.Refusals.{isSweep}
 use Rattle.base.specs.Pick.{tests, told}
-use native.Mathlib.Omega.{arith}
 use borrow.Author.Needs.{needs}
 use Rattle.entries.proofs.is_sweep.Statement.{statement}
 use Rattle.entries.proofs.is_sweep.Tie as tie

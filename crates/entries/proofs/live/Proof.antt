@@ -1,7 +1,5 @@
 use Rattle.rules.specs.Events.{live}
 use borrow.Author.Tests.{eq-eqb, ne-eqb}
-use borrow.Author.Needs.{needs}
-use native.Mathlib.Omega.{arith}
 use Rattle.entries.proofs.live.Statement.{statement}
 use Rattle.entries.proofs.live.Tie as tie
 use Rattle.entries.proofs.live.Reads as reads

@@ -1,6 +1,5 @@
 use Rattle.rules.specs.Events.{sameSweep}
 use Rattle.base.specs.Pick.{tests, told}
-use native.Mathlib.Omega.{arith}
 use borrow.Author.Needs.{needs}
 use Rattle.entries.proofs.same_sweep.Statement.{statement}
 use Rattle.entries.proofs.same_sweep.Tie as tie

@@ -1,16 +1,23 @@
-use mathlib.Core.Path.{_≡_}
-use Prim.Native.Nat.{_≤_, _-_}
-use native.Mathlib.Omega.{arith}
-use Rattle.rules.specs.Moves.{each}
-use Rattle.rules.specs.Passes.{give, giveAt}
-use Rattle.records.specs.Done.{Done, each-first, each-next, room-each, done-length}
-use Rattle.ranges.specs.Fit.{fit-done}
 use Rattle.fills.specs.Gives.{slots-shrink}
+use Rattle.fills.specs.Fills.{filled, whole-some}
+use Rattle.ranges.specs.Fit.{fit-done, fit-entry, fit-legs}
+use Rattle.records.specs.Done.{Done, each-first, each-next, room-each, done-length, done-still, done-of, room-of}
+use Rattle.rules.specs.State.{withEntries}
+use Rattle.rules.specs.Fills.{cut}
+use Rattle.rules.specs.Passes.{give, giveAt}
+use Rattle.rules.specs.Moves.{each}
+use borrow.Author.Needs.{needs}
+use native.Mathlib.Omega.{arith}
+use Prim.Native.Nat.{_≤_, _-_}
+use mathlib.Core.Path.{_≡_}
+use mathlib.Core.Logic.{⊎-elim}
+use Rattle.rules.proofs.Gives.{whole-none}
 use Rattle.fills.proofs.give.Statement.{statement}
 use Rattle.fills.proofs.give.Tie as tie
 use Rattle.fills.proofs.give.Reads as reads
 use Rattle.fills.proofs.give.Lts as lts
-use Rattle.fills.proofs.whole_fill.Reads as whole-fill-reads
+use Rattle.fills.proofs.cut_entry.Reads as cut-entry-reads
+use Rattle.fills.proofs.fill_records.Reads as fill-records-reads
 
 abbrev Inv-loop : tie.InvT-loop
 Inv-loop a level space₀ n qs c₀ m₀ i₀ space c m i = (i ≤ 32) × Done space₀ space n m c (each (giveAt a level qs) i c₀)
@@ -18,36 +25,106 @@ Inv-loop a level space₀ n qs c₀ m₀ i₀ space c m i = (i ≤ 32) × Done s
 abbrev μ-loop : tie.MeasureT-loop
 μ-loop a level space₀ n qs c₀ m₀ i₀ space c m i = 32 - i
 
+-- src/lib.rt:178:5
 loop-holds : tie.Need-loop-holds Inv-loop μ-loop
 loop-holds c = (omega arith, each-first _ _ _ _)
 
-mul-whole-fill : tie.Need-mul-whole-fill Inv-loop μ-loop
-mul-whole-fill c = omega arith
+-- src/lib.rt:179:17
+mul-q : tie.Need-mul-q Inv-loop μ-loop
+mul-q c = search needs
 
-array-read-whole-fill : tie.Need-array-read-whole-fill Inv-loop μ-loop
-array-read-whole-fill c = omega arith
+-- src/lib.rt:179:17
+array-read-q : tie.Need-array-read-q Inv-loop μ-loop
+array-read-q c = omega arith
 
-whole-fill-requires : tie.Need-whole-fill-requires Inv-loop μ-loop
-unfolding give
-whole-fill-requires c κs = let s = c .before .before .before .args in
-    let p = c .before .before .before .pre in
-    let l = c .before .before .loop in
-    let t = c .before .loop-test .taken in
+-- src/lib.rt:181:21
+mul-e : tie.Need-mul-e Inv-loop μ-loop
+mul-e c = search needs
+
+-- src/lib.rt:181:21
+element-copy-out-e : tie.Need-element-copy-out-e Inv-loop μ-loop
+element-copy-out-e c = c .before .before .before .pre .0 .0
+
+-- src/lib.rt:182:21
+mul-f : tie.Need-mul-f Inv-loop μ-loop
+mul-f c = search needs
+
+-- src/lib.rt:182:21
+element-copy-out-f : tie.Need-element-copy-out-f Inv-loop μ-loop
+element-copy-out-f c = c .before .before .loop-test .taken
+
+-- src/lib.rt:183:21
+cast-k : tie.Need-cast-k Inv-loop μ-loop
+cast-k c = search needs
+
+-- src/lib.rt:184:21
+mul-s : tie.Need-mul-s Inv-loop μ-loop
+mul-s c = search needs
+
+-- src/lib.rt:184:21
+element-copy-out-s : tie.Need-element-copy-out-s Inv-loop μ-loop
+element-copy-out-s c = fit-entry (fit-done (c .before .before .before .before .before .loop .inv .1) (slots-shrink (c .before .before .before .before .before .before .args .a) (c .before .before .before .before .before .before .args .level) (c .before .before .before .before .before .before .args .t4) (c .before .before .before .before .before .loop .i) _) (c .before .before .before .before .before .before .pre .0 .1) .entries) (c .before .before .before .before .before .before .args .a) .strategy
+
+-- src/lib.rt:185:13
+fill-records-requires : tie.Need-fill-records-requires Inv-loop μ-loop
+unfolding filled give
+fill-records-requires c κs = let p = c .before .before .before .before .before .before .before .before .pre in
+    let s = c .before .before .before .before .before .before .before .before .args in
+    let l = c .before .before .before .before .before .before .before .loop in
+    let t = c .before .before .before .before .before .before .loop-test .taken in
     let fit = fit-done (l .inv .1) (slots-shrink (s .a) (s .level) (s .t4) (l .i) _) (p .0 .1) in
-    ((p .0 .0, t, fit, p .0 .2, p .0 .3 .at _), room-each _ 32 _ _ (p .1) t (l .inv .1))
+    ((fit-entry (fit .entries) _, fit-entry (fit .entries) _, fit-legs (fit .strategies) _, p .0 .3 .at _, p .0 .2), room-of (whole-some _ _ _ _ _ (c .before .before .before .before .before .if1 .taken)) (room-each _ 32 _ _ (p .1) t (l .inv .1)))
 
+-- src/lib.rt:186:28
+cut-entry-requires : tie.Need-cut-entry-requires Inv-loop μ-loop
+cut-entry-requires c κs = search needs
+
+-- src/lib.rt:186:13
+mul-g : tie.Need-mul-g Inv-loop μ-loop
+mul-g c = search needs
+
+-- src/lib.rt:186:13
+element-set-from-g : tie.Need-element-set-from-g Inv-loop μ-loop
+element-set-from-g c = c .before .before .before .before .before .before .before .before .before .before .before .pre .0 .0
+
+-- src/lib.rt:187:21
+mul-g-2 : tie.Need-mul-g-2 Inv-loop μ-loop
+mul-g-2 c = search needs
+
+-- src/lib.rt:187:21
+element-copy-out-g : tie.Need-element-copy-out-g Inv-loop μ-loop
+element-copy-out-g c = c .before .before .before .before .before .before .before .before .before .loop-test .taken
+
+-- src/lib.rt:188:28
+cut-entry-requires-2 : tie.Need-cut-entry-requires-2 Inv-loop μ-loop
+cut-entry-requires-2 c κs = search needs
+
+-- src/lib.rt:188:13
+mul-t22 : tie.Need-mul-t22 Inv-loop μ-loop
+mul-t22 c = search needs
+
+-- src/lib.rt:188:13
+element-set-from-c : tie.Need-element-set-from-c Inv-loop μ-loop
+element-set-from-c c = c .before .before .before .before .before .before .before .before .before .before .before .loop-test .taken
+
+-- src/lib.rt:190:9
 add-i : tie.Need-add-i Inv-loop μ-loop
 add-i c = omega arith
 
+-- src/lib.rt:178:5
 loop-less : tie.Need-loop-less Inv-loop μ-loop
 loop-less c = omega arith
 
+-- src/lib.rt:178:5
 loop-again : tie.Need-loop-again Inv-loop μ-loop
-loop-again c = (omega arith, each-next _ _ _ (c .before .before .before .before .before .loop .inv .1) (c .before .before .whole-fill .ensures))
+unfolding filled cut withEntries
+loop-again c = (omega arith, ⊎-elim (λ w. rw (w .11, w .12, w .13) (each-next (giveAt (c .before .before .before .args .a) (c .before .before .before .args .level) (c .before .before .before .args .t4)) _ _ (c .before .before .loop .inv .1) (done-of (whole-some _ _ _ _ _ (w .0 .taken)) (record { wrote = w .6 .ensures; state = rw (w .10 .ensures, w .8 .ensures) })))) (λ w. rw (w .1, w .2, w .3) (each-next (giveAt (c .before .before .before .args .a) (c .before .before .before .args .level) (c .before .before .before .args .t4)) _ _ (c .before .before .loop .inv .1) (done-of (whole-none _ _ _ _ _ (w .0 .left)) (done-still _ _ _)))) (c .if1 .came))
 
+-- src/lib.rt:170:1
 same-length : tie.Need-same-length Inv-loop μ-loop
 same-length c = done-length (c .before .loop .inv .1)
 
+-- src/lib.rt:170:1
 returns : tie.Need-returns Inv-loop μ-loop
 unfolding give
 returns c = let e : c .before .loop .i ≡ 32 = omega arith in rw e at (c .before .loop .inv .1)
@@ -59,9 +136,24 @@ give-spec =
     Inv-loop
     μ-loop
     loop-holds
-    mul-whole-fill
-    array-read-whole-fill
-    whole-fill-requires
+    mul-q
+    array-read-q
+    mul-e
+    element-copy-out-e
+    mul-f
+    element-copy-out-f
+    cast-k
+    mul-s
+    element-copy-out-s
+    fill-records-requires
+    cut-entry-requires
+    mul-g
+    element-set-from-g
+    mul-g-2
+    element-copy-out-g
+    cut-entry-requires-2
+    mul-t22
+    element-set-from-c
     add-i
     loop-less
     loop-again

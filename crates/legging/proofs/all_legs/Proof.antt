@@ -3,7 +3,6 @@ use Rattle.ranges.specs.Fit.{fit-leg}
 use Rattle.records.specs.Space.{wrote-length, room-row}
 use Prim.Native.Nat.{_≤_, _-_}
 use mathlib.Core.Path.{_≡_}
-use borrow.Author.Needs.{needs}
 use native.Mathlib.Omega.{arith}
 use Rattle.legging.proofs.all_legs.Statement.{statement}
 use Rattle.legging.proofs.all_legs.Tie as tie

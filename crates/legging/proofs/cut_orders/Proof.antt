@@ -3,7 +3,7 @@ use Rattle.rules.specs.State.{noOrder}
 use Rattle.base.specs.Walks.{seam, seam-first, seam-next, seam-last}
 use lib.ListN.{length}
 use Prim.Native.Nat.{_≤_, _-_}
-use mathlib.Core.Path.{_≡_, sym, _∙_, ap}
+use mathlib.Core.Path.{_≡_, sym}
 use borrow.Author.Needs.{needs}
 use native.Mathlib.Omega.{arith}
 use Rattle.legging.proofs.cut_orders.Statement.{statement}

@@ -4,7 +4,6 @@ use Rattle.base.specs.Walks.{joinN}
 use Rattle.records.specs.Space.{Wrote, wrote-first, wrote-next, wrote-length, room-row}
 use Prim.Native.Nat.{_≤_, _-_}
 use mathlib.Core.Path.{_≡_}
-use borrow.Author.Needs.{needs}
 use native.Mathlib.Omega.{arith}
 use Rattle.legging.proofs.order_rows.Statement.{statement}
 use Rattle.legging.proofs.order_rows.Tie as tie

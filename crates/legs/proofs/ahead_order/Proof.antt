@@ -1,6 +1,5 @@
-use Rattle.legs.specs.Search.{ahead-not, ahead-first, ahead-better}
 use Rattle.base.specs.Pick.{told}
-use native.Mathlib.Omega.{arith}
+use Rattle.legs.specs.Search.{ahead-not, ahead-first, ahead-better}
 use borrow.Author.Needs.{needs}
 use Rattle.legs.proofs.ahead_order.Statement.{statement}
 use Rattle.legs.proofs.ahead_order.Tie as tie
@@ -9,52 +8,26 @@ use Rattle.legs.proofs.ahead_order.Lts as lts
 use Rattle.legs.proofs.meets_order.Reads as meets-order-reads
 use Rattle.sides.proofs.better.Reads as better-reads
 
--- src/lib.rt:109:13
-mul-p : tie.Need-mul-p
-mul-p c = omega arith
-
--- src/lib.rt:109:13
-element-copy-out-p : tie.Need-element-copy-out-p
-element-copy-out-p c = omega arith
-
--- src/lib.rt:110:8
+-- src/lib.rt:103:8
 meets-order-requires : tie.Need-meets-order-requires
 meets-order-requires c κs = search needs
 
--- src/lib.rt:112:13
+-- src/lib.rt:105:13
 returns : tie.Need-returns
 returns c = ahead-first _ _ _ _ (told (c .before .before .meets-order .ensures) (c .before .if1 .taken)) (c .if2 .taken)
 
--- src/lib.rt:114:17
-mul-q : tie.Need-mul-q
-mul-q c = omega arith
-
--- src/lib.rt:114:17
-element-copy-out-q : tie.Need-element-copy-out-q
-element-copy-out-q c = omega arith
-
--- src/lib.rt:115:9
+-- src/lib.rt:107:9
 better-requires : tie.Need-better-requires
 better-requires c κs = search needs
 
--- src/lib.rt:115:9
+-- src/lib.rt:107:9
 returns-2 : tie.Need-returns-2
-returns-2 c = ahead-better _ _ _ _ (told (c .before .before .before .before .meets-order .ensures) (c .before .before .before .if1 .taken)) (c .before .before .if2 .left) (c .better .ensures)
+returns-2 c = ahead-better _ _ _ _ (told (c .before .before .before .meets-order .ensures) (c .before .before .if1 .taken)) (c .before .if2 .left) (c .better .ensures)
 
--- src/lib.rt:105:1
+-- src/lib.rt:100:1
 returns-3 : tie.Need-returns-3
 returns-3 c = ahead-not _ _ _ _ (told (c .before .meets-order .ensures) (c .if1 .left))
 
 pub ahead-order-spec : {M : Type 1} → statement M
 ahead-order-spec =
-    tie.close
-    (tie.spec
-    mul-p
-    element-copy-out-p
-    meets-order-requires
-    returns
-    mul-q
-    element-copy-out-q
-    better-requires
-    returns-2
-    returns-3)
+    tie.close (tie.spec meets-order-requires returns better-requires returns-2 returns-3)

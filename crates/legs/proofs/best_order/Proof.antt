@@ -1,45 +1,55 @@
-use Rattle.legs.specs.Search.{best-order-le}
-use Rattle.rules.specs.Events.{bestOrder, bestOrderStep}
-use Rattle.base.specs.Walks.{walk, walk-first, walk-next}
-use mathlib.Core.Path.{_≡_}
-use Prim.Native.Nat.{_≤_, _-_}
 use native.Mathlib.Omega.{arith}
+use borrow.Author.Needs.{needs}
+use Prim.Native.Nat.{_≤_, _-_}
+use mathlib.Core.Path.{_≡_}
+use mathlib.Core.Logic.{⊎-elim}
+use Rattle.base.specs.Pick.{told}
+use Rattle.rules.specs.Events.{bestOrder}
+use Rattle.legs.specs.Search.{Leading, leading-first, leading-here, leading-past}
 use Rattle.legs.proofs.best_order.Statement.{statement}
 use Rattle.legs.proofs.best_order.Tie as tie
 use Rattle.legs.proofs.best_order.Reads as reads
 use Rattle.legs.proofs.best_order.Lts as lts
-use Rattle.legs.proofs.best_order_with.Reads as best-order-with-reads
+use Rattle.legs.proofs.ahead_order.Reads as ahead-order-reads
 
 abbrev Inv-loop : tie.InvT-loop
-Inv-loop b o best₀ i₀ best i = (i ≤ 32) × (best ≡ walk (bestOrderStep b o) 32 i)
+Inv-loop o b best₀ price₀ i₀ best price i = (i ≤ 32) × Leading b o i best price
 
 abbrev μ-loop : tie.MeasureT-loop
-μ-loop b o best₀ i₀ best i = 32 - i
+μ-loop o b best₀ price₀ i₀ best price i = 32 - i
 
--- src/lib.rt:136:5
+-- src/lib.rt:119:5
 loop-holds : tie.Need-loop-holds Inv-loop μ-loop
-loop-holds c = (omega arith, walk-first _ _)
+loop-holds c = (omega arith, leading-first _ _)
 
--- src/lib.rt:137:9
-best-order-with-requires : tie.Need-best-order-with-requires Inv-loop μ-loop
-best-order-with-requires c κs = (c .loop-test .taken, rw (c .before .loop .inv .1) (best-order-le _ _ _ (c .before .loop .inv .0)))
+-- src/lib.rt:120:17
+mul-p : tie.Need-mul-p Inv-loop μ-loop
+mul-p c = omega arith
 
--- src/lib.rt:138:9
+-- src/lib.rt:120:17
+element-copy-out-p : tie.Need-element-copy-out-p Inv-loop μ-loop
+element-copy-out-p c = omega arith
+
+-- src/lib.rt:121:12
+ahead-order-requires : tie.Need-ahead-order-requires Inv-loop μ-loop
+ahead-order-requires c κs = search needs
+
+-- src/lib.rt:125:9
 add-i : tie.Need-add-i Inv-loop μ-loop
 add-i c = omega arith
 
--- src/lib.rt:136:5
+-- src/lib.rt:119:5
 loop-less : tie.Need-loop-less Inv-loop μ-loop
 loop-less c = omega arith
 
--- src/lib.rt:136:5
+-- src/lib.rt:119:5
 loop-again : tie.Need-loop-again Inv-loop μ-loop
-loop-again c = (omega arith, walk-next _ _ _ (c .before .before .loop .inv .1) (c .best-order-with .ensures))
+loop-again c = (omega arith, ⊎-elim (λ w. rw (w .1, w .2) (leading-here _ _ _ (c .before .before .before .before .loop .inv .1) (told (c .before .ahead-order .ensures) (w .0 .taken)))) (λ w. rw (w .1, w .2) (leading-past _ _ _ (c .before .before .before .before .loop .inv .1) (told (c .before .ahead-order .ensures) (w .0 .left)))) (c .if1 .came))
 
--- src/lib.rt:131:1
+-- src/lib.rt:113:1
 returns : tie.Need-returns Inv-loop μ-loop
 unfolding bestOrder
-returns c = let e : c .before .loop .i ≡ 32 = omega arith in rw e at (c .before .loop .inv .1)
+returns c = let e : c .before .loop .i ≡ 32 = omega arith in rw e at (c .before .loop .inv .1 .slot)
 
 pub best-order-spec : {M : Type 1} → statement M
 best-order-spec =
@@ -48,7 +58,9 @@ best-order-spec =
     Inv-loop
     μ-loop
     loop-holds
-    best-order-with-requires
+    mul-p
+    element-copy-out-p
+    ahead-order-requires
     add-i
     loop-less
     loop-again

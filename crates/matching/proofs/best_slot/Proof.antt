@@ -1,38 +1,57 @@
-use mathlib.Core.Path.{_≡_}
-use Prim.Native.Nat.{_≤_, _-_}
-use native.Mathlib.Omega.{arith}
+use Rattle.matching.specs.Matching.{bestNext, bestOf, level-none, best-yes, best-not}
+use Rattle.rules.specs.State.{noEntry}
 use Rattle.base.specs.Walks.{walk, walk-first, walk-next}
-use Rattle.rules.specs.Auctions.{bestStep, bestSlot}
-use Rattle.matching.specs.Matching.{best-most}
+use Rattle.base.specs.Pick.{told}
+use lib.ListN.{getD, length}
+use Prim.Native.Nat.{_≤_, _-_}
+use mathlib.Core.Path.{_≡_, refl}
+use mathlib.Core.Logic.{⊎-elim}
+use borrow.Author.Needs.{needs}
+use native.Mathlib.Omega.{arith}
 use Rattle.matching.proofs.best_slot.Statement.{statement}
 use Rattle.matching.proofs.best_slot.Tie as tie
 use Rattle.matching.proofs.best_slot.Reads as reads
 use Rattle.matching.proofs.best_slot.Lts as lts
+use Rattle.matching.proofs.ahead.Reads as ahead-reads
 
 abbrev Inv-loop : tie.InvT-loop
-Inv-loop b k side best₀ i₀ best i = (i ≤ 32) × (best ≤ 32) × (best ≡ walk (bestStep b k side) 32 i)
+Inv-loop k side es best₀ level₀ i₀ best level i = (i ≤ 32) × (best ≡ walk (bestNext es k side) 32 i) × (level ≡ getD es best noEntry .level)
 
 abbrev μ-loop : tie.MeasureT-loop
-μ-loop b k side best₀ i₀ best i = 32 - i
+μ-loop k side es best₀ level₀ i₀ best level i = 32 - i
 
+-- src/lib.rt:133:5
 loop-holds : tie.Need-loop-holds Inv-loop μ-loop
-loop-holds c = (omega arith, omega arith, walk-first _ _)
+loop-holds c = (omega arith, walk-first _ _, let n : length (c .args .t1) ≡ 32 = search needs in level-none (c .args .t1) n)
 
-best-with-requires : tie.Need-best-with-requires Inv-loop μ-loop
-best-with-requires c κs = (c .loop-test .taken, c .before .loop .inv .1)
+-- src/lib.rt:134:17
+mul-e : tie.Need-mul-e Inv-loop μ-loop
+mul-e c = omega arith
 
+-- src/lib.rt:134:17
+array-copy-out-e : tie.Need-array-copy-out-e Inv-loop μ-loop
+array-copy-out-e c = omega arith
+
+-- src/lib.rt:135:12
+ahead-requires : tie.Need-ahead-requires Inv-loop μ-loop
+ahead-requires c κs = search needs
+
+-- src/lib.rt:139:9
 add-i : tie.Need-add-i Inv-loop μ-loop
 add-i c = omega arith
 
+-- src/lib.rt:133:5
 loop-less : tie.Need-loop-less Inv-loop μ-loop
 loop-less c = omega arith
 
+-- src/lib.rt:133:5
 loop-again : tie.Need-loop-again Inv-loop μ-loop
-loop-again c = (omega arith, rw (c .best-with .ensures) (best-most _ _ _ _ _ (c .before .loop-test .taken) (c .before .before .loop .inv .1)), walk-next _ _ _ (c .before .before .loop .inv .2) (c .best-with .ensures))
+loop-again c = ⊎-elim (λ w. rw (w .1, w .2) (omega arith, walk-next _ _ _ (c .before .before .before .before .loop .inv .1) (best-yes (c .before .before .before .before .before .args .t1) _ _ _ (c .before .before .before .before .loop .best) (c .before .before .before .before .loop .inv .2) (told (c .before .ahead .ensures) (w .0 .taken))), refl)) (λ w. rw (w .1, w .2) (omega arith, walk-next _ _ _ (c .before .before .before .before .loop .inv .1) (best-not (c .before .before .before .before .before .args .t1) _ _ _ (c .before .before .before .before .loop .best) (c .before .before .before .before .loop .inv .2) (told (c .before .ahead .ensures) (w .0 .left))), c .before .before .before .before .loop .inv .2)) (c .if1 .came)
 
+-- src/lib.rt:127:1
 returns : tie.Need-returns Inv-loop μ-loop
-unfolding bestSlot
-returns c = let e : c .before .loop .i ≡ 32 = omega arith in rw e at (c .before .loop .inv .2)
+unfolding bestOf
+returns c = let e : c .before .loop .i ≡ 32 = omega arith in rw e at (c .before .loop .inv .1)
 
 pub best-slot-spec : {M : Type 1} → statement M
 best-slot-spec =
@@ -41,7 +60,9 @@ best-slot-spec =
     Inv-loop
     μ-loop
     loop-holds
-    best-with-requires
+    mul-e
+    array-copy-out-e
+    ahead-requires
     add-i
     loop-less
     loop-again

@@ -1,14 +1,19 @@
-use mathlib.Core.Path.{_≡_}
-use Prim.Native.Nat.{_≤_, _-_}
-use native.Mathlib.Omega.{arith}
-use Rattle.rules.specs.Moves.{each}
-use Rattle.records.specs.Done.{Done, each-first, each-next, room-each, done-length}
+use Rattle.matching.specs.Matching.{legs-not, legs-yes, fit-passes}
+use Rattle.records.specs.Done.{Done, each-first, each-next, room-each, done-length, done-still, done-of, room-of}
 use Rattle.rules.specs.Auctions.{legPass}
-use Rattle.matching.specs.Matching.{fit-passes}
+use Rattle.rules.specs.Moves.{each}
+use Rattle.base.specs.Pick.{told}
+use Prim.Native.Nat.{_≤_, _-_}
+use mathlib.Core.Path.{_≡_}
+use mathlib.Core.Logic.{⊎-elim}
+use borrow.Author.Needs.{needs}
+use native.Mathlib.Omega.{arith}
 use Rattle.matching.proofs.leg_passes_of.Statement.{statement}
 use Rattle.matching.proofs.leg_passes_of.Tie as tie
 use Rattle.matching.proofs.leg_passes_of.Reads as reads
 use Rattle.matching.proofs.leg_passes_of.Lts as lts
+use Rattle.matching.proofs.day_order.Reads as day-order-reads
+use Rattle.passes.proofs.pass.Reads as pass-reads
 
 abbrev Inv-loop : tie.InvT-loop
 Inv-loop k space₀ n c₀ m₀ i₀ space c m i = (i ≤ 32) × Done space₀ space n m c (each (legPass k) i c₀)
@@ -16,24 +21,43 @@ Inv-loop k space₀ n c₀ m₀ i₀ space c m i = (i ≤ 32) × Done space₀ s
 abbrev μ-loop : tie.MeasureT-loop
 μ-loop k space₀ n c₀ m₀ i₀ space c m i = 32 - i
 
+-- src/lib.rt:76:5
 loop-holds : tie.Need-loop-holds Inv-loop μ-loop
 loop-holds c = (omega arith, each-first _ _ _ _)
 
-leg-pass-requires : tie.Need-leg-pass-requires Inv-loop μ-loop
-leg-pass-requires c κs = ((c .before .loop-test .taken, fit-passes _ _ _ (c .before .before .before .pre .0) (c .before .before .loop .inv .1)), room-each (legPass (c .before .before .before .args .k)) 32 _ _ (c .before .before .before .pre .1) (c .before .loop-test .taken) (c .before .before .loop .inv .1))
+-- src/lib.rt:77:17
+mul-e : tie.Need-mul-e Inv-loop μ-loop
+mul-e c = search needs
 
+-- src/lib.rt:77:17
+element-copy-out-e : tie.Need-element-copy-out-e Inv-loop μ-loop
+element-copy-out-e c = c .loop-test .taken
+
+-- src/lib.rt:78:12
+day-order-requires : tie.Need-day-order-requires Inv-loop μ-loop
+day-order-requires c κs = search needs
+
+-- src/lib.rt:79:17
+pass-requires : tie.Need-pass-requires Inv-loop μ-loop
+pass-requires c κs = ((c .before .before .before .before .loop-test .taken, fit-passes _ _ _ (c .before .before .before .before .before .before .pre .0) (c .before .before .before .before .before .loop .inv .1)), room-of (legs-yes _ _ _ (told (c .before .before .day-order .ensures) (c .before .if1 .taken))) (room-each (legPass (c .before .before .before .before .before .before .args .k)) 32 _ _ (c .before .before .before .before .before .before .pre .1) (c .before .before .before .before .loop-test .taken) (c .before .before .before .before .before .loop .inv .1)))
+
+-- src/lib.rt:83:9
 add-i : tie.Need-add-i Inv-loop μ-loop
 add-i c = omega arith
 
+-- src/lib.rt:76:5
 loop-less : tie.Need-loop-less Inv-loop μ-loop
 loop-less c = omega arith
 
+-- src/lib.rt:76:5
 loop-again : tie.Need-loop-again Inv-loop μ-loop
-loop-again c = (omega arith, each-next (legPass (c .before .before .before .before .before .before .args .k)) _ _ (c .before .before .before .before .before .loop .inv .1) (c .before .before .leg-pass .ensures))
+loop-again c = (omega arith, ⊎-elim (λ w. rw (w .5, w .6, w .7) (each-next (legPass (c .before .before .before .before .before .args .k)) _ _ (c .before .before .before .before .loop .inv .1) (done-of (legs-yes _ _ _ (told (c .before .day-order .ensures) (w .0 .taken))) (w .2 .ensures)))) (λ w. rw (w .1, w .2, w .3) (each-next (legPass (c .before .before .before .before .before .args .k)) _ _ (c .before .before .before .before .loop .inv .1) (done-of (legs-not _ _ _ (told (c .before .day-order .ensures) (w .0 .left))) (done-still _ _ _)))) (c .if1 .came))
 
+-- src/lib.rt:68:1
 same-length : tie.Need-same-length Inv-loop μ-loop
 same-length c = done-length (c .before .loop .inv .1)
 
+-- src/lib.rt:68:1
 returns : tie.Need-returns Inv-loop μ-loop
 returns c = let e : c .before .loop .i ≡ 32 = omega arith in rw e at (c .before .loop .inv .1)
 
@@ -44,7 +68,10 @@ leg-passes-of-spec =
     Inv-loop
     μ-loop
     loop-holds
-    leg-pass-requires
+    mul-e
+    element-copy-out-e
+    day-order-requires
+    pass-requires
     add-i
     loop-less
     loop-again

@@ -1,15 +1,19 @@
-use mathlib.Core.Path.{_≡_}
-use Prim.Native.Nat.{_≤_, _-_}
-use native.Mathlib.Omega.{arith}
-use Rattle.rules.specs.Moves.{each}
-use Rattle.records.specs.Done.{Done, each-first, each-next, room-each, done-length}
+use Rattle.matching.specs.Matching.{meet-slots, match-none, match-some, match-stops, fit-matches}
+use Rattle.records.specs.Done.{Done, each-first, each-next, room-each, done-length, done-of, room-of}
 use Rattle.rules.specs.Auctions.{matchOnce, matchAll}
-use Rattle.records.specs.Done.{done-of, room-of}
-use Rattle.matching.specs.Matching.{match-turn, fit-matches}
+use Rattle.rules.specs.Moves.{each}
+use Rattle.base.specs.Pick.{told}
+use Prim.Native.Nat.{_≤_, _-_}
+use mathlib.Core.Path.{_≡_}
+use borrow.Author.Needs.{needs}
+use native.Mathlib.Omega.{arith}
 use Rattle.matching.proofs.match_all.Statement.{statement}
 use Rattle.matching.proofs.match_all.Tie as tie
 use Rattle.matching.proofs.match_all.Reads as reads
 use Rattle.matching.proofs.match_all.Lts as lts
+use Rattle.matching.proofs.best_slot.Reads as best-slot-reads
+use Rattle.matching.proofs.crossed.Reads as crossed-reads
+use Rattle.matching.proofs.match_once.Reads as match-once-reads
 
 abbrev Inv-loop : tie.InvT-loop
 Inv-loop k space₀ n c₀ m₀ i₀ space c m i = (i ≤ 32) × Done space₀ space n m c (each (matchOnce k) i c₀)
@@ -17,25 +21,52 @@ Inv-loop k space₀ n c₀ m₀ i₀ space c m i = (i ≤ 32) × Done space₀ s
 abbrev μ-loop : tie.MeasureT-loop
 μ-loop k space₀ n c₀ m₀ i₀ space c m i = 32 - i
 
+-- src/lib.rt:184:5
 loop-holds : tie.Need-loop-holds Inv-loop μ-loop
 loop-holds c = (omega arith, each-first _ _ _ _)
 
+-- src/lib.rt:186:13
+best-slot-requires : tie.Need-best-slot-requires Inv-loop μ-loop
+best-slot-requires c κs = search needs
+
+-- src/lib.rt:187:13
+best-slot-requires-2 : tie.Need-best-slot-requires-2 Inv-loop μ-loop
+best-slot-requires-2 c κs = search needs
+
+-- src/lib.rt:188:12
+crossed-requires : tie.Need-crossed-requires Inv-loop μ-loop
+crossed-requires c κs = search needs
+
+-- src/lib.rt:189:17
 match-once-requires : tie.Need-match-once-requires Inv-loop μ-loop
 unfolding matchAll
-match-once-requires c κs = (fit-matches _ _ _ (c .before .before .before .pre .0) (c .before .before .loop .inv .1), room-of (match-turn _ _ _) (room-each (matchOnce (c .before .before .before .args .k)) 32 _ _ (c .before .before .before .pre .1) (c .before .loop-test .taken) (c .before .before .loop .inv .1)))
+match-once-requires c κs = let s = meet-slots _ _ _ (told (c .before .before .crossed .ensures) (c .before .if1 .taken)) in ((s .0, s .1, fit-matches _ _ _ (c .before .before .before .before .before .before .before .before .pre .0) (c .before .before .before .before .before .before .before .loop .inv .1)), room-of (match-some (c .before .before .before .before .before .before .before .before .args .k) _ _ (c .before .before .before .before .best-slot .ensures) (c .before .before .before .best-slot2 .ensures) (told (c .before .before .crossed .ensures) (c .before .if1 .taken))) (room-each (matchOnce (c .before .before .before .before .before .before .before .before .args .k)) 32 _ _ (c .before .before .before .before .before .before .before .before .pre .1) (c .before .before .before .before .before .before .loop-test .taken) (c .before .before .before .before .before .before .before .loop .inv .1)))
 
+-- src/lib.rt:192:13
 add-i : tie.Need-add-i Inv-loop μ-loop
 add-i c = omega arith
 
+-- src/lib.rt:184:5
 loop-less : tie.Need-loop-less Inv-loop μ-loop
 loop-less c = omega arith
 
+-- src/lib.rt:184:5
 loop-again : tie.Need-loop-again Inv-loop μ-loop
-loop-again c = (omega arith, each-next (matchOnce (c .before .before .before .before .before .before .args .k)) _ _ (c .before .before .before .before .before .loop .inv .1) (done-of (match-turn _ _ _) (c .before .before .match-once .ensures)))
+loop-again c = (omega arith, each-next (matchOnce (c .before .before .before .before .before .before .before .before .before .before .before .args .k)) _ _ (c .before .before .before .before .before .before .before .before .before .before .loop .inv .1) (done-of (match-some (c .before .before .before .before .before .before .before .before .before .before .before .args .k) _ _ (c .before .before .before .before .before .before .before .best-slot .ensures) (c .before .before .before .before .before .before .best-slot2 .ensures) (told (c .before .before .before .before .before .crossed .ensures) (c .before .before .before .before .if1 .taken))) (c .before .before .match-once .ensures)))
 
+-- src/lib.rt:184:5
+loop-less-2 : tie.Need-loop-less-2 Inv-loop μ-loop
+loop-less-2 c = omega arith
+
+-- src/lib.rt:184:5
+loop-again-2 : tie.Need-loop-again-2 Inv-loop μ-loop
+loop-again-2 c = (omega arith, done-of (match-stops _ _ _ _ (c .before .before .before .before .before .before .loop .inv .0) (c .before .before .before .before .before .before .loop .inv .1 .state) (match-none _ _ _ (c .before .before .before .best-slot .ensures) (c .before .before .best-slot2 .ensures) (told (c .before .crossed .ensures) (c .if1 .left)))) (c .before .before .before .before .before .before .loop .inv .1))
+
+-- src/lib.rt:176:1
 same-length : tie.Need-same-length Inv-loop μ-loop
 same-length c = done-length (c .before .loop .inv .1)
 
+-- src/lib.rt:176:1
 returns : tie.Need-returns Inv-loop μ-loop
 unfolding matchAll
 returns c = let e : c .before .loop .i ≡ 32 = omega arith in rw e at (c .before .loop .inv .1)
@@ -47,9 +78,14 @@ match-all-spec =
     Inv-loop
     μ-loop
     loop-holds
+    best-slot-requires
+    best-slot-requires-2
+    crossed-requires
     match-once-requires
     add-i
     loop-less
     loop-again
+    loop-less-2
+    loop-again-2
     same-length
     returns)

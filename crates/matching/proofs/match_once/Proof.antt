@@ -1,68 +1,65 @@
-use Rattle.base.specs.Pick.{told}
-use Rattle.records.specs.Done.{done-still, done-of, room-of}
-use native.Mathlib.Omega.{arith}
-use Rattle.matching.specs.Matching.{crossed-slots, match-none, match-buy, match-sell, units-fit, limit-fits}
+use Rattle.matching.specs.Matching.{match-buy, match-sell, units-fit, limit-fits}
+use Rattle.records.specs.Done.{done-of, room-of}
 use borrow.Author.Needs.{needs}
 use Rattle.matching.proofs.match_once.Statement.{statement}
 use Rattle.matching.proofs.match_once.Tie as tie
 use Rattle.matching.proofs.match_once.Reads as reads
 use Rattle.matching.proofs.match_once.Lts as lts
+use Rattle.fills.proofs.whole_fill.Reads as whole-fill-reads
+use Rattle.records.proofs.least.Reads as least-reads
 
-best-slot-requires : tie.Need-best-slot-requires
-best-slot-requires c κs = search needs
-
-best-slot-requires-2 : tie.Need-best-slot-requires-2
-best-slot-requires-2 c κs = search needs
-
-crossed-requires : tie.Need-crossed-requires
-crossed-requires c κs = search needs
-
+-- src/lib.rt:165:13
 mul-e : tie.Need-mul-e
-mul-e c = let s = crossed-slots _ _ _ (told (c .before .crossed .ensures) (c .if1 .taken)) in omega (arith, s .0)
+mul-e c = search needs
 
+-- src/lib.rt:165:13
 element-copy-out-e : tie.Need-element-copy-out-e
-element-copy-out-e c = let s = crossed-slots _ _ _ (told (c .before .crossed .ensures) (c .if1 .taken)) in omega (arith, s .0)
+element-copy-out-e c = search needs
 
+-- src/lib.rt:166:13
 mul-f : tie.Need-mul-f
-mul-f c = let s = crossed-slots _ _ _ (told (c .before .before .crossed .ensures) (c .before .if1 .taken)) in omega (arith, s .1)
+mul-f c = search needs
 
+-- src/lib.rt:166:13
 element-copy-out-f : tie.Need-element-copy-out-f
-element-copy-out-f c = let s = crossed-slots _ _ _ (told (c .before .before .crossed .ensures) (c .before .if1 .taken)) in omega (arith, s .1)
+element-copy-out-f c = search needs
 
+-- src/lib.rt:168:13
 least-requires : tie.Need-least-requires
 least-requires c κs = search needs
 
+-- src/lib.rt:169:9
 whole-fill-requires : tie.Need-whole-fill-requires
-whole-fill-requires c κs = let s = crossed-slots _ _ _ (told (c .before .before .before .before .before .before .before .before .crossed .ensures) (c .before .before .before .before .before .before .before .if1 .taken)) in ((s .0, s .1, c .before .before .before .before .before .before .before .before .before .before .before .pre .0, limit-fits (c .before .before .before .before .before .before .before .before .before .before .before .pre .0) _, rw (c .before .least .ensures) (units-fit (c .before .before .before .before .before .before .before .before .before .before .before .pre .0) _ _)), room-of (match-buy _ _ (c .before .before .before .before .before .before .before .before .before .before .best-slot .ensures) (c .before .before .before .before .before .before .before .before .before .best-slot2 .ensures) (told (c .before .before .before .before .before .before .before .before .crossed .ensures) (c .before .before .before .before .before .before .before .if1 .taken)) (c .before .before .if2 .taken) (c .before .least .ensures)) (c .before .before .before .before .before .before .before .before .before .before .before .pre .1))
+whole-fill-requires c κs = ((c .before .before .before .before .before .before .before .pre .0 .0, c .before .before .before .before .before .before .before .pre .0 .1, c .before .before .before .before .before .before .before .pre .0 .2, limit-fits (c .before .before .before .before .before .before .before .pre .0 .2) _, rw (c .before .least .ensures) (units-fit (c .before .before .before .before .before .before .before .pre .0 .2) _ _)), room-of (match-buy _ _ _ (c .before .before .if1 .taken) (c .before .least .ensures)) (c .before .before .before .before .before .before .before .pre .1))
 
+-- src/lib.rt:169:9
 same-length : tie.Need-same-length
 same-length c = search needs
 
+-- src/lib.rt:169:9
 returns : tie.Need-returns
-returns c = done-of (match-buy _ _ (c .before .before .before .before .before .before .before .before .before .before .before .before .best-slot .ensures) (c .before .before .before .before .before .before .before .before .before .before .before .best-slot2 .ensures) (told (c .before .before .before .before .before .before .before .before .before .before .crossed .ensures) (c .before .before .before .before .before .before .before .before .before .if1 .taken)) (c .before .before .before .before .if2 .taken) (c .before .before .before .least .ensures)) (c .before .whole-fill .ensures)
+returns c = done-of (match-buy _ _ _ (c .before .before .before .before .if1 .taken) (c .before .before .before .least .ensures)) (c .before .whole-fill .ensures)
 
+-- src/lib.rt:171:9
 least-requires-2 : tie.Need-least-requires-2
 least-requires-2 c κs = search needs
 
+-- src/lib.rt:172:5
 whole-fill-requires-2 : tie.Need-whole-fill-requires-2
-whole-fill-requires-2 c κs = let s = crossed-slots _ _ _ (told (c .before .before .before .before .before .before .before .before .crossed .ensures) (c .before .before .before .before .before .before .before .if1 .taken)) in ((s .1, s .0, c .before .before .before .before .before .before .before .before .before .before .before .pre .0, limit-fits (c .before .before .before .before .before .before .before .before .before .before .before .pre .0) _, rw (c .before .least2 .ensures) (units-fit (c .before .before .before .before .before .before .before .before .before .before .before .pre .0) _ _)), room-of (match-sell _ _ (c .before .before .before .before .before .before .before .before .before .before .best-slot .ensures) (c .before .before .before .before .before .before .before .before .before .best-slot2 .ensures) (told (c .before .before .before .before .before .before .before .before .crossed .ensures) (c .before .before .before .before .before .before .before .if1 .taken)) (c .before .before .if2 .left) (c .before .least2 .ensures)) (c .before .before .before .before .before .before .before .before .before .before .before .pre .1))
+whole-fill-requires-2 c κs = ((c .before .before .before .before .before .before .before .pre .0 .1, c .before .before .before .before .before .before .before .pre .0 .0, c .before .before .before .before .before .before .before .pre .0 .2, limit-fits (c .before .before .before .before .before .before .before .pre .0 .2) _, rw (c .before .least2 .ensures) (units-fit (c .before .before .before .before .before .before .before .pre .0 .2) _ _)), room-of (match-sell _ _ _ (c .before .before .if1 .left) (c .before .least2 .ensures)) (c .before .before .before .before .before .before .before .pre .1))
 
+-- src/lib.rt:160:1
 same-length-2 : tie.Need-same-length-2
 same-length-2 c = search needs
 
+-- src/lib.rt:160:1
 returns-2 : tie.Need-returns-2
-returns-2 c = done-of (match-sell _ _ (c .before .before .before .before .before .before .before .before .before .before .before .before .best-slot .ensures) (c .before .before .before .before .before .before .before .before .before .before .before .best-slot2 .ensures) (told (c .before .before .before .before .before .before .before .before .before .before .crossed .ensures) (c .before .before .before .before .before .before .before .before .before .if1 .taken)) (c .before .before .before .before .if2 .left) (c .before .before .before .least2 .ensures)) (c .before .whole-fill2 .ensures)
-
-returns-3 : tie.Need-returns-3
-returns-3 c = done-of (match-none _ _ (c .before .before .before .best-slot .ensures) (c .before .before .best-slot2 .ensures) (told (c .before .crossed .ensures) (c .if1 .left))) (done-still _ _ _)
+returns-2 c = done-of (match-sell _ _ _ (c .before .before .before .before .if1 .left) (c .before .before .before .least2 .ensures)) (c .before .whole-fill2 .ensures)
 
 pub match-once-spec : {M : Type 1} → statement M
 match-once-spec =
     tie.close
     (tie.spec
-    best-slot-requires
-    best-slot-requires-2
-    crossed-requires
     mul-e
     element-copy-out-e
     mul-f
@@ -74,5 +71,4 @@ match-once-spec =
     least-requires-2
     whole-fill-requires-2
     same-length-2
-    returns-2
-    returns-3)
+    returns-2)

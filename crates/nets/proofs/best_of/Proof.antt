@@ -1,8 +1,7 @@
 use Rattle.nets.specs.Best.{bestIn, best-first, best-next, best-last, best-most}
 use Rattle.ranges.specs.Fit.{fit-order}
-use mathlib.Core.Path.{_≡_, refl, sym, _∙_}
+use mathlib.Core.Path.{_≡_, sym}
 use Prim.Native.Nat.{_≤_, _-_}
-use borrow.Author.Needs.{needs}
 use native.Mathlib.Omega.{arith}
 use Rattle.nets.proofs.best_of.Statement.{statement}
 use Rattle.nets.proofs.best_of.Tie as tie

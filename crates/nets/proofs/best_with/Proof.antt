@@ -1,7 +1,6 @@
 use Rattle.nets.specs.Best.{with-more, with-same, with-fresh}
 use Rattle.nets.specs.Best.{bestWith}
 use Rattle.base.specs.Pick.{tests, told}
-use native.Mathlib.Omega.{arith}
 use borrow.Author.Needs.{needs}
 use Rattle.nets.proofs.best_with.Statement.{statement}
 use Rattle.nets.proofs.best_with.Tie as tie

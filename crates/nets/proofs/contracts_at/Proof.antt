@@ -5,7 +5,7 @@ use Rattle.rules.specs.Nets.{lotAt}
 use Rattle.base.specs.Walks.{sumN}
 use lib.ListN.{getD}
 use native.Mathlib.Numerals.{add-one}
-use mathlib.Core.Path.{_≡_, refl, sym, _∙_}
+use mathlib.Core.Path.{_≡_, refl}
 use Prim.Native.Nat.{_≤_, _-_}
 use borrow.Author.Needs.{needs}
 use native.Mathlib.Omega.{arith}

@@ -2,9 +2,8 @@ use Rattle.rules.specs.Nets.{known, pricedAt}
 use Rattle.base.specs.Walks.{allN, all-none, all-more, all-stop}
 use borrow.Author.Tests.{lt-ltb, le-ltb}
 use mathlib.Core.Bool.{true}
-use mathlib.Core.Path.{_≡_, refl, sym, _∙_}
+use mathlib.Core.Path.{_≡_, sym}
 use Prim.Native.Nat.{_≤_, _-_}
-use borrow.Author.Needs.{needs}
 use native.Mathlib.Omega.{arith}
 use Rattle.nets.proofs.known.Statement.{statement}
 use Rattle.nets.proofs.known.Tie as tie

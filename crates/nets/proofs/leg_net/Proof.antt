@@ -1,7 +1,6 @@
 use Rattle.nets.specs.Nets.{prices-most}
 use Rattle.ranges.specs.Fit.{fit-legs}
 use Rattle.rules.specs.Nets.{legNet}
-use native.Mathlib.Omega.{arith}
 use borrow.Author.Needs.{needs}
 use Rattle.nets.proofs.leg_net.Statement.{statement}
 use Rattle.nets.proofs.leg_net.Tie as tie

@@ -1,5 +1,4 @@
 use Rattle.rules.specs.Nets.{legPrice}
-use native.Mathlib.Omega.{arith}
 use borrow.Author.Needs.{needs}
 use Rattle.nets.proofs.leg_price.Statement.{statement}
 use Rattle.nets.proofs.leg_price.Tie as tie

@@ -1,6 +1,5 @@
 use Rattle.nets.specs.Nets.{contracts-lots}
 use Rattle.rules.specs.Nets.{legUnits}
-use native.Mathlib.Omega.{arith}
 use borrow.Author.Needs.{needs}
 use Rattle.nets.proofs.leg_units.Statement.{statement}
 use Rattle.nets.proofs.leg_units.Tie as tie

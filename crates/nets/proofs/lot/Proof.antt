@@ -1,6 +1,5 @@
 use Rattle.rules.specs.Nets.{lot}
 use Rattle.base.specs.Pick.{tests, told}
-use native.Mathlib.Omega.{arith}
 use borrow.Author.Needs.{needs}
 use Rattle.nets.proofs.lot.Statement.{statement}
 use Rattle.nets.proofs.lot.Tie as tie

@@ -1,5 +1,5 @@
 use Rattle.nets.specs.Nets.{net-unknown, net-known, weighed-most}
-use Rattle.base.specs.Pick.{tests, told}
+use Rattle.base.specs.Pick.{told}
 use native.Mathlib.Omega.{arith}
 use borrow.Author.Needs.{needs}
 use Rattle.nets.proofs.net_of.Statement.{statement}

@@ -1,6 +1,5 @@
 use Rattle.rules.specs.Nets.{priceWith}
 use Rattle.base.specs.Pick.{tests, told}
-use native.Mathlib.Omega.{arith}
 use borrow.Author.Needs.{needs}
 use Rattle.nets.proofs.price_with.Statement.{statement}
 use Rattle.nets.proofs.price_with.Tie as tie

@@ -1,7 +1,5 @@
 use Rattle.rules.specs.Nets.{stands}
-use Rattle.base.specs.Pick.{tests, told}
-use borrow.Author.Needs.{needs}
-use native.Mathlib.Omega.{arith}
+use Rattle.base.specs.Pick.{tests}
 use Rattle.nets.proofs.stands.Statement.{statement}
 use Rattle.nets.proofs.stands.Tie as tie
 use Rattle.nets.proofs.stands.Reads as reads

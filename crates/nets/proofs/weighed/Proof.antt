@@ -1,13 +1,12 @@
 use Rattle.nets.specs.Nets.{weight-most, weighed-most}
 use Rattle.ranges.specs.Fit.{fit-leg}
 use Rattle.rules.specs.State.{noLeg}
-use Rattle.rules.specs.Nets.{weighed, weightAt}
+use Rattle.rules.specs.Nets.{weighed}
 use Rattle.base.specs.Walks.{sumN}
 use lib.ListN.{getD}
 use native.Mathlib.Numerals.{add-one}
-use mathlib.Core.Path.{_≡_, refl, sym, _∙_}
+use mathlib.Core.Path.{_≡_, refl}
 use Prim.Native.Nat.{_≤_, _-_}
-use borrow.Author.Needs.{needs}
 use native.Mathlib.Omega.{arith}
 use Rattle.nets.proofs.weighed.Statement.{statement}
 use Rattle.nets.proofs.weighed.Tie as tie

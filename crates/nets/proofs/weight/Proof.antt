@@ -1,6 +1,6 @@
 use Rattle.rules.specs.Nets.{weight}
 use Rattle.nets.specs.Nets.{weight-fits}
-use Rattle.base.specs.Pick.{tests, told}
+use Rattle.base.specs.Pick.{tests}
 use native.Mathlib.Omega.{arith}
 use borrow.Author.Needs.{needs}
 use Rattle.nets.proofs.weight.Statement.{statement}

@@ -1,0 +1,18 @@
+use Rattle.matching.specs.Matching.{shut-is}
+use native.Mathlib.Omega.{arith}
+use borrow.Author.Needs.{needs}
+use Rattle.matching.proofs.none_shut.Statement.{statement}
+use Rattle.matching.proofs.none_shut.Tie as tie
+use Rattle.matching.proofs.none_shut.Reads as reads
+use Rattle.matching.proofs.none_shut.Lts as lts
+
+-- src/lib.rt:31:28
+sub-shut : tie.Need-sub-shut
+sub-shut c = search needs
+
+-- src/lib.rt:28:1
+returns : tie.Need-returns
+returns c = shut-is _ _ (omega arith) (omega arith)
+
+pub none-shut-spec : {M : Type 1} → statement M
+none-shut-spec = tie.close (tie.spec sub-shut returns)

@@ -1,0 +1,61 @@
+-- A table of 32 rows: a loop that counts the live ones, and one that puts them in front.
+use mathlib.Core.Path.{_≡_, refl, sym, _∙_}
+use mathlib.Core.Bool.{Bool, true, false}
+use mathlib.Core.List.{List}
+use Prim.Native.Nat.{ℕ, _+_, _≤_, _<_}
+use native.Mathlib.Omega.{arith}
+use lib.ListN.{length, getD, set, take, replicate, length-append}
+use Rattle.rules.specs.Events.{keep, behind}
+use Rattle.tables.specs.Padded.{padTo, pad-set, pad-none}
+use Rattle.tables.specs.Kept.{keep-skip, keep-more, keep-room, keep-all, behind-is}
+
+-- n of the first i rows are live
+pub record Counted {A : Type 0} (test : A → Bool) (xs : List A) (i n : ℕ) : Type 0 where
+  pub count : n ≡ length (keep test (take i xs))
+
+-- .. and they stand in front of empty ones
+pub record Packing {A : Type 0} (test : A → Bool) (d : A) (xs : List A) (i : ℕ) (ys : List A) (n : ℕ) : Type 0 where
+  pub rows : ys ≡ padTo 32 d (keep test (take i xs))
+  pub counted : Counted test xs i n
+
+module _ {A : Type 0} (test : A → Bool) (d : A) (xs : List A) where
+  pub counted-first : Counted test xs 0 0
+  unfolding keep
+  counted-first = record { count = refl }
+
+  pub packing-first : Packing test d xs 0 (replicate 32 d) 0
+  unfolding keep
+  packing-first = record { rows = sym (pad-none d 32); counted = counted-first }
+
+  module _ (i : ℕ) (l : length xs ≡ 32) (h : i < 32) where
+    within : i < length xs
+    within = omega arith
+
+    pub counted-room : {n : ℕ} → Counted test xs i n → n < 32
+    counted-room g = omega (arith, g .count, keep-room test d xs i within)
+
+    pub counted-more : {n : ℕ} → test (getD xs i d) ≡ true → Counted test xs i n → Counted test xs (i + 1) (n + 1)
+    counted-more t g = record { count = rw (keep-more test d xs i within t, length-append) (omega (arith, g .count)) }
+
+    pub counted-skip : {n : ℕ} → test (getD xs i d) ≡ false → Counted test xs i n → Counted test xs (i + 1) n
+    counted-skip t g = record { count = rw (keep-skip test d xs i within t) (g .count) }
+
+    pub packing-more : {ys : List A} {n : ℕ} → test (getD xs i d) ≡ true → Packing test d xs i ys n → Packing test d xs (i + 1) (set ys n (getD xs i d)) (n + 1)
+    packing-more t g = record {
+      rows = rw (keep-more test d xs i within t, g .rows, g .counted .count) (pad-set d 32 (keep test (take i xs)) (getD xs i d) (omega (arith, g .counted .count, counted-room (g .counted))));
+      counted = counted-more t (g .counted);
+    }
+
+    pub packing-skip : {ys : List A} {n : ℕ} → test (getD xs i d) ≡ false → Packing test d xs i ys n → Packing test d xs (i + 1) ys n
+    packing-skip t g = record { rows = rw (keep-skip test d xs i within t) (g .rows); counted = counted-skip t (g .counted) }
+
+  module _ (i : ℕ) (l : length xs ≡ 32) (h : 32 ≤ i) where
+    all : keep test (take i xs) ≡ keep test xs
+    all = keep-all test xs i (omega arith)
+
+    pub counted-all : {n : ℕ} → Counted test xs i n → n ≡ length (keep test xs)
+    counted-all g = rw all at (g .count)
+
+    -- a store behind them
+    pub inserted : {ys : List A} {n : ℕ} (x : A) → length (keep test xs) < 32 → Packing test d xs i ys n → set ys n x ≡ behind test d x xs
+    inserted x r g = rw (g .rows, g .counted .count, all) (pad-set d 32 (keep test xs) x r ∙ sym (behind-is test d x xs r))
