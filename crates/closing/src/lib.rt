@@ -212,7 +212,7 @@ fn cancel_lowest(b: State, space: &mut [i32], n: usize) -> After
 }
 
 // At the day's end: all that is live, by number, until a turn cancels nothing.
-pub fn cancel_all(b: State, space: &mut [i32], n: usize) -> After
+fn cancel_all(b: State, space: &mut [i32], n: usize) -> After
     requires { ⌜ Fit b ⌝ }
     requires { ⌜ Room (now space) n (each cancelLowest 64 b .records) ⌝ }
     ensures { λ t. ⌜ Done (now (space .entry)) (now (space .exit)) n (t .count) (t .state) (each cancelLowest 64 b) ⌝ }
@@ -233,7 +233,7 @@ pub fn cancel_all(b: State, space: &mut [i32], n: usize) -> After
 }
 
 // At the day's end: the auctions, by strategy.
-pub fn close_all(b: State, space: &mut [i32], n: usize) -> After
+fn close_all(b: State, space: &mut [i32], n: usize) -> After
     requires { ⌜ Ranged b ⌝ }
     requires { ⌜ Room (now space) n (each closeRunning 16 b .records) ⌝ }
     ensures { λ t. ⌜ Done (now (space .entry)) (now (space .exit)) n (t .count) (t .state) (each closeRunning 16 b) ⌝ }

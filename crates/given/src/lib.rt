@@ -66,7 +66,7 @@ pub fn leg_order_given(b: State, e: events::LegOrder) -> LegOrder
 }
 
 // One leg as the event has it.
-pub fn leg_given(l: events::Leg) -> Leg
+fn leg_given(l: events::Leg) -> Leg
     requires { ⌜ FitLeg (legGiven l) ⌝ }
     ensures { λ r. ⌜ r ≡ legGiven l ⌝ }
 {
@@ -78,7 +78,7 @@ pub fn leg_given(l: events::Leg) -> Leg
 }
 
 // Six rows, the first `count` in use.
-pub fn legs_given(e: events::Strategy) -> [Leg; 6]
+fn legs_given(e: events::Strategy) -> [Leg; 6]
     requires { ⌜ FitGiven e ⌝ }
     ensures { λ r. ⌜ r ≡ legsGiven e ⌝ }
 {
@@ -103,7 +103,7 @@ pub fn strategy_given(e: events::Strategy) -> Strategy
 }
 
 // 5: a series twice, or the largest ratio over 3 × the smallest.
-pub fn ill_formed(e: events::Strategy) -> bool
+fn ill_formed(e: events::Strategy) -> bool
     requires { ⌜ FitGiven e ⌝ }
     ensures { λ r. ⌜ r ≡ illFormed e ⌝ }
 {
@@ -116,7 +116,7 @@ pub fn ill_formed(e: events::Strategy) -> bool
 }
 
 // 12: 16 strategies, and none of them equal.
-pub fn strategies_full(b: State, e: events::Strategy) -> bool
+fn strategies_full(b: State, e: events::Strategy) -> bool
     requires { ⌜ FitGiven e × (b .defined ≤ 16) ⌝ }
     ensures { λ r. ⌜ r ≡ strategiesFull b e ⌝ }
 {

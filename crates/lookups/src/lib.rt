@@ -70,7 +70,7 @@ pub fn live_quantity(b: State, n: u32) -> u32
 }
 
 // The shut legs of a strategy, as a set of series.
-pub fn shut_set(b: State, k: usize) -> u32
+fn shut_set(b: State, k: usize) -> u32
     requires { ⌜ k < 16 ⌝ }
     ensures { λ r. ⌜ r ≡ shutSet b k ⌝ }
 {

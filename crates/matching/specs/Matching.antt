@@ -22,12 +22,13 @@ use Rattle.rules.specs.Moves.{Moved, still, each}
 use Rattle.rules.specs.Sides.{other, better}
 use Rattle.rules.specs.Strategies.{shutSet, allOpen, holds}
 use Rattle.rules.specs.Fills.{wholeFill}
-use Rattle.rules.specs.Passes.{pass}
+use Rattle.rules.specs.Passes.{turnAt, pass}
 use Rattle.rules.specs.Auctions.{liveIn, dayOrder, legPass, legPassesIn, ahead, bestSlot, crossed, matchOnce, matchAll, matchIn}
 use Rattle.rules.proofs.Control.{each-kept, legPass-kept, legPassesIn-kept, matchOnce-kept, shrinks-kept}
 use Rattle.records.specs.Done.{Done}
 use Rattle.ranges.specs.Fit.{Fit, fit-entry, fit-done}
-use Rattle.passes.specs.Passes.{idle}
+use Rattle.nets.specs.Ready.{netReady}
+use Rattle.passes.specs.Passes.{idle, stopsAt, legs-still}
 
 -- whether a strategy holds series s, is all open and has no auction
 unfoldable pub passesLegs : Strategy → ℕ → ℕ → Bool
@@ -176,3 +177,8 @@ fit-strategies s i b f d = fit-done d (each-kept shrinks-kept (legPassesIn s) (l
 
 pub fit-matches : (k i : ℕ) (b : State) {c : State} {sp sq : List ℤ} {n m : ℕ} → Fit b → Done sp sq n m c (each (matchOnce k) i b) → Fit c
 fit-matches k i b f d = fit-done d (each-kept shrinks-kept (matchOnce k) (matchOnce-kept shrinks-kept k) i b (f .orderRows)) f
+
+-- a day order that does nothing at the ready leg net that it meets
+pub legs-stay : (k i : ℕ) (b : State) (net : ℕ) → dayOrder k (entryAt b i) ≡ true → net ≡ netReady (b .orders) (entryAt b i .side) (strategyAt b (entryAt b i .strategy))
+    → stopsAt (turnAt (entryAt b i) 0 net) ≡ true → legPass k i b ≡ still b
+legs-stay k i b net d e s = legs-yes k i b d ∙ legs-still i b net e s

@@ -13,6 +13,8 @@ ghost use Rattle.matching.specs.Matching.{passesLegs, aheadOf, bestOf, m
 use auctions::live_in;
 use endings::holds;
 use fills::whole_fill;
+use nets::net_ready;
+use passes::legs_idle;
 use passes::pass;
 use records::After;
 use records::least;
@@ -75,9 +77,15 @@ fn leg_passes_of(b: State, k: usize, space: &mut [i32], n: usize) -> After
     while i < 32 {
         let e = c.entries[i];
         if day_order(k, e) {
-            let t = pass(Allocation::LegsOnly, true, c, i, space, m);
-            c = t.state;
-            m = t.count;
+            let h = e.strategy as usize;
+            let s = c.strategies[h];
+            let os = c.orders;
+            let net = net_ready(os, e.side, s);
+            if !legs_idle(e, net) {
+                let t = pass(Allocation::LegsOnly, true, c, i, space, m);
+                c = t.state;
+                m = t.count;
+            }
         }
         i += 1;
     }

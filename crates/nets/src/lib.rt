@@ -47,7 +47,7 @@ fn price_with(s: u8, side: u8, p: u32, o: LegOrder) -> u32
 }
 
 // The best price of a series and side, 0 where no order stands there.
-pub fn price_of(os: [LegOrder; 32], s: u8, side: u8) -> u32
+fn price_of(os: [LegOrder; 32], s: u8, side: u8) -> u32
     ensures { λ p. ⌜ p ≡ priceOf os s side ⌝ }
 {
     let mut p: u32 = 0;
@@ -85,7 +85,7 @@ pub fn lots(os: [LegOrder; 32], s: u8, side: u8, price: u32) -> [u32; 32]
 }
 
 // The contracts of a series and side at a price.
-pub fn contracts_at(os: [LegOrder; 32], s: u8, side: u8, price: u32) -> u32
+fn contracts_at(os: [LegOrder; 32], s: u8, side: u8, price: u32) -> u32
     requires { ⌜ All FitOrder os ⌝ }
     ensures { λ n. ⌜ n ≡ contractsAt os s side price ⌝ }
 {

@@ -2,9 +2,8 @@
 ghost use mathlib.Core.Path.{_≡_};
 ghost use mathlib.Core.List.{[], _∷_};
 ghost use Prim.Native.Nat.{_+_, _*_, _-_, _<_, _≤_, min};
-ghost use lib.ListN.{set};
 ghost use Rattle.rules.specs.Records.{kindNumber, cents};
-ghost use Rattle.rules.specs.State.{withEntries, withOrders};
+ghost use Rattle.rules.specs.State.{withOrders};
 ghost use Rattle.records.specs.Space.{Small, Wrote, Room};
 use rules::Entry;
 use rules::Kind;
@@ -74,15 +73,6 @@ pub fn less(a: u32, b: u32) -> u32
         return 0;
     }
     a - b
-}
-
-pub fn with_entry(b: State, i: usize, e: Entry) -> State
-    requires { ⌜ i < 32 ⌝ }
-    ensures { λ c. ⌜ c ≡ withEntries b (set (b .entries) i e) ⌝ }
-{
-    let mut c = b;
-    c.entries[i] = e;
-    c
 }
 
 pub fn with_orders(b: State, rows: [LegOrder; 32]) -> State

@@ -17,7 +17,7 @@ use rules::Entry;
 use rules::LegOrder;
 use rules::State;
 
-pub fn undefined(b: State, k: u32) -> bool
+fn undefined(b: State, k: u32) -> bool
     ensures { λ r. ⌜ r ≡ undefined b k ⌝ }
 {
     let defined = b.defined as u32;
@@ -27,7 +27,7 @@ pub fn undefined(b: State, k: u32) -> bool
     false
 }
 
-pub fn not_open(b: State, s: u8) -> bool
+fn not_open(b: State, s: u8) -> bool
     requires { ⌜ s < 32 ⌝ }
     ensures { λ r. ⌜ r ≡ notOpen b s ⌝ }
 {
@@ -37,7 +37,7 @@ pub fn not_open(b: State, s: u8) -> bool
     true
 }
 
-pub fn is_order_of(m: u32, n: u32, e: Entry) -> bool
+fn is_order_of(m: u32, n: u32, e: Entry) -> bool
     ensures { λ r. ⌜ r ≡ isOrderOf m n e ⌝ }
 {
     if e.units == 0 {
@@ -53,7 +53,7 @@ pub fn is_order_of(m: u32, n: u32, e: Entry) -> bool
     false
 }
 
-pub fn is_leg_order_of(m: u32, n: u32, o: LegOrder) -> bool
+fn is_leg_order_of(m: u32, n: u32, o: LegOrder) -> bool
     ensures { λ r. ⌜ r ≡ isLegOrderOf m n o ⌝ }
 {
     if o.contracts == 0 {
@@ -77,7 +77,7 @@ fn no_auction(b: State, k: usize) -> bool
     true
 }
 
-pub fn unanswerable(b: State, life: u32, k: usize) -> bool
+fn unanswerable(b: State, life: u32, k: usize) -> bool
     requires { ⌜ k < 16 ⌝ }
     ensures { λ r. ⌜ r ≡ unanswerable b life k ⌝ }
 {
@@ -87,7 +87,7 @@ pub fn unanswerable(b: State, life: u32, k: usize) -> bool
     false
 }
 
-pub fn numbers_out(b: State) -> bool
+fn numbers_out(b: State) -> bool
     ensures { λ r. ⌜ r ≡ numbersOut b ⌝ }
 {
     if 100000 <= b.last {
@@ -125,7 +125,7 @@ fn any_leg_order_of(b: State, m: u32, n: u32) -> bool
 }
 
 // Whether no live order or leg order is of that member and number.
-pub fn not_found(b: State, m: u32, n: u32) -> bool
+fn not_found(b: State, m: u32, n: u32) -> bool
     ensures { λ r. ⌜ r ≡ notFound b m n ⌝ }
 {
     if any_order_of(b, m, n) {
@@ -138,7 +138,7 @@ pub fn not_found(b: State, m: u32, n: u32) -> bool
 }
 
 // Whether the order of that number started an auction that runs.
-pub fn is_starter(b: State, n: u32) -> bool
+fn is_starter(b: State, n: u32) -> bool
     ensures { λ r. ⌜ r ≡ isStarter b n ⌝ }
 {
     let ss = b.strategies;
@@ -153,7 +153,7 @@ pub fn is_starter(b: State, n: u32) -> bool
     false
 }
 
-pub fn orders_full(b: State) -> bool
+fn orders_full(b: State) -> bool
     ensures { λ r. ⌜ r ≡ ordersFull b ⌝ }
 {
     let live_orders = orders(b);
@@ -163,7 +163,7 @@ pub fn orders_full(b: State) -> bool
     false
 }
 
-pub fn sweeps_full(b: State) -> bool
+fn sweeps_full(b: State) -> bool
     ensures { λ r. ⌜ r ≡ sweepsFull b ⌝ }
 {
     let live_sweeps = sweeps(b);
@@ -197,7 +197,7 @@ fn leg_orders(b: State) -> u32
     n
 }
 
-pub fn leg_orders_full(b: State) -> bool
+fn leg_orders_full(b: State) -> bool
     ensures { λ r. ⌜ r ≡ legOrdersFull b ⌝ }
 {
     let live_leg_orders = leg_orders(b);
