@@ -239,13 +239,16 @@ impl Book {
         requires { ⌜ Valid (self .state) ⌝ }
         ensures { λ x. ⌜ Stepped (self .state) (now (frame .entry)) (now (space .entry)) (now (space .exit)) x ⌝ }
     {
-        let b = self.state;
         if space.len() < Book::RECORD_SPACE {
+            let b = self.state;
             return refuse(b, 1);
         }
         let reading = read(frame);
         match reading {
-            Reading::Refused(n) => refuse(b, n),
+            Reading::Refused(n) => {
+                let b = self.state;
+                refuse(b, n)
+            }
             Reading::Event(event) => self.take(event, space),
         }
     }

@@ -1,5 +1,7 @@
 -- How many orders and sweeps are live.
-use Prim.Native.Nat.{ℕ, _≤_}
+use mathlib.Core.Path.{_≡_}
+use Prim.Native.Nat.{ℕ, _+_, _≤_, _<_}
+use native.Mathlib.Numerals.{add-one}
 use native.Mathlib.Omega.{arith}
 use Rattle.base.specs.Pick.{pick-all}
 use Rattle.base.specs.Walks.{sumN, sum-le}
@@ -25,3 +27,17 @@ orders-most b k = omega (arith, sum-le (isOrderAt b) 1 (λ i. order-most (entryA
 
 pub sweeps-most : (b : State) (k : ℕ) → sumN (isSweepAt b) k ≤ k
 sweeps-most b k = omega (arith, sum-le (isSweepAt b) 1 (λ i. sweep-most (entryAt b i)) k)
+
+pub orders-all : (b : State) (i : ℕ) {n x : ℕ} → n ≡ sumN (isOrderAt b) i → x ≡ isOrder (entryAt b i) → i < 32 → n + x ≡ 32 → n + x ≡ sumN (isOrderAt b) 32
+unfolding sumN
+orders-all b i {n} {x} p q h e =
+    let s : n + x ≡ sumN (isOrderAt b) (i + 1) = rw add-one (cc) in
+    let k : i + 1 ≡ 32 = omega (arith, orders-most b i, order-most (entryAt b i), p, q, h, e) in
+    rw k at s
+
+pub sweeps-all : (b : State) (i : ℕ) {n x : ℕ} → n ≡ sumN (isSweepAt b) i → x ≡ isSweep (entryAt b i) → i < 32 → n + x ≡ 32 → n + x ≡ sumN (isSweepAt b) 32
+unfolding sumN
+sweeps-all b i {n} {x} p q h e =
+    let s : n + x ≡ sumN (isSweepAt b) (i + 1) = rw add-one (cc) in
+    let k : i + 1 ≡ 32 = omega (arith, sweeps-most b i, sweep-most (entryAt b i), p, q, h, e) in
+    rw k at s

@@ -27,8 +27,14 @@ use Rattle.lines.specs.Lines.{lineOf, eventLine, recordLines, linesOf, eventTex
 use Rattle.lines.specs.Puts.{Within, put-nil}
 use Rattle.tape.specs.declared.Rest.{Rest}
 use Rattle.tape.specs.declared.Told.{Told}
-use Rattle.tape.specs.declared.Tape.{Tape}
 use Rattle.tape.specs.Rests.{Lies, restOf, More, rest-first, rest-after, rest-length}
+
+-- what the program keeps from event to event: the book, the rest of the input, the end of the text, and whether more is to come
+pub record Tape : Type 0 where
+  pub book : Book
+  pub rest : Rest
+  pub used : ℕ
+  pub on : Bool
 
 -- an event went to the book in the state b, and what the rules print of it was put behind the text
 pub record Tells (b : State) (index : ℕ) (frame : List ℕ) (s q : List ℕ) (used : ℕ) (x : Told) : Type 0 where
@@ -75,13 +81,19 @@ pub record Drained (t : Tape) (out : List ℕ) (x : Tape) : Type 0 where
   pub rest : x .rest ≡ t .rest
   pub room : x .used + 189526 ≤ length out
 
--- a turn after reading: of the bytes that are then there, which begin with the rest, the rules say the book and what stays
-pub record Advanced (t : Tape) (index : ℕ) (block next : List ℕ) (space : List ℤ) (out : List ℕ) (x : Tape) : Type 0 where
-  pub bytes : List ℕ
-  pub begun : take (t .rest .«end» - t .rest .at) bytes ≡ restOf block (t .rest)
-  pub state : x .book .state ≡ turnOf (t .book .state) index bytes .state
-  pub rest : restOf next (x .rest) ≡ turnOf (t .book .state) index bytes .rest
-  pub ready : Ready x next space out
+-- the last turn, of any book: the book and the rest stay, and no more is to come
+pub record Ended (r : Rest) (used : ℕ) (index : ℕ) (block s q : List ℕ) (m : ℕ) : Type 0 where
+  pub turned :
+      (b : Book) → Valid (b .state) →
+      Turned (record { book = b; rest = r; used = used; on = true }) index block s q (record { book = b; rest = r; used = m; on = false })
+
+-- the tape, the index, the block and the text after some turns from the first book on. Each reads on, takes a turn of the bytes that are
+-- then there, and writes the text out where there is no room.
+pub data Reached : Tape → ℕ → List ℕ → List ℕ → Type 0 where
+  reached-first : (b : Book) (block out : List ℕ) → First b → Reached (record { book = b; rest = record { at = 0; «end» = 0 }; used = 0; on = true }) 0 block out
+  reached-next :
+      {t x y : Tape} {index : ℕ} {block next s q : List ℕ} {r : Rest} → Reached t index block s → More block next (t .rest) r →
+      Turned (record { book = t .book; rest = r; used = t .used; on = true }) index next s q x → Drained x q y → Reached y (index + 1) next q
 
 -- laws
 
@@ -203,20 +215,25 @@ pub cut-told :
 unfolding eventText recordLines answerCount
 cut-told index space w = record { put = rw append-nil at (w .put); few = omega (arith, w .few) }
 
-pub advanced :
-    {t : Tape} {index : ℕ} {block next s q : List ℕ} {space : List ℤ} {r : Rest} {x y : Tape} → More block next (t .rest) r → length space ≡ 15360 →
-    Turned (record { book = t .book; rest = r; used = t .used; on = t .on }) index next s q x → Drained x q y → Advanced t index block next space q y
-advanced {next = next} {r = r} m l u d =
+pub ended :
+    {r : Rest} (index : ℕ) {block s : List ℕ} (space : List ℤ) {used : ℕ} → Lies r block → length space ≡ 15360 → used + 189526 ≤ length s →
+    r .at ≡ r .«end» → Ended r used index block s s used
+ended {r} index {block} {s} space {used} l z h e =
+    record { turned = λ b v. turned-ended {t = record { book = b; rest = r; used = used; on = true }} index {space = space} (record { valid = v; lies = l; size = z; room = h }) e }
+
+pub ended-cut :
+    {r : Rest} (index : ℕ) {block s q : List ℕ} (space : List ℤ) {used m : ℕ} → Lies r block → length space ≡ 15360 → used + 189526 ≤ length s →
+    (r .at ≡ r .«end» → ⊥) → cutOf (restOf block r) ≡ 0 → Within 189526 s q used m (eventLine index (A.Refused 2)) → Ended r used index block s q m
+ended-cut {r} index {block} {s} {q} space {used} {m} l z h e k w =
     record {
-      bytes = restOf next r;
-      begun = m .kept;
-      state = ap (λ (b : Book). b .state) (d .book) ∙ u .state;
-      rest = ap (restOf next) (d .rest) ∙ u .rest;
-      ready = record { valid = rw (d .book) (u .valid); lies = rw (d .rest) (u .lies); size = l; room = d .room };
+      turned = λ b v.
+          turned-cut {t = record { book = b; rest = r; used = used; on = true }} index {space = space} {n = 0}
+          (record { valid = v; lies = l; size = z; room = h }) e (sym k) refl w;
     }
 
--- the loop: ready for the next event, and no length has changed
-pub record Running (block₀ : List ℕ) (space₀ : List ℤ) (out₀ : List ℕ) (t : Tape) (block : List ℕ) (space : List ℤ) (out : List ℕ) : Type 0 where
+-- the loop: the tape was reached by turns, it is ready for the next event, and no length has changed
+pub record Running (block₀ : List ℕ) (space₀ : List ℤ) (out₀ : List ℕ) (t : Tape) (index : ℕ) (block : List ℕ) (space : List ℤ) (out : List ℕ) : Type 0 where
+  pub reached : Reached t index block out
   pub ready : Ready t block space out
   pub blocks : length block ≡ length block₀
   pub spaces : length space ≡ length space₀
@@ -224,11 +241,36 @@ pub record Running (block₀ : List ℕ) (space₀ : List ℤ) (out₀ : List �
 
 pub running-first :
     (b : Book) (block : List ℕ) (space : List ℤ) (out : List ℕ) → First b → length space ≡ 15360 → 189526 ≤ length out →
-    Running block space out (record { book = b; rest = record { at = 0; «end» = 0 }; used = 0; on = true }) block space out
+    Running block space out (record { book = b; rest = record { at = 0; «end» = 0 }; used = 0; on = true }) 0 block space out
 running-first b block space out f l h =
     record {
+      reached = reached-first b block out f;
       ready = record { valid = f .valid; lies = record { order = omega arith; inside = omega arith }; size = l; room = omega arith };
       blocks = refl;
       spaces = refl;
       outs = refl;
+    }
+
+-- before the turn, after reading
+pub ready-filled :
+    {t : Tape} {block next out : List ℕ} {space : List ℤ} {r : Rest} → Ready t block space out → More block next (t .rest) r →
+    Ready (record { book = t .book; rest = r; used = t .used; on = true }) next space out
+ready-filled y m = record { valid = y .valid; lies = m .lies; size = y .size; room = y .room }
+
+-- an event: read on, a whole frame cut and told, and the text written out where there is no room
+pub running-next :
+    {block₀ out₀ : List ℕ} {space₀ : List ℤ} {t : Tape} {index : ℕ} {block next s q : List ℕ} {space sq : List ℤ} {r : Rest} {n : ℕ} {a : Told} {used : ℕ} {on : Bool} →
+    Running block₀ space₀ out₀ t index block space s → More block next (t .rest) r → n ≡ cutOf (restOf next r) → (n ≡ 0 → ⊥) →
+    Tells (t .book .state) index (take (r .at + n - r .at) (drop (r .at) next)) s q (t .used) a →
+    used + 189526 ≤ length q → length sq ≡ length space → length q ≡ length s →
+    Running block₀ space₀ out₀ (record { book = a .book; rest = record { at = r .at + n; «end» = r .«end» }; used = used; on = on }) (index + 1) next sq q
+running-next {t = t} {index} {next = next} {space = space} {sq = sq} {r = r} {n = n} {a = a} {used = used} {on = on} g m e h w room i o =
+    let y = ready-filled (g .ready) m in
+    let u = turned-event {t = record { book = t .book; rest = r; used = t .used; on = true }} index y e h w in
+    record {
+      reached = reached-next (g .reached) m u (record { book = refl; rest = refl; room = room });
+      ready = record { valid = u .valid; lies = u .lies; size = i ∙ g .ready .size; room = room };
+      blocks = m .same ∙ g .blocks;
+      spaces = i ∙ g .spaces;
+      outs = o ∙ g .outs;
     }

@@ -7,7 +7,7 @@ ghost use Rattle.lines.specs.Cuts.{cutOf};
 ghost use Rattle.lines.specs.Lines.{eventLine};
 ghost use Rattle.lines.specs.Puts.{Within};
 ghost use Rattle.tape.specs.Rests.{Lies, restOf, More, Added};
-ghost use Rattle.tape.specs.Tapes.{Tells, Ready, Turned, Drained, Advanced};
+ghost use Rattle.tape.specs.Tapes.{Tells, Ended};
 use book::Book;
 use libc::STDIN_FILENO;
 use libc::STDOUT_FILENO;
@@ -117,14 +117,6 @@ fn tell(
     Told { book: b, used: m }
 }
 
-// The book, the rest of the input, the end of the text, and whether more is to come.
-struct Tape {
-    book: Book,
-    rest: Rest,
-    used: usize,
-    on: bool,
-}
-
 // The line of a last frame that is cut short, or whose length is under 4.
 fn tell_cut(index: u64, space: &[i32], out: &mut [u8], used: usize) -> usize
     requires { ⌜ used + 189526 ≤ length (now out) ⌝ }
@@ -133,110 +125,40 @@ fn tell_cut(index: u64, space: &[i32], out: &mut [u8], used: usize) -> usize
     put_event(out, used, index, Answer::Refused(2), space)
 }
 
-// The first frame of the rest goes to the book.
-fn take_frame(
-    t: Tape,
-    n: usize,
-    index: u64,
-    block: &[u8],
-    space: &mut [i32],
-    out: &mut [u8],
-) -> Tape
-    requires { ⌜ Ready t (now block) (now space) (now out) ⌝ }
-    requires { ⌜ (n ≡ cutOf (restOf (now block) (t .rest))) × (n ≡ 0 → ⊥) ⌝ }
-    ensures { λ x. ⌜ Turned t index (now (block .entry)) (now (out .entry)) (now (out .exit)) x ⌝ }
+// The last turn, where no whole frame comes: nothing, or refusal 2. The book and the rest stay.
+fn tell_end(r: Rest, index: u64, block: &[u8], space: &[i32], out: &mut [u8], used: usize) -> usize
+    requires { ⌜ Lies r (now block) × (cutOf (restOf (now block) r) ≡ 0) ⌝ }
+    requires { ⌜ length (now space) ≡ 15360 ⌝ }
+    requires { ⌜ used + 189526 ≤ length (now out) ⌝ }
+    ensures { λ m. ⌜ Ended r used index (now (block .entry)) (now (out .entry)) (now (out .exit)) m ⌝ }
 {
-    let r = t.rest;
     let at = r.at;
     let end = r.end;
-    let next = at + n;
-    let b = t.book;
-    let used = t.used;
-    let told = tell(b, index, &block[at..next], space, out, used);
-    let after = told.book;
-    let m = told.used;
-    Tape {
-        book: after,
-        rest: Rest { at: next, end: end },
-        used: m,
-        on: true,
-    }
-}
-
-// What comes next of the rest of the input, in which the first frame is whole if the input has it: nothing, refusal 2, or an event.
-fn turn(t: Tape, index: u64, block: &[u8], space: &mut [i32], out: &mut [u8]) -> Tape
-    requires { ⌜ Ready t (now block) (now space) (now out) ⌝ }
-    ensures { λ x. ⌜ Turned t index (now (block .entry)) (now (out .entry)) (now (out .exit)) x ⌝ }
-{
-    let r = t.rest;
-    let at = r.at;
-    let end = r.end;
-    let b = t.book;
-    let used = t.used;
     if at == end {
-        return Tape {
-            book: b,
-            rest: r,
-            used: used,
-            on: false,
-        };
+        return used;
     }
-    let n = cut(&block[at..end]);
-    if n == 0 {
-        let m = tell_cut(index, space, out, used);
-        return Tape {
-            book: b,
-            rest: r,
-            used: m,
-            on: false,
-        };
-    }
-    take_frame(t, n, index, block, space, out)
+    tell_cut(index, space, out, used)
 }
 
-// Writes the text out where less than the room of an event is left. Stops where the output takes no more.
-fn drain(t: Tape, out: &[u8]) -> Tape
-    requires { ⌜ (t .used ≤ length (now out)) × (189526 ≤ length (now out)) ⌝ }
-    ensures { λ x. ⌜ Drained t (now (out .entry)) x ⌝ }
+// The end of the text, and whether the output takes more.
+struct Text {
+    used: usize,
+    on: bool,
+}
+
+// Writes the text out where less than the room of an event is left.
+fn drain(used: usize, out: &[u8]) -> Text
+    requires { ⌜ (used ≤ length (now out)) × (189526 ≤ length (now out)) ⌝ }
+    ensures { λ x. ⌜ x .used + 189526 ≤ length (now (out .entry)) ⌝ }
 {
-    let used = t.used;
     if ROOM <= out.len() - used {
-        return t;
-    }
-    let b = t.book;
-    let r = t.rest;
-    if io::write_all(STDOUT_FILENO, &out[..used]) {
-        return Tape {
-            book: b,
-            rest: r,
-            used: 0,
-            on: t.on,
+        return Text {
+            used: used,
+            on: true,
         };
     }
-    Tape {
-        book: b,
-        rest: r,
-        used: 0,
-        on: false,
-    }
-}
-
-// One event of the input, read, taken and printed.
-fn advance(t: Tape, index: u64, block: &mut [u8], space: &mut [i32], out: &mut [u8]) -> Tape
-    requires { ⌜ Ready t (now block) (now space) (now out) ⌝ }
-    ensures { λ x. ⌜ Advanced t index (now (block .entry)) (now (block .exit)) (now (space .exit)) (now (out .exit)) x ⌝ }
-{
-    let r = t.rest;
-    let q = fill_frame(block, r);
-    let b = t.book;
-    let filled = Tape {
-        book: b,
-        rest: q,
-        used: t.used,
-        on: t.on,
-    };
-    let x = turn(filled, index, block, space, out);
-    drain(x, out)
+    let on = io::write_all(STDOUT_FILENO, &out[..used]);
+    Text { used: 0, on: on }
 }
 
 // Events, until the input ends, a frame is cut short, or the output takes no more. The index stays below the largest number.
@@ -244,19 +166,30 @@ fn run(block: &mut [u8], space: &mut [i32], out: &mut [u8])
     requires { ⌜ length (now space) ≡ 15360 ⌝ }
     requires { ⌜ 189526 ≤ length (now out) ⌝ }
 {
-    let b = Book::first();
-    let mut t = Tape {
-        book: b,
-        rest: Rest { at: 0, end: 0 },
-        used: 0,
-        on: true,
-    };
+    let mut book = Book::first();
+    let mut rest = Rest { at: 0, end: 0 };
+    let mut used: usize = 0;
+    let mut on = true;
     let mut index: u64 = 0;
-    while t.on && index < u64::MAX {
-        t = advance(t, index, block, space, out);
+    while on && index < u64::MAX {
+        let r = fill_frame(block, rest);
+        let at = r.at;
+        let end = r.end;
+        let n = cut(&block[at..end]);
+        if n == 0 {
+            let m = tell_end(r, index, block, space, out, used);
+            io::write_all(STDOUT_FILENO, &out[..m]);
+            return;
+        }
+        let next = at + n;
+        let told = tell(book, index, &block[at..next], space, out, used);
+        book = told.book;
+        rest = Rest { at: next, end: end };
+        let text = drain(told.used, out);
+        used = text.used;
+        on = text.on;
         index += 1;
     }
-    let used = t.used;
     io::write_all(STDOUT_FILENO, &out[..used]);
 }
 

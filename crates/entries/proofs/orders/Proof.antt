@@ -4,7 +4,7 @@ use mathlib.Core.Path.{_≡_, refl}
 use Rattle.base.specs.Walks.{sumN}
 use Rattle.rules.specs.State.{entryAt}
 use Rattle.rules.specs.Refusals.{isOrderAt}
-use Rattle.entries.specs.Counts.{orders-most, order-most}
+use Rattle.entries.specs.Counts.{orders-most, order-most, orders-all}
 use borrow.Author.Needs.{needs}
 use native.Mathlib.Omega.{arith}
 use Rattle.entries.proofs.orders.Statement.{statement}
@@ -40,6 +40,10 @@ is-order-requires c κs = search needs
 add-n : tie.Need-add-n Inv-loop μ-loop
 add-n c = rw (c .before .before .before .loop .inv .1, c .is-order .ensures) (omega (arith, orders-most (c .before .before .before .before .args .t1) (c .before .before .before .loop .i), order-most (entryAt (c .before .before .before .before .args .t1) (c .before .before .before .loop .i)), c .before .before .loop-test .taken))
 
+-- src/lib.rt:137:13
+returns : tie.Need-returns Inv-loop μ-loop
+returns c = orders-all (c .before .before .before .before .before .args .t1) (c .before .before .before .before .loop .i) (c .before .before .before .before .loop .inv .1) (c .before .is-order .ensures) (c .before .before .before .loop-test .taken) (c .if1 .taken)
+
 -- src/lib.rt:136:9
 add-i : tie.Need-add-i Inv-loop μ-loop
 add-i c = omega arith
@@ -54,8 +58,8 @@ unfolding sumN
 loop-again c = (omega arith, rw add-one (cc))
 
 -- src/lib.rt:128:1
-returns : tie.Need-returns Inv-loop μ-loop
-returns c = let e : c .before .loop .i ≡ 32 = omega arith in cc
+returns-2 : tie.Need-returns-2 Inv-loop μ-loop
+returns-2 c = let e : c .before .loop .i ≡ 32 = omega arith in cc
 
 pub orders-spec : {M : Type 1} → statement M
 orders-spec =
@@ -68,7 +72,8 @@ orders-spec =
     element-copy-out-is-order
     is-order-requires
     add-n
+    returns
     add-i
     loop-less
     loop-again
-    returns)
+    returns-2)

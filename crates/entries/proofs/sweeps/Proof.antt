@@ -4,7 +4,7 @@ use mathlib.Core.Path.{_≡_, refl}
 use Rattle.base.specs.Walks.{sumN}
 use Rattle.rules.specs.State.{entryAt}
 use Rattle.rules.specs.Refusals.{isSweepAt}
-use Rattle.entries.specs.Counts.{sweeps-most, sweep-most}
+use Rattle.entries.specs.Counts.{sweeps-most, sweep-most, sweeps-all}
 use borrow.Author.Needs.{needs}
 use native.Mathlib.Omega.{arith}
 use Rattle.entries.proofs.sweeps.Statement.{statement}
@@ -40,6 +40,10 @@ is-sweep-requires c κs = search needs
 add-n : tie.Need-add-n Inv-loop μ-loop
 add-n c = rw (c .before .before .before .loop .inv .1, c .is-sweep .ensures) (omega (arith, sweeps-most (c .before .before .before .before .args .t1) (c .before .before .before .loop .i), sweep-most (entryAt (c .before .before .before .before .args .t1) (c .before .before .before .loop .i)), c .before .before .loop-test .taken))
 
+-- src/lib.rt:137:13
+returns : tie.Need-returns Inv-loop μ-loop
+returns c = sweeps-all (c .before .before .before .before .before .args .t1) (c .before .before .before .before .loop .i) (c .before .before .before .before .loop .inv .1) (c .before .is-sweep .ensures) (c .before .before .before .loop-test .taken) (c .if1 .taken)
+
 -- src/lib.rt:150:9
 add-i : tie.Need-add-i Inv-loop μ-loop
 add-i c = omega arith
@@ -54,8 +58,8 @@ unfolding sumN
 loop-again c = (omega arith, rw add-one (cc))
 
 -- src/lib.rt:142:1
-returns : tie.Need-returns Inv-loop μ-loop
-returns c = let e : c .before .loop .i ≡ 32 = omega arith in cc
+returns-2 : tie.Need-returns-2 Inv-loop μ-loop
+returns-2 c = let e : c .before .loop .i ≡ 32 = omega arith in cc
 
 pub sweeps-spec : {M : Type 1} → statement M
 sweeps-spec =
@@ -68,7 +72,8 @@ sweeps-spec =
     element-copy-out-is-sweep
     is-sweep-requires
     add-n
+    returns
     add-i
     loop-less
     loop-again
-    returns)
+    returns-2)

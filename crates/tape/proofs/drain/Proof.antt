@@ -1,5 +1,5 @@
-use mathlib.Core.Path.{sym}
 use lib.Seq.{length-take-le}
+use mathlib.Core.Path.{sym}
 use borrow.Author.Needs.{needs}
 use Rattle.tape.proofs.drain.Statement.{statement}
 use Rattle.tape.proofs.drain.Tie as tie
@@ -7,31 +7,26 @@ use Rattle.tape.proofs.drain.Reads as reads
 use Rattle.tape.proofs.drain.Lts as lts
 use Rattle.io.proofs.write_all.Reads as write-all-reads
 
--- src/main.rt:189:16
+-- src/main.rt:154:16
 sub-if1 : tie.Need-sub-if1
 sub-if1 c = search needs
 
--- src/main.rt:190:9
+-- src/main.rt:155:9
 returns : tie.Need-returns
 returns c = search needs
 
--- src/main.rt:194:37
+-- src/main.rt:160:43
 slice-aggregate-write-all : tie.Need-slice-aggregate-write-all
-slice-aggregate-write-all c = sym (length-take-le _ _ (c .before .before .before .before .before .pre .0))
+slice-aggregate-write-all c = sym (length-take-le _ _ (c .before .before .before .pre .0))
 
--- src/main.rt:194:8
+-- src/main.rt:160:9
 write-all-requires : tie.Need-write-all-requires
 write-all-requires c κs = search needs
 
--- src/main.rt:195:9
+-- src/main.rt:150:1
 returns-2 : tie.Need-returns-2
 returns-2 c = search needs
 
--- src/main.rt:184:1
-returns-3 : tie.Need-returns-3
-returns-3 c = search needs
-
 pub drain-spec : {M : Type 1} → statement M
 drain-spec =
-    tie.close
-    (tie.spec sub-if1 returns slice-aggregate-write-all write-all-requires returns-2 returns-3)
+    tie.close (tie.spec sub-if1 returns slice-aggregate-write-all write-all-requires returns-2)

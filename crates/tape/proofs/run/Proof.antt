@@ -1,74 +1,150 @@
-use borrow.Author.Tests.{ltb-true}
-use mathlib.Core.Path.{sym, _∙_}
-use Prim.Native.Nat.{_-_}
-use lib.Seq.{length-take-le}
+use Rattle.tape.specs.Tapes.{Running, running-first, running-next, ready-filled, event-fits}
 use native.Mathlib.Omega.{arith}
-use Rattle.tape.specs.Tapes.{Running, running-first}
+use lib.Seq.{length-take-le}
+use Prim.Native.Nat.{_-_}
+use mathlib.Core.Path.{sym, _∙_}
+use borrow.Author.Tests.{ltb-true}
 use Rattle.tape.proofs.run.Statement.{statement}
 use Rattle.tape.proofs.run.Tie as tie
 use Rattle.tape.proofs.run.Reads as reads
 use Rattle.tape.proofs.run.Lts as lts
 use Rattle.book.proofs.Book.first.Reads as first-reads
 use Rattle.io.proofs.write_all.Reads as write-all-reads
-use Rattle.tape.proofs.advance.Reads as advance-reads
+use Rattle.lines.proofs.cut.Reads as cut-reads
+use Rattle.tape.proofs.drain.Reads as drain-reads
+use Rattle.tape.proofs.fill_frame.Reads as fill-frame-reads
+use Rattle.tape.proofs.tell.Reads as tell-reads
+use Rattle.tape.proofs.tell_end.Reads as tell-end-reads
 
 abbrev Inv-loop : tie.InvT-loop
-Inv-loop block₀ space₀ out₀ t₀ index₀ block space out t index = Running block₀ space₀ out₀ t block space out
+Inv-loop block₀ space₀ out₀ book₀ rest₀ used₀ on₀ index₀ block space out book rest used on index = Running block₀ space₀ out₀ (record { book = book; rest = rest; used = used; on = on }) index block space out
 
 abbrev μ-loop : tie.MeasureT-loop
-μ-loop block₀ space₀ out₀ t₀ index₀ block space out t index = 18446744073709551615 - index
+μ-loop block₀ space₀ out₀ book₀ rest₀ used₀ on₀ index₀ block space out book rest used on index = 18446744073709551615 - index
 
--- src/main.rt:233:9
+-- src/main.rt:169:9
 first-requires : tie.Need-first-requires Inv-loop μ-loop
 first-requires c κs = tt
 
--- src/main.rt:241:5
+-- src/main.rt:174:5
 loop-holds : tie.Need-loop-holds Inv-loop μ-loop
 loop-holds c = running-first _ _ _ _ (c .first .ensures) (omega arith) (omega arith)
 
--- src/main.rt:242:9
-advance-requires : tie.Need-advance-requires Inv-loop μ-loop
-advance-requires c κs = c .before .before .before .before .before .loop .inv .ready
+-- src/main.rt:175:13
+fill-frame-requires : tie.Need-fill-frame-requires Inv-loop μ-loop
+fill-frame-requires c κs = c .before .before .before .loop .inv .ready .lies
 
--- src/main.rt:243:9
-add-index : tie.Need-add-index Inv-loop μ-loop
-add-index c = omega (arith, ltb-true (c .before .before .before .before .before .before .before .before .before .before .before .loop .index) 18446744073709551615 (c .before .before .before .before .before .before .before .before .before .if1 .taken))
+-- src/main.rt:178:21
+sub-cut : tie.Need-sub-cut Inv-loop μ-loop
+sub-cut c = c .before .before .fill-frame .ensures .lies .order
 
--- src/main.rt:241:5
-loop-less : tie.Need-loop-less Inv-loop μ-loop
-loop-less c = omega (arith, ltb-true (c .before .before .before .before .before .before .before .before .before .before .before .loop .index) 18446744073709551615 (c .before .before .before .before .before .before .before .before .before .if1 .taken))
+-- src/main.rt:178:21
+part-cut-start : tie.Need-part-cut-start Inv-loop μ-loop
+part-cut-start c = omega (arith, c .before .before .before .fill-frame .ensures .lies .order, c .before .before .before .fill-frame .ensures .lies .inside)
 
--- src/main.rt:241:5
-loop-again : tie.Need-loop-again Inv-loop μ-loop
-loop-again c = record { ready = c .before .before .before .before .before .advance .ensures .ready; blocks = c .before .before .before .before .before .advance .kept .1 .1 .0 ∙ c .before .before .before .before .before .before .before .before .before .before .before .loop .inv .blocks; spaces = c .before .before .before .before .before .advance .kept .1 .1 .1 .0 ∙ c .before .before .before .before .before .before .before .before .before .before .before .loop .inv .spaces; outs = c .before .before .before .before .before .advance .kept .1 .1 .1 .1 .0 ∙ c .before .before .before .before .before .before .before .before .before .before .before .loop .inv .outs }
+-- src/main.rt:178:21
+part-cut-end : tie.Need-part-cut-end Inv-loop μ-loop
+part-cut-end c = omega (arith, c .before .before .before .fill-frame .ensures .lies .order, c .before .before .before .fill-frame .ensures .lies .inside)
 
--- src/main.rt:246:34
+-- src/main.rt:178:13
+cut-requires : tie.Need-cut-requires Inv-loop μ-loop
+cut-requires c κs = tt
+
+-- src/main.rt:180:17
+tell-end-requires : tie.Need-tell-end-requires Inv-loop μ-loop
+tell-end-requires c κs = ((c .before .before .before .before .before .before .before .before .before .fill-frame .ensures .lies, sym (c .before .before .before .before .cut .ensures) ∙ c .before .before .before .if2 .taken), (c .before .before .before .before .before .before .before .before .before .before .before .before .before .loop .inv .ready .size, c .before .before .before .before .before .before .before .before .before .before .before .before .before .loop .inv .ready .room))
+
+-- src/main.rt:181:42
 slice-reshare-prefix-write-all : tie.Need-slice-reshare-prefix-write-all Inv-loop μ-loop
-slice-reshare-prefix-write-all c = omega (arith, c .before .loop .inv .ready .room)
+slice-reshare-prefix-write-all c = omega (arith, c .before .before .tell-end .ensures .turned (c .before .before .before .before .before .before .before .before .before .before .before .before .before .before .before .before .loop .book) (c .before .before .before .before .before .before .before .before .before .before .before .before .before .before .before .before .loop .inv .ready .valid) .text .few, c .before .before .before .before .before .before .before .before .before .before .before .before .before .before .before .before .loop .inv .ready .room, c .before .before .tell-end .kept .1 .1 .1 .1 .0)
 
--- src/main.rt:246:34
+-- src/main.rt:181:42
 slice-aggregate-write-all : tie.Need-slice-aggregate-write-all Inv-loop μ-loop
-slice-aggregate-write-all c = sym (length-take-le _ _ (omega (arith, c .before .before .loop .inv .ready .room)))
+slice-aggregate-write-all c = sym (length-take-le _ _ (omega (arith, c .before .before .before .tell-end .ensures .turned (c .before .before .before .before .before .before .before .before .before .before .before .before .before .before .before .before .before .loop .book) (c .before .before .before .before .before .before .before .before .before .before .before .before .before .before .before .before .before .loop .inv .ready .valid) .text .few, c .before .before .before .before .before .before .before .before .before .before .before .before .before .before .before .before .before .loop .inv .ready .room, c .before .before .before .tell-end .kept .1 .1 .1 .1 .0)))
 
--- src/main.rt:246:5
+-- src/main.rt:181:13
 write-all-requires : tie.Need-write-all-requires Inv-loop μ-loop
 write-all-requires c κs = tt
 
--- src/main.rt:229:1
+-- src/main.rt:182:13
 same-length : tie.Need-same-length Inv-loop μ-loop
-same-length c = c .before .before .before .loop .inv .blocks
+same-length c = c .before .before .before .before .before .before .before .before .before .before .before .before .before .before .fill-frame .ensures .same ∙ c .before .before .before .before .before .before .before .before .before .before .before .before .before .before .before .before .before .before .loop .inv .blocks
 
--- src/main.rt:229:1
+-- src/main.rt:182:13
 same-length-2 : tie.Need-same-length-2 Inv-loop μ-loop
-same-length-2 c = c .before .before .before .loop .inv .spaces
+same-length-2 c = c .before .before .before .before .before .before .before .before .before .before .before .before .before .before .before .before .before .before .loop .inv .spaces
 
--- src/main.rt:229:1
+-- src/main.rt:182:13
 same-length-3 : tie.Need-same-length-3 Inv-loop μ-loop
-same-length-3 c = c .before .before .before .loop .inv .outs
+same-length-3 c = c .before .before .before .before .tell-end .kept .1 .1 .1 .1 .0 ∙ c .before .before .before .before .before .before .before .before .before .before .before .before .before .before .before .before .before .before .loop .inv .outs
 
--- src/main.rt:229:1
+-- src/main.rt:182:13
 returns : tie.Need-returns Inv-loop μ-loop
 returns c = tt
+
+-- src/main.rt:184:20
+add-next : tie.Need-add-next Inv-loop μ-loop
+add-next c = omega (arith, event-fits (ready-filled (c .before .before .before .before .before .before .before .before .before .before .loop .inv .ready) (c .before .before .before .before .before .before .fill-frame .ensures)) (c .before .cut .ensures), c .before .before .before .before .before .before .fill-frame .ensures .lies .inside)
+
+-- src/main.rt:185:38
+sub-tell : tie.Need-sub-tell Inv-loop μ-loop
+sub-tell c = omega arith
+
+-- src/main.rt:185:38
+part-tell-start : tie.Need-part-tell-start Inv-loop μ-loop
+part-tell-start c = omega (arith, c .before .before .before .before .before .before .before .fill-frame .ensures .lies .order, c .before .before .before .before .before .before .before .fill-frame .ensures .lies .inside)
+
+-- src/main.rt:185:38
+part-tell-end : tie.Need-part-tell-end Inv-loop μ-loop
+part-tell-end c = omega (arith, event-fits (ready-filled (c .before .before .before .before .before .before .before .before .before .before .before .loop .inv .ready) (c .before .before .before .before .before .before .before .fill-frame .ensures)) (c .before .before .cut .ensures), c .before .before .before .before .before .before .before .fill-frame .ensures .lies .inside)
+
+-- src/main.rt:185:13
+tell-requires : tie.Need-tell-requires Inv-loop μ-loop
+tell-requires c κs = (c .before .before .before .before .before .before .before .before .before .before .before .before .before .before .loop .inv .ready .valid, (c .before .before .before .before .before .before .before .before .before .before .before .before .before .before .loop .inv .ready .size, c .before .before .before .before .before .before .before .before .before .before .before .before .before .before .loop .inv .ready .room))
+
+-- src/main.rt:188:13
+drain-requires : tie.Need-drain-requires Inv-loop μ-loop
+drain-requires c κs = (omega (arith, c .before .before .before .before .before .tell .ensures .text .few, c .before .before .before .before .before .before .before .before .before .before .before .before .before .before .before .before .before .before .before .before .loop .inv .ready .room, c .before .before .before .before .before .tell .kept .1 .1 .1 .1 .0), omega (arith, c .before .before .before .before .before .before .before .before .before .before .before .before .before .before .before .before .before .before .before .before .loop .inv .ready .room, c .before .before .before .before .before .tell .kept .1 .1 .1 .1 .0))
+
+-- src/main.rt:191:9
+add-index : tie.Need-add-index Inv-loop μ-loop
+add-index c = omega (arith, ltb-true (c .before .before .before .before .before .before .before .before .before .before .before .before .before .before .before .before .before .before .before .before .before .loop .index) 18446744073709551615 (c .before .before .before .before .before .before .before .before .before .before .before .before .before .before .before .before .before .before .before .if1 .taken))
+
+-- src/main.rt:174:5
+loop-less : tie.Need-loop-less Inv-loop μ-loop
+loop-less c = omega (arith, ltb-true (c .before .before .before .before .before .before .before .before .before .before .before .before .before .before .before .before .before .before .before .before .before .loop .index) 18446744073709551615 (c .before .before .before .before .before .before .before .before .before .before .before .before .before .before .before .before .before .before .before .if1 .taken))
+
+-- src/main.rt:174:5
+loop-again : tie.Need-loop-again Inv-loop μ-loop
+loop-again c = running-next (c .before .before .before .before .before .before .before .before .before .before .before .before .before .before .before .before .before .before .before .before .before .loop .inv) (c .before .before .before .before .before .before .before .before .before .before .before .before .before .before .before .before .before .fill-frame .ensures) (c .before .before .before .before .before .before .before .before .before .before .before .before .cut .ensures) (c .before .before .before .before .before .before .before .before .before .before .before .if2 .left) (c .before .before .before .before .before .before .tell .ensures) (c .drain .ensures) (c .before .before .before .before .before .before .tell .kept .1 .1 .1 .0) (c .before .before .before .before .before .before .tell .kept .1 .1 .1 .1 .0)
+
+-- src/main.rt:193:34
+slice-reshare-prefix-write-all-2 : tie.Need-slice-reshare-prefix-write-all-2 Inv-loop μ-loop
+slice-reshare-prefix-write-all-2 c = omega (arith, c .before .loop .inv .ready .room)
+
+-- src/main.rt:193:34
+slice-aggregate-write-all-2 : tie.Need-slice-aggregate-write-all-2 Inv-loop μ-loop
+slice-aggregate-write-all-2 c = sym (length-take-le _ _ (omega (arith, c .before .before .loop .inv .ready .room)))
+
+-- src/main.rt:193:5
+write-all-requires-2 : tie.Need-write-all-requires-2 Inv-loop μ-loop
+write-all-requires-2 c κs = tt
+
+-- src/main.rt:165:1
+same-length-4 : tie.Need-same-length-4 Inv-loop μ-loop
+same-length-4 c = c .before .before .before .loop .inv .blocks
+
+-- src/main.rt:165:1
+same-length-5 : tie.Need-same-length-5 Inv-loop μ-loop
+same-length-5 c = c .before .before .before .loop .inv .spaces
+
+-- src/main.rt:165:1
+same-length-6 : tie.Need-same-length-6 Inv-loop μ-loop
+same-length-6 c = c .before .before .before .loop .inv .outs
+
+-- src/main.rt:165:1
+returns-2 : tie.Need-returns-2 Inv-loop μ-loop
+returns-2 c = tt
 
 pub run-spec : {M : Type 1} → statement M
 run-spec =
@@ -78,14 +154,32 @@ run-spec =
     μ-loop
     first-requires
     loop-holds
-    advance-requires
-    add-index
-    loop-less
-    loop-again
+    fill-frame-requires
+    sub-cut
+    part-cut-start
+    part-cut-end
+    cut-requires
+    tell-end-requires
     slice-reshare-prefix-write-all
     slice-aggregate-write-all
     write-all-requires
     same-length
     same-length-2
     same-length-3
-    returns)
+    returns
+    add-next
+    sub-tell
+    part-tell-start
+    part-tell-end
+    tell-requires
+    drain-requires
+    add-index
+    loop-less
+    loop-again
+    slice-reshare-prefix-write-all-2
+    slice-aggregate-write-all-2
+    write-all-requires-2
+    same-length-4
+    same-length-5
+    same-length-6
+    returns-2)

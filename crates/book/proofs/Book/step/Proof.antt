@@ -15,7 +15,7 @@ refuse-requires c κs = search needs
 
 -- src/lib.rt:243:13
 returns : tie.Need-returns
-returns c = stepped-short _ _ _ (c .before .before .before .before .pre) (c .before .if1 .taken) (c .refuse .ensures)
+returns c = stepped-short _ _ _ (c .before .before .before .before .pre) (c .before .before .if1 .taken) (c .refuse .ensures)
 
 -- src/lib.rt:245:13
 read-requires : tie.Need-read-requires
@@ -35,11 +35,11 @@ enum-known-reading-2 c = search needs
 
 -- src/lib.rt:248:38
 take-requires : tie.Need-take-requires
-take-requires c κs = (c .before .before .before .before .before .before .before .before .pre, event-fit _ (sym (c .before .before .reading2 .given .1) ∙ c .before .before .before .before .read .ensures), c .before .before .before .before .before .if1 .left)
+take-requires c κs = (c .before .before .before .before .before .before .before .pre, event-fit _ (sym (c .before .before .reading2 .given .1) ∙ c .before .before .before .before .read .ensures), c .before .before .before .before .before .if1 .left)
 
 -- src/lib.rt:237:5
 returns-2 : tie.Need-returns-2
-returns-2 c = stepped-refused _ _ _ (c .before .before .before .before .before .before .before .before .pre) (c .before .before .before .before .before .if1 .left) (sym (c .before .before .reading .given .1) ∙ c .before .before .before .before .read .ensures) (c .refuse2 .ensures)
+returns-2 c = stepped-refused _ _ _ (c .before .before .before .before .before .before .before .before .pre) (c .before .before .before .before .before .before .if1 .left) (sym (c .before .before .before .reading .given .1) ∙ c .before .before .before .before .before .read .ensures) (c .refuse2 .ensures)
 
 -- src/lib.rt:237:5
 same-length : tie.Need-same-length
