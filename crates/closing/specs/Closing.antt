@@ -9,8 +9,8 @@ use lib.Bits.{bitAnd}
 use lib.Dec.{eqb, leb}
 use lib.IntN.{ℤ}
 use lib.ListN.{length, getD, length-append}
-use Rattle.base.specs.Pick.{pick, pick-true, pick-false, pick-all, tests}
-use Rattle.base.specs.Walks.{walk}
+use Rattle.base.specs.Pick.{pick, pick-true, pick-false, pick-all, pick-yes, tests}
+use Rattle.base.specs.Walks.{walk, clash}
 use Rattle.base.specs.Sets.{has, minus}
 use Rattle.base.specs.SetLaws.{minus-and}
 use Rattle.rules.specs.declared.Entry.{Entry}
@@ -33,22 +33,29 @@ use Rattle.ranges.specs.Fit.{Fit, fit-done}
 use Rattle.passes.specs.Passes.{idle}
 use Rattle.auctions.specs.Ranged.{Ranged, ranged-kept, ranged-done}
 
+-- a row that has nothing live is not moved, whatever its number
+idle-row : {A : Type 0} (t u : Bool) (x y : A) → pick t (not u) false ≡ false → pick t (pick u x y) x ≡ x
+unfolding pick
+idle-row true true x y h = refl
+idle-row true false x y h = absurd (clash refl h)
+idle-row false u x y h = refl
+
 module _ (n i : ℕ) (b : State) where
-  pub entry-not : ¬ (entryAt b i .number ≡ n) → cancelEntryOf n i b ≡ still b
+  pub entry-not : pick (eqb (entryAt b i .number) n) (not (eqb (entryAt b i .units) 0)) false ≡ false → cancelEntryOf n i b ≡ still b
+  unfolding cancelEntryOf cancelEntry
+  entry-not h = idle-row (eqb (entryAt b i .number) n) (eqb (entryAt b i .units) 0) _ _ h
+
+  pub entry-yes : pick (eqb (entryAt b i .number) n) (not (eqb (entryAt b i .units) 0)) false ≡ true → cancelEntryOf n i b ≡ cancelEntry i b
   unfolding cancelEntryOf
-  entry-not e = pick-false _ _ _ (ne-eqb _ _ e)
+  entry-yes h = pick-true _ _ _ (pick-yes (eqb (entryAt b i .number) n) h .0)
 
-  pub entry-yes : entryAt b i .number ≡ n → cancelEntryOf n i b ≡ cancelEntry i b
-  unfolding cancelEntryOf
-  entry-yes e = pick-true _ _ _ (eq-eqb _ _ e)
+  pub order-not : pick (eqb (orderAt b i .number) n) (not (eqb (orderAt b i .contracts) 0)) false ≡ false → cancelOrderOf n i b ≡ still b
+  unfolding cancelOrderOf cancelOrder
+  order-not h = idle-row (eqb (orderAt b i .number) n) (eqb (orderAt b i .contracts) 0) _ _ h
 
-  pub order-not : ¬ (orderAt b i .number ≡ n) → cancelOrderOf n i b ≡ still b
+  pub order-yes : pick (eqb (orderAt b i .number) n) (not (eqb (orderAt b i .contracts) 0)) false ≡ true → cancelOrderOf n i b ≡ cancelOrder i b
   unfolding cancelOrderOf
-  order-not e = pick-false _ _ _ (ne-eqb _ _ e)
-
-  pub order-yes : orderAt b i .number ≡ n → cancelOrderOf n i b ≡ cancelOrder i b
-  unfolding cancelOrderOf
-  order-yes e = pick-true _ _ _ (eq-eqb _ _ e)
+  order-yes h = pick-true _ _ _ (pick-yes (eqb (orderAt b i .number) n) h .0)
 
 -- live rows by what the code tests
 pub dead : (e : Entry) → e .units ≡ 0 → live e ≡ false

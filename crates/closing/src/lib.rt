@@ -90,6 +90,16 @@ pub fn fresh(timer: u32) -> State
     }
 }
 
+// Whether a row of number x has something live, and is the one sought.
+fn has_live(x: u32, quantity: u32, number: u32) -> bool
+    ensures { λ r. ⌜ r ≡ pick (eqb x number) (not (eqb quantity 0)) false ⌝ }
+{
+    if x == number {
+        return quantity != 0;
+    }
+    false
+}
+
 fn cancel_entries(b: State, number: u32, space: &mut [i32], n: usize) -> After
     requires { ⌜ Fit b ⌝ }
     requires { ⌜ Room (now space) n (each (cancelEntryOf number) 32 b .records) ⌝ }
@@ -100,7 +110,7 @@ fn cancel_entries(b: State, number: u32, space: &mut [i32], n: usize) -> After
     let mut i: usize = 0;
     while i < 32 {
         let e = c.entries[i];
-        if e.number == number {
+        if has_live(e.number, e.units, number) {
             let t = cancel_entry(c, i, space, m);
             c = t.state;
             m = t.count;
@@ -120,7 +130,7 @@ fn cancel_orders(b: State, number: u32, space: &mut [i32], n: usize) -> After
     let mut i: usize = 0;
     while i < 32 {
         let o = c.orders[i];
-        if o.number == number {
+        if has_live(o.number, o.contracts, number) {
             let t = cancel_order(c, i, space, m);
             c = t.state;
             m = t.count;

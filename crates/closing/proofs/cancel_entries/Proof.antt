@@ -8,10 +8,12 @@ use borrow.Author.Needs.{needs}
 use native.Mathlib.Omega.{arith}
 use Prim.Native.Nat.{_≤_, _-_}
 use mathlib.Core.Path.{_≡_}
+use Rattle.base.specs.Pick.{told}
 use Rattle.closing.proofs.cancel_entries.Statement.{statement}
 use Rattle.closing.proofs.cancel_entries.Tie as tie
 use Rattle.closing.proofs.cancel_entries.Reads as reads
 use Rattle.closing.proofs.cancel_entries.Lts as lts
+use Rattle.closing.proofs.has_live.Reads as has-live-reads
 use Rattle.fills.proofs.cancel_entry.Reads as cancel-entry-reads
 
 abbrev Inv-loop : tie.InvT-loop
@@ -20,39 +22,43 @@ Inv-loop number space₀ n c₀ m₀ i₀ space c m i = (i ≤ 32) × Done space
 abbrev μ-loop : tie.MeasureT-loop
 μ-loop number space₀ n c₀ m₀ i₀ space c m i = 32 - i
 
--- src/lib.rt:125:5
+-- src/lib.rt:111:5
 loop-holds : tie.Need-loop-holds Inv-loop μ-loop
 loop-holds c = (omega arith, each-first _ _ _ _)
 
--- src/lib.rt:126:17
+-- src/lib.rt:112:17
 mul-e : tie.Need-mul-e Inv-loop μ-loop
 mul-e c = search needs
 
--- src/lib.rt:126:17
+-- src/lib.rt:112:17
 element-copy-out-e : tie.Need-element-copy-out-e Inv-loop μ-loop
 element-copy-out-e c = c .loop-test .taken
 
--- src/lib.rt:128:17
-cancel-entry-requires : tie.Need-cancel-entry-requires Inv-loop μ-loop
-cancel-entry-requires c κs = ((c .before .before .before .before .loop-test .taken, fit-each (cancelEntryOf (c .before .before .before .before .before .before .args .number)) (cancelEntryOf-kept shrinks-kept (c .before .before .before .before .before .before .args .number)) _ _ (c .before .before .before .before .before .before .pre .0) (c .before .before .before .before .before .loop .inv .1)), room-of (entry-yes _ _ _ (c .before .if1 .taken)) (room-each (cancelEntryOf (c .before .before .before .before .before .before .args .number)) 32 _ _ (c .before .before .before .before .before .before .pre .1) (c .before .before .before .before .loop-test .taken) (c .before .before .before .before .before .loop .inv .1)))
+-- src/lib.rt:113:12
+has-live-requires : tie.Need-has-live-requires Inv-loop μ-loop
+has-live-requires c κs = search needs
 
--- src/lib.rt:132:9
+-- src/lib.rt:114:17
+cancel-entry-requires : tie.Need-cancel-entry-requires Inv-loop μ-loop
+cancel-entry-requires c κs = ((c .before .before .before .before .loop-test .taken, fit-each (cancelEntryOf (c .before .before .before .before .before .before .args .number)) (cancelEntryOf-kept shrinks-kept (c .before .before .before .before .before .before .args .number)) _ _ (c .before .before .before .before .before .before .pre .0) (c .before .before .before .before .before .loop .inv .1)), room-of (entry-yes _ _ _ (told (c .before .before .has-live .ensures) (c .before .if1 .taken))) (room-each (cancelEntryOf (c .before .before .before .before .before .before .args .number)) 32 _ _ (c .before .before .before .before .before .before .pre .1) (c .before .before .before .before .loop-test .taken) (c .before .before .before .before .before .loop .inv .1)))
+
+-- src/lib.rt:118:9
 add-i : tie.Need-add-i Inv-loop μ-loop
 add-i c = omega arith
 
--- src/lib.rt:125:5
+-- src/lib.rt:111:5
 loop-less : tie.Need-loop-less Inv-loop μ-loop
 loop-less c = omega arith
 
--- src/lib.rt:125:5
+-- src/lib.rt:111:5
 loop-again : tie.Need-loop-again Inv-loop μ-loop
-loop-again c = (omega arith, ⊎-elim (λ w. rw (w .5, w .6, w .7) (each-next (cancelEntryOf (c .before .before .before .before .before .args .number)) _ _ (c .before .before .before .before .loop .inv .1) (done-of (entry-yes _ _ _ (w .0 .taken)) (w .2 .ensures)))) (λ w. rw (w .1, w .2, w .3) (each-next (cancelEntryOf (c .before .before .before .before .before .args .number)) _ _ (c .before .before .before .before .loop .inv .1) (done-of (entry-not _ _ _ (w .0 .left)) (done-still _ _ _)))) (c .if1 .came))
+loop-again c = (omega arith, ⊎-elim (λ w. rw (w .5, w .6, w .7) (each-next (cancelEntryOf (c .before .before .before .before .before .args .number)) _ _ (c .before .before .before .before .loop .inv .1) (done-of (entry-yes _ _ _ (told (c .before .has-live .ensures) (w .0 .taken))) (w .2 .ensures)))) (λ w. rw (w .1, w .2, w .3) (each-next (cancelEntryOf (c .before .before .before .before .before .args .number)) _ _ (c .before .before .before .before .loop .inv .1) (done-of (entry-not _ _ _ (told (c .before .has-live .ensures) (w .0 .left))) (done-still _ _ _)))) (c .if1 .came))
 
--- src/lib.rt:117:1
+-- src/lib.rt:103:1
 same-length : tie.Need-same-length Inv-loop μ-loop
 same-length c = done-length (c .before .loop .inv .1)
 
--- src/lib.rt:117:1
+-- src/lib.rt:103:1
 returns : tie.Need-returns Inv-loop μ-loop
 returns c = let e : c .before .loop .i ≡ 32 = omega arith in rw e at (c .before .loop .inv .1)
 
@@ -65,6 +71,7 @@ cancel-entries-spec =
     loop-holds
     mul-e
     element-copy-out-e
+    has-live-requires
     cancel-entry-requires
     add-i
     loop-less

@@ -8,10 +8,12 @@ use borrow.Author.Needs.{needs}
 use native.Mathlib.Omega.{arith}
 use Prim.Native.Nat.{_≤_, _-_}
 use mathlib.Core.Path.{_≡_}
+use Rattle.base.specs.Pick.{told}
 use Rattle.closing.proofs.cancel_orders.Statement.{statement}
 use Rattle.closing.proofs.cancel_orders.Tie as tie
 use Rattle.closing.proofs.cancel_orders.Reads as reads
 use Rattle.closing.proofs.cancel_orders.Lts as lts
+use Rattle.closing.proofs.has_live.Reads as has-live-reads
 use Rattle.trades.proofs.cancel_order.Reads as cancel-order-reads
 
 abbrev Inv-loop : tie.InvT-loop
@@ -20,39 +22,43 @@ Inv-loop number space₀ n c₀ m₀ i₀ space c m i = (i ≤ 32) × Done space
 abbrev μ-loop : tie.MeasureT-loop
 μ-loop number space₀ n c₀ m₀ i₀ space c m i = 32 - i
 
--- src/lib.rt:125:5
+-- src/lib.rt:131:5
 loop-holds : tie.Need-loop-holds Inv-loop μ-loop
 loop-holds c = (omega arith, each-first _ _ _ _)
 
--- src/lib.rt:126:17
+-- src/lib.rt:132:17
 mul-o : tie.Need-mul-o Inv-loop μ-loop
 mul-o c = search needs
 
--- src/lib.rt:126:17
+-- src/lib.rt:132:17
 element-copy-out-o : tie.Need-element-copy-out-o Inv-loop μ-loop
 element-copy-out-o c = c .loop-test .taken
 
--- src/lib.rt:128:17
-cancel-order-requires : tie.Need-cancel-order-requires Inv-loop μ-loop
-cancel-order-requires c κs = ((c .before .before .before .before .loop-test .taken, fit-each (cancelOrderOf (c .before .before .before .before .before .before .args .number)) (cancelOrderOf-kept shrinks-kept (c .before .before .before .before .before .before .args .number)) _ _ (c .before .before .before .before .before .before .pre .0) (c .before .before .before .before .before .loop .inv .1) .orders), room-of (order-yes _ _ _ (c .before .if1 .taken)) (room-each (cancelOrderOf (c .before .before .before .before .before .before .args .number)) 32 _ _ (c .before .before .before .before .before .before .pre .1) (c .before .before .before .before .loop-test .taken) (c .before .before .before .before .before .loop .inv .1)))
+-- src/lib.rt:133:12
+has-live-requires : tie.Need-has-live-requires Inv-loop μ-loop
+has-live-requires c κs = search needs
 
--- src/lib.rt:132:9
+-- src/lib.rt:134:17
+cancel-order-requires : tie.Need-cancel-order-requires Inv-loop μ-loop
+cancel-order-requires c κs = ((c .before .before .before .before .loop-test .taken, fit-each (cancelOrderOf (c .before .before .before .before .before .before .args .number)) (cancelOrderOf-kept shrinks-kept (c .before .before .before .before .before .before .args .number)) _ _ (c .before .before .before .before .before .before .pre .0) (c .before .before .before .before .before .loop .inv .1) .orders), room-of (order-yes _ _ _ (told (c .before .before .has-live .ensures) (c .before .if1 .taken))) (room-each (cancelOrderOf (c .before .before .before .before .before .before .args .number)) 32 _ _ (c .before .before .before .before .before .before .pre .1) (c .before .before .before .before .loop-test .taken) (c .before .before .before .before .before .loop .inv .1)))
+
+-- src/lib.rt:138:9
 add-i : tie.Need-add-i Inv-loop μ-loop
 add-i c = omega arith
 
--- src/lib.rt:125:5
+-- src/lib.rt:131:5
 loop-less : tie.Need-loop-less Inv-loop μ-loop
 loop-less c = omega arith
 
--- src/lib.rt:125:5
+-- src/lib.rt:131:5
 loop-again : tie.Need-loop-again Inv-loop μ-loop
-loop-again c = (omega arith, ⊎-elim (λ w. rw (w .5, w .6, w .7) (each-next (cancelOrderOf (c .before .before .before .before .before .args .number)) _ _ (c .before .before .before .before .loop .inv .1) (done-of (order-yes _ _ _ (w .0 .taken)) (w .2 .ensures)))) (λ w. rw (w .1, w .2, w .3) (each-next (cancelOrderOf (c .before .before .before .before .before .args .number)) _ _ (c .before .before .before .before .loop .inv .1) (done-of (order-not _ _ _ (w .0 .left)) (done-still _ _ _)))) (c .if1 .came))
+loop-again c = (omega arith, ⊎-elim (λ w. rw (w .5, w .6, w .7) (each-next (cancelOrderOf (c .before .before .before .before .before .args .number)) _ _ (c .before .before .before .before .loop .inv .1) (done-of (order-yes _ _ _ (told (c .before .has-live .ensures) (w .0 .taken))) (w .2 .ensures)))) (λ w. rw (w .1, w .2, w .3) (each-next (cancelOrderOf (c .before .before .before .before .before .args .number)) _ _ (c .before .before .before .before .loop .inv .1) (done-of (order-not _ _ _ (told (c .before .has-live .ensures) (w .0 .left))) (done-still _ _ _)))) (c .if1 .came))
 
--- src/lib.rt:117:1
+-- src/lib.rt:123:1
 same-length : tie.Need-same-length Inv-loop μ-loop
 same-length c = done-length (c .before .loop .inv .1)
 
--- src/lib.rt:117:1
+-- src/lib.rt:123:1
 returns : tie.Need-returns Inv-loop μ-loop
 returns c = let e : c .before .loop .i ≡ 32 = omega arith in rw e at (c .before .loop .inv .1)
 
@@ -65,6 +71,7 @@ cancel-orders-spec =
     loop-holds
     mul-o
     element-copy-out-o
+    has-live-requires
     cancel-order-requires
     add-i
     loop-less
