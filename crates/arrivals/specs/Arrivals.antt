@@ -2,7 +2,7 @@
 use mathlib.Core.Path.{_≡_, sym, ap}
 use mathlib.Core.Bool.{Bool, true, false}
 use mathlib.Core.List.{List}
-use Prim.Native.Nat.{ℕ, _≤_, _<_}
+use Prim.Native.Nat.{ℕ, _≤_}
 use native.Mathlib.Omega.{arith}
 use lib.IntN.{ℤ}
 use lib.ListN.{length, List·getD-eq-default}
@@ -27,10 +27,9 @@ use Rattle.rules.proofs.Tables.{behind-length, behind-all}
 use Rattle.records.specs.Done.{Done}
 use Rattle.ranges.specs.Fit.{Fit, fit-done}
 
--- an entry that is live is in its ranges, and has a free slot
-pub record MayEnter (e : Entry) (b : State) : Type 0 where
+-- an entry that is live is in its ranges
+pub record MayEnter (e : Entry) : Type 0 where
   pub fit : live e ≡ true → FitEntry e
-  pub slot : live e ≡ true → freeSlot b < 32
 
 -- laws
 
@@ -127,10 +126,6 @@ fit-pass legs i b f d = fit-done d (pass-kept shrinks-kept Shared legs i b (f .o
 
 pub fit-cancel : (i : ℕ) (b : State) {c : State} {sp sq : List ℤ} {n m : ℕ} → Fit b → Done sp sq n m c (cancelEntry i b) → Fit c
 fit-cancel i b f d = fit-done d (cancel-shrinks b i) f
-
--- the slot is free in the state that the cancel left
-pub slot-after : (e : Entry) (i : ℕ) (b : State) {c : State} {sp sq : List ℤ} {n m : ℕ} → MayEnter e (cancelEntry i b .state) → Done sp sq n m c (cancelEntry i b) → MayEnter e c
-slot-after e i b s d = rw (d .state) s
 
 -- the cancel at the slot that the code has found
 pub old-is : (e : Entry) (b : State) {i : ℕ} → i ≡ oldSweep b e → cancelEntry (oldSweep b e) b ≡ cancelEntry i b

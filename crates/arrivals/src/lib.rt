@@ -6,7 +6,7 @@ ghost use lib.Dec.{eqb};
 ghost use Rattle.base.specs.Pick.{pick};
 ghost use Rattle.rules.specs.Moves.{still};
 ghost use Rattle.rules.specs.Fills.{cancelEntry};
-ghost use Rattle.rules.specs.Events.{live, freeSlot, restOrCancel, mayStart, starts, waits, trades, arrive, onOrder, oldSweep, enterSweep, onSweep};
+ghost use Rattle.rules.specs.Events.{live, freeSlot, restOrCancel, mayStart, starts, waits, trades, arrive, onOrder, enterSweep, onSweep};
 ghost use Rattle.rules.specs.Valid.{FitEntry};
 ghost use Rattle.records.specs.Space.{Room};
 ghost use Rattle.records.specs.Done.{Done};
@@ -16,7 +16,6 @@ use auctions::answer;
 use auctions::begin;
 use endings::running;
 use entries::enter;
-use entries::free_slot;
 use entries::live;
 use entries::old_sweep;
 use fills::cancel_entry;
@@ -64,7 +63,7 @@ fn may_start(e: Entry) -> bool
 
 // Whether it does: its limit is better than the known leg net of its own side.
 fn starts(b: State, e: Entry) -> bool
-    requires { ⌜ (e .strategy < 16) × Fit b ⌝ }
+    requires { ⌜ Fit b ⌝ }
     ensures { λ r. ⌜ r ≡ starts b e ⌝ }
 {
     if may_start(e) {
@@ -131,18 +130,19 @@ pub fn on_order(e: Entry, b: State, space: &mut [i32], n: usize) -> After
     requires { ⌜ Room (now space) n (onOrder e b .records) ⌝ }
     ensures { λ t. ⌜ Done (now (space .entry)) (now (space .exit)) n (t .count) (t .state) (onOrder e b) ⌝ }
 {
-    let i = free_slot(b);
-    let c = enter(e, b);
-    arrive(c, i, space, n)
+    let x = enter(e, b);
+    let c = x.state;
+    arrive(c, x.slot, space, n)
 }
 
 // A sweep enters and answers; one of 0 units enters nothing.
 fn enter_sweep(e: Entry, b: State) -> State
-    requires { ⌜ MayEnter e b × Fit b ⌝ }
+    requires { ⌜ MayEnter e × Fit b ⌝ }
     ensures { λ c. ⌜ still c ≡ enterSweep e b ⌝ }
 {
     if live(e) {
-        let c = enter(e, b);
+        let x = enter(e, b);
+        let c = x.state;
         let k = e.strategy as usize;
         return answer(c, k, e.side);
     }
@@ -163,7 +163,7 @@ fn cancel_at(b: State, i: usize, space: &mut [i32], n: usize) -> After
 
 // A sweep, accepted: the one that it replaces is cancelled first.
 pub fn on_sweep(e: Entry, b: State, space: &mut [i32], n: usize) -> After
-    requires { ⌜ MayEnter e (cancelEntry (oldSweep b e) b .state) × Fit b ⌝ }
+    requires { ⌜ MayEnter e × Fit b ⌝ }
     requires { ⌜ Room (now space) n (onSweep e b .records) ⌝ }
     ensures { λ t. ⌜ Done (now (space .entry)) (now (space .exit)) n (t .count) (t .state) (onSweep e b) ⌝ }
 {

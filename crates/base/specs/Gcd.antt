@@ -117,11 +117,3 @@ gcd-right a b = euclid-divides (suc b) a b (omega arith) .1
 pub gcd-most : (d a b : ℕ) → Divides d a → Divides d b → Divides d (gcd a b)
 unfolding gcd
 gcd-most d a b u v = euclid-most (suc b) d a b (omega arith) u v
-
--- it is not 0 where the first is not
-pub gcd-pos : (a b : ℕ) → 0 < a → 0 < gcd a b
-gcd-pos a b h = divides-pos (gcd-left a b) h
-
--- it is not above the first, where that is not 0
-pub gcd-le : (a b : ℕ) → 0 < a → gcd a b ≤ a
-gcd-le a b h = divides-le (gcd-left a b) h

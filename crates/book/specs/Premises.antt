@@ -1,11 +1,11 @@
 -- What an event that nothing refuses brings to the functions that perform it.
 use mathlib.Core.Path.{_≡_, refl, sym, _∙_}
-use mathlib.Core.Bool.{false}
+use mathlib.Core.Bool.{true, false}
 use Prim.Native.Nat.{ℕ, _≤_, _<_}
 use native.Mathlib.Omega.{arith}
-use borrow.Author.Tests.{leb-false}
+use borrow.Author.Tests.{lt-ltb, le-ltb}
 use lib.Dec.{eqb}
-use Rattle.base.specs.Pick.{pick}
+use Rattle.base.specs.Pick.{pick, pick-true, tests}
 use Rattle.base.specs.Walks.{first-le}
 use Rattle.events.specs.declared.Event.the-variants as E
 use Rattle.events.specs.declared.Strategy.{Strategy as GivenStrategy}
@@ -21,68 +21,61 @@ use Rattle.rules.specs.declared.Entry.{Entry}
 use Rattle.rules.specs.declared.LegOrder.{LegOrder}
 use Rattle.rules.specs.declared.State.{State}
 use Rattle.rules.specs.Moves.{still}
-use Rattle.rules.specs.Strategies.{sameAt, held, numberOf, define}
-use Rattle.rules.specs.Fills.{cancelEntry}
-use Rattle.rules.specs.Events.{freeSlot, freeOrderSlot, oldSweep, onOrder, onSweep, onLegOrder, cancelNumber, onSeries, onClock, onDayEnd}
+use Rattle.rules.specs.Strategies.{sameAt, held, numberOf, added, define}
+use Rattle.rules.specs.Events.{freeSlot, freeOrderSlot, onOrder, onSweep, onLegOrder, cancelNumber, onSeries, onClock, onDayEnd}
 use Rattle.rules.specs.Given.{strategyGiven, orderGiven, sweepGiven, legOrderGiven}
-use Rattle.rules.specs.Refusals.{first, causes, undefined, illFormed, notOpen, unanswerable, removesNone, strategiesFull, ordersFull, legOrdersFull, noRoom, numbersOut, sweepNumbersOut}
+use Rattle.rules.specs.Refusals.{first, causes, illFormed, strategiesFull}
 use Rattle.rules.specs.Step.{valueOf, accept}
 use Rattle.rules.specs.Fits.{FitOrderGiven, FitSweepGiven, FitLegOrderGiven}
 use Rattle.rules.specs.Valid.{FitEntry, FitOrder, Valid}
-use Rattle.rules.proofs.Entering.{Entering, enterOrder-room}
-use Rattle.rules.proofs.Validity.{clear, then-no, order-entering, sweep-given, order-given}
+use Rattle.rules.proofs.Entering.{enterOrder-room, live-pos}
+use Rattle.rules.proofs.Validity.{order-clear, sweep-clear, legOrder-clear}
 use Rattle.ranges.specs.Fit.{Fit, fit-sound}
 use Rattle.arrivals.specs.Arrivals.{MayEnter}
-use Rattle.arrivals.specs.Slots.{order-slot, sweep-enters}
+use Rattle.arrivals.specs.Slots.{order-slot}
 
--- a strategy that is not held has a free slot
-pub strategy-slot : (b : State) (e : GivenStrategy) {n : ℕ} {t : Strategy} → n ≡ first (causes b (E.Strategy e)) → n ≡ 0 → t ≡ strategyGiven e → held b t ≡ false → b .defined < 16
-unfolding causes strategiesFull
-strategy-slot b e c z g h =
-    let x = clear 5 (illFormed e) _ (omega arith) (sym c ∙ z) in
-    let y = clear 12 (strategiesFull b e) _ (omega arith) (x .1) in
-    leb-false 16 (b .defined) (then-no (held b (strategyGiven e)) (y .0) (rw (← g) h))
+-- a definition by what the code has found: ill-formed, held already, no slot left, or a new one
+pub strategy-ill : (b : State) (e : GivenStrategy) → illFormed e ≡ true → 5 ≡ first (causes b (E.Strategy e))
+unfolding causes first
+strategy-ill b e h = sym (pick-true _ _ _ h)
+
+module _ (b : State) (e : GivenStrategy) {t : Strategy} {k : ℕ} (well : illFormed e ≡ false) (g : t ≡ strategyGiven e) (q : k ≡ numberOf b t) where
+  found : k < b .defined → held b (strategyGiven e) ≡ true
+  found h = rw (← g, ← q) (lt-ltb k (b .defined) h)
+
+  missing : b .defined ≤ k → held b (strategyGiven e) ≡ false
+  missing h = rw (← g, ← q) (le-ltb k (b .defined) h)
+
+  pub strategy-held : k < b .defined → (0 ≡ first (causes b (E.Strategy e))) × (accept b (E.Strategy e) ≡ still b)
+  unfolding causes first strategiesFull accept define
+  strategy-held h = rw (well, found h) (search tests, search tests)
+
+  pub strategy-full : b .defined ≤ k → 16 ≤ b .defined → 12 ≡ first (causes b (E.Strategy e))
+  unfolding causes first strategiesFull
+  strategy-full h f = rw (well, missing h) (search tests)
+
+  pub strategy-new : b .defined ≤ k → b .defined < 16 → {c : State} → c ≡ added t b → (0 ≡ first (causes b (E.Strategy e))) × (accept b (E.Strategy e) ≡ still c)
+  unfolding causes first strategiesFull accept define
+  strategy-new h f c = rw (well, missing h, c, g) (search tests, search tests)
 
 -- an order enters
-order-enters : (b : State) (e : GivenOrder) → Valid b → FitOrderGiven e → {n : ℕ} → n ≡ first (causes b (E.Order e)) → n ≡ 0 → Entering b (orderGiven b e)
-unfolding causes
-order-enters b e v f c z =
-    let x = clear 4 (undefined b (e .strategy)) _ (omega arith) (sym c ∙ z) in
-    let y = clear 9 (unanswerable b (e .life) (e .strategy)) _ (omega arith) (x .1) in
-    let w = clear 12 (ordersFull b) _ (omega arith) (y .1) in
-    let u = clear 13 (numbersOut b) _ (omega arith) (w .1) in
-    order-entering b e (v .sound) f (x .0) (w .0) (u .0)
-
 pub order-premises : (b : State) (e : GivenOrder) → Valid b → FitOrderGiven e → {n : ℕ} {r : Entry} → n ≡ first (causes b (E.Order e)) → n ≡ 0 → r ≡ orderGiven b e → (freeSlot b < 32) × FitEntry r × Fit b
-order-premises b e v f c z g = let n = order-enters b e v f c z in (order-slot b _ (v .sound) n, rw g (n .fit), fit-sound (v .sound))
+order-premises b e v f c z g = let n = order-clear b e (v .sound) f (sym c ∙ z) in (order-slot b _ (v .sound) n, rw g (n .fit), fit-sound (v .sound))
 
 -- a sweep enters, if it has units
-pub sweep-premises : (b : State) (e : GivenSweep) → Valid b → FitSweepGiven e → {n : ℕ} {r : Entry} → n ≡ first (causes b (E.Sweep e)) → n ≡ 0 → r ≡ sweepGiven b e → MayEnter r (cancelEntry (oldSweep b r) b .state) × Fit b
-unfolding causes sweepGiven
+pub sweep-premises : (b : State) (e : GivenSweep) → Valid b → FitSweepGiven e → {n : ℕ} {r : Entry} → n ≡ first (causes b (E.Sweep e)) → n ≡ 0 → r ≡ sweepGiven b e → MayEnter r × Fit b
+unfolding sweepGiven
 sweep-premises b e v f c z g =
-    let x = clear 4 (undefined b (e .strategy)) _ (omega arith) (sym c ∙ z) in
-    let y = clear 9 _ _ (omega arith) (x .1) in
-    let w = clear 10 (removesNone b e) _ (omega arith) (y .1) in
-    let u = clear 12 (noRoom b e) _ (omega arith) (w .1) in
-    let t = clear 13 (sweepNumbersOut b e) _ (omega arith) (u .1) in
-    (rw g (sweep-enters b (sweepGiven b e) v refl (sweep-given b e f (x .0) (u .0) (t .0))), fit-sound (v .sound))
+    let x = sweep-clear b e f (sym c ∙ z) in
+    (rw g (record { fit = λ l. x .1 (live-pos (sweepGiven b e) l) .fit }), fit-sound (v .sound))
 
 -- a leg order enters
 pub leg-premises : (b : State) (e : GivenLegOrder) → Valid b → FitLegOrderGiven e → {n : ℕ} {r : LegOrder} → n ≡ first (causes b (E.LegOrder e)) → n ≡ 0 → r ≡ legOrderGiven b e → (freeOrderSlot b < 32) × FitOrder r × Fit b
-unfolding causes freeOrderSlot
-leg-premises b e v f c z g =
-    let x = clear 6 (notOpen b (e .series)) _ (omega arith) (sym c ∙ z) in
-    let y = clear 12 (legOrdersFull b) _ (omega arith) (x .1) in
-    let w = clear 13 (numbersOut b) _ (omega arith) (y .1) in
-    let n = order-given b e f (y .0) (w .0) in
-    (enterOrder-room b _ (v .sound) n, rw g (n .fit), fit-sound (v .sound))
+unfolding freeOrderSlot
+leg-premises b e v f c z g = let n = legOrder-clear b e f (sym c ∙ z) in (enterOrder-room b _ (v .sound) n, rw g (n .fit), fit-sound (v .sound))
 
 -- what is accepted, by the rows that the code has made
 module _ (b : State) where
-  pub strategy-accepts : (e : GivenStrategy) {t : Strategy} {c : State} → t ≡ strategyGiven e → c ≡ define t b → accept b (E.Strategy e) ≡ still c
-  unfolding accept
-  strategy-accepts e g h = rw (h, g)
-
   pub strategy-value : (e : GivenStrategy) {t : Strategy} {k : ℕ} → t ≡ strategyGiven e → k ≡ numberOf b t → k ≡ valueOf b (E.Strategy e)
   unfolding valueOf
   strategy-value e g h = rw (h, g)

@@ -22,10 +22,10 @@ use closing::on_series;
 use events::Event;
 use events::Reading;
 use frames::read;
+use given::ill_formed;
 use given::leg_order_given;
 use given::order_given;
 use given::strategy_given;
-use given::strategy_refusal;
 use given::sweep_given;
 use refusals::cancel_refusal;
 use refusals::clock_refusal;
@@ -37,7 +37,7 @@ use rules::Depth;
 use rules::Entry;
 use rules::Shut;
 use rules::State;
-use strategies::define;
+use strategies::add;
 use strategies::number_of;
 
 pub struct Book {
@@ -106,13 +106,19 @@ impl Book {
         ensures { λ x. ⌜ Took (self .state) (E.Strategy e) (now (space .entry)) (now (space .exit)) x ⌝ }
     {
         let b = self.state;
-        let r = strategy_refusal(b, e);
-        if r != 0 {
-            return refuse(b, r);
+        if ill_formed(e) {
+            return refuse(b, 5);
         }
         let s = strategy_given(e);
         let k = number_of(b, s);
-        let c = define(s, b);
+        let n = b.defined as usize;
+        if k < n {
+            return admit(b, k as u32, 0);
+        }
+        if 16 <= n {
+            return refuse(b, 12);
+        }
+        let c = add(s, b);
         admit(c, k as u32, 0)
     }
 

@@ -2,33 +2,33 @@
 use mathlib.Core.Path.{_≡_, refl, sym, _∙_, ap}
 use mathlib.Core.Bool.{Bool, true, false, not}
 use mathlib.Core.List.{List}
-use Prim.Native.Nat.{ℕ, zero, suc, _+_, _-_, _^_, _≤_, _<_}
+use Prim.Native.Nat.{ℕ, zero, suc, _+_, _-_, _^_, _≤_, _<_, min}
 use native.Mathlib.Omega.{arith}
-use borrow.Author.Tests.{eq-eqb, ne-eqb}
+use borrow.Author.Tests.{eqb-true, eq-eqb, ne-eqb}
 use lib.Bits.{bitAnd}
 use lib.Dec.{eqb, leb}
 use lib.IntN.{ℤ}
-use lib.ListN.{length, getD, length-append}
-use Rattle.base.specs.Pick.{pick, pick-true, pick-false, pick-all, pick-yes, tests}
-use Rattle.base.specs.Walks.{walk, clash}
+use lib.ListN.{length}
+use Rattle.base.specs.Pick.{pick, pick-true, pick-false, pick-by, pick-yes, tests}
+use Rattle.base.specs.Walks.{walk, walk-next, clash}
 use Rattle.base.specs.Sets.{has, minus}
 use Rattle.base.specs.SetLaws.{minus-and}
-use Rattle.rules.specs.declared.Entry.{Entry}
 use Rattle.rules.specs.declared.LegOrder.{LegOrder}
 use Rattle.rules.specs.declared.State.{State}
-use Rattle.rules.specs.State.{fresh, noEntry, noOrder, entryAt, orderAt, strategyAt, withOrders, withOpened, withClock, withLast}
+use Rattle.rules.specs.State.{fresh, noOrder, entryAt, orderAt, strategyAt, withOrders, withOpened, withClock, withLast}
 use Rattle.rules.specs.Moves.{Moved, still, and-then, each}
 use Rattle.rules.specs.Strategies.{holds, shutSet}
 use Rattle.rules.specs.Fills.{cancelEntry, cancelOrder}
 use Rattle.rules.specs.Auctions.{running, close, endUnfilled, endAuction, due, endDue, endHolding, legPasses, matchIn}
-use Rattle.rules.specs.Events.{live, liveOrder, enterOrder, freeOrderSlot, tradeAll, ifRests, onLegOrder, cancelEntryOf, cancelOrderOf, cancelNumber, onClock, shut, reopen, onSeries, closeRunning, lower, lowestLive, cancelLowest, restart, onDayEnd}
+use Rattle.rules.specs.Events.{live, liveOrder, enterOrder, freeOrderSlot, tradeAll, ifRests, onLegOrder, cancelEntryOf, cancelOrderOf, cancelNumber, onClock, shut, reopen, onSeries, closeRunning, lower, lowerEntry, lowerOrder, lowestLive, cancelLowest, restart, onDayEnd}
 use Rattle.rules.specs.Valid.{FitOrder}
 use Rattle.rules.proofs.Shrinks.{Shrinks}
+use Rattle.rules.proofs.Finishes.{each-shrinks}
+use Rattle.rules.proofs.DayEnd.{Numbered, numbered-shrinks}
 use Rattle.rules.proofs.Control.{each-kept, tradeAll-kept, shrinks-kept}
 use Rattle.rules.proofs.Entering.{fit-no-order}
-use Rattle.rules.proofs.Turns.{then-still}
 use Rattle.rules.proofs.Tables.{behind-all, behind-length}
-use Rattle.records.specs.Done.{Done, done-still, done-of, done-then, each-next}
+use Rattle.records.specs.Done.{Done, done-still, done-of, done-then}
 use Rattle.ranges.specs.Fit.{Fit, fit-done}
 use Rattle.passes.specs.Passes.{idle}
 use Rattle.auctions.specs.Ranged.{Ranged, ranged-kept, ranged-done}
@@ -57,86 +57,89 @@ module _ (n i : ℕ) (b : State) where
   unfolding cancelOrderOf
   order-yes h = pick-true _ _ _ (pick-yes (eqb (orderAt b i .number) n) h .0)
 
--- live rows by what the code tests
-pub dead : (e : Entry) → e .units ≡ 0 → live e ≡ false
-unfolding live
-dead e h = rw (eq-eqb _ _ h)
+-- the lower of some numbers does not depend on their order
+lower-none : (n : ℕ) → lower n 0 ≡ n
+unfolding lower
+lower-none n = pick-by (λ (x : ℕ). x ≡ n) (eqb n 0) (λ z. sym (eqb-true n 0 z)) (λ z. pick-true _ _ _ (eq-eqb 0 0 refl))
 
-pub alive : (e : Entry) → ¬ (e .units ≡ 0) → live e ≡ true
-unfolding live
-alive e h = rw (ne-eqb _ _ h)
+lower-zero : (m : ℕ) → lower 0 m ≡ m
+unfolding lower
+lower-zero m = pick-true _ _ _ (eq-eqb 0 0 refl)
 
-pub order-dead : (o : LegOrder) → o .contracts ≡ 0 → liveOrder o ≡ false
-unfolding liveOrder
-order-dead o h = rw (eq-eqb _ _ h)
+lower-min : (n m : ℕ) → 0 < n → 0 < m → lower n m ≡ min n m
+unfolding lower
+lower-min n m h l =
+    let p : ¬ (n ≡ 0) = omega arith in
+    let q : ¬ (m ≡ 0) = omega arith in
+    search tests
 
-pub order-alive : (o : LegOrder) → ¬ (o .contracts ≡ 0) → liveOrder o ≡ true
-unfolding liveOrder
-order-alive o h = rw (ne-eqb _ _ h)
+pub lower-first : (n m : ℕ) → ¬ (n ≡ 0) → n ≤ m → n ≡ lower n m
+lower-first n m p h = omega (arith, lower-min n m (omega arith) (omega arith))
 
--- the lower of a number and that of a row, where the row is live
-abbrev pub lowerIn : List Entry → ℕ → ℕ → ℕ
-lowerIn es i n = pick (live (getD es i noEntry)) (lower n (getD es i noEntry .number)) n
+pub lower-second : (n m : ℕ) → ¬ (n ≡ 0) → ¬ (m ≡ 0) → m < n → m ≡ lower n m
+lower-second n m p q h = omega (arith, lower-min n m (omega arith) (omega arith))
 
-abbrev pub lowerOrderIn : List LegOrder → ℕ → ℕ → ℕ
-lowerOrderIn os i n = pick (liveOrder (getD os i noOrder)) (lower n (getD os i noOrder .number)) n
+lower-comm : (n m : ℕ) → lower n m ≡ lower m n
+lower-comm zero m = lower-zero m ∙ sym (lower-none m)
+lower-comm (suc n) zero = lower-none (suc n) ∙ sym (lower-zero (suc n))
+lower-comm (suc n) (suc m) = rw (lower-min (suc n) (suc m) (omega arith) (omega arith), lower-min (suc m) (suc n) (omega arith) (omega arith)) (omega arith)
 
--- a cancel of the lowest is the same at every turn
-pub lowest-turn : (i : ℕ) (b : State) → cancelLowest i b ≡ cancelLowest 0 b
-unfolding cancelLowest
-lowest-turn i b = refl
+lower-swap : (n x y : ℕ) → lower (lower n x) y ≡ lower (lower n y) x
+lower-swap zero x y = rw (lower-zero x, lower-zero y) (lower-comm x y)
+lower-swap (suc n) zero y = rw (lower-none (suc n), lower-none (lower (suc n) y))
+lower-swap (suc n) (suc x) zero = rw (lower-none (suc n), lower-none (lower (suc n) (suc x)))
+lower-swap (suc n) (suc x) (suc y) =
+    rw (lower-min (suc n) (suc x) (omega arith) (omega arith), lower-min (suc n) (suc y) (omega arith) (omega arith))
+    (lower-min (min (suc n) (suc x)) (suc y) (omega arith) (omega arith) ∙ (omega arith) ∙ sym (lower-min (min (suc n) (suc y)) (suc x) (omega arith) (omega arith)))
 
--- A move that writes nothing and so moves nothing: of two such moves, and of such a move at each slot.
-and-quiet : (x : Moved) (f : State → Moved) (b : State) → (length (x .records) ≡ 0 → x ≡ still b) → ((c : State) → length (f c .records) ≡ 0 → f c ≡ still c)
-    → length (and-then x f .records) ≡ 0 → and-then x f ≡ still b
-unfolding and-then
-and-quiet x f b p q e =
-    let l = length-append (x .records) (f (x .state) .records) in
-    then-still x f (q (x .state) (omega (arith, e, l))) ∙ p (omega (arith, e, l))
+live-swap : (t u : Bool) (n x y : ℕ) → pick t (lower (pick u (lower n x) n) y) (pick u (lower n x) n) ≡ pick u (lower (pick t (lower n y) n) x) (pick t (lower n y) n)
+unfolding pick
+live-swap true true n x y = lower-swap n x y
+live-swap true false n x y = refl
+live-swap false true n x y = refl
+live-swap false false n x y = refl
 
-each-quiet : (f : ℕ → State → Moved) → ((i : ℕ) (b : State) → length (f i b .records) ≡ 0 → f i b ≡ still b) → (k : ℕ) (b : State) → length (each f k b .records) ≡ 0 → each f k b ≡ still b
-unfolding each
-each-quiet f q zero b e = refl
-each-quiet f q (suc k) b e = and-quiet (each f k b) (f k) b (each-quiet f q k b) (q k) e
+-- two walks of which the steps may be exchanged are one walk with both steps
+module _ {A : Type 0} (f g : ℕ → A → A) (swap : (i j : ℕ) (a : A) → g i (f j a) ≡ f j (g i a)) where
+  walk-past : (j : ℕ) (a : A) (k : ℕ) → walk g (f j a) k ≡ f j (walk g a k)
+  unfolding walk
+  walk-past j a zero = refl
+  walk-past j a (suc k) = ap (g k) (walk-past j a k) ∙ swap k j (walk g a k)
 
-module _ (n i : ℕ) (b : State) where
-  entry-quiet : length (cancelEntryOf n i b .records) ≡ 0 → cancelEntryOf n i b ≡ still b
-  unfolding cancelEntryOf cancelEntry
-  entry-quiet =
-      let P : Moved → Type 0 = λ (x : Moved). length (x .records) ≡ 0 → x ≡ still b in
-      pick-all P _ (pick-all P _ (λ e. refl) (λ e. absurd (let z : _≡_ {A = ℕ} 1 0 = e in omega arith))) (λ e. refl)
+  walk-both : (a : A) (k : ℕ) → walk (λ (i : ℕ) (x : A). g i (f i x)) a k ≡ walk g (walk f a k) k
+  unfolding walk
+  walk-both a zero = refl
+  walk-both a (suc k) = ap (λ (x : A). g k (f k x)) (walk-both a k) ∙ ap (g k) (sym (walk-past k (walk f a k) k))
 
-  order-quiet : length (cancelOrderOf n i b .records) ≡ 0 → cancelOrderOf n i b ≡ still b
-  unfolding cancelOrderOf cancelOrder
-  order-quiet =
-      let P : Moved → Type 0 = λ (x : Moved). length (x .records) ≡ 0 → x ≡ still b in
-      pick-all P _ (pick-all P _ (λ e. refl) (λ e. absurd (let z : _≡_ {A = ℕ} 1 0 = e in omega arith))) (λ e. refl)
+-- the lowest live number by one walk over both tables
+abbrev pub lowerBoth : State → ℕ → ℕ → ℕ
+lowerBoth b i n = lowerOrder b i (lowerEntry b i n)
 
-lowest-quiet : (i : ℕ) (b : State) → length (cancelLowest i b .records) ≡ 0 → cancelLowest i b ≡ still b
-unfolding cancelLowest cancelNumber
-lowest-quiet i b =
-    let n = lowestLive b in
-    and-quiet (each (cancelEntryOf n) 32 b) (each (cancelOrderOf n) 32) b (each-quiet (cancelEntryOf n) (entry-quiet n) 32 b) (each-quiet (cancelOrderOf n) (order-quiet n) 32)
+pub lower-next : (b : State) (i : ℕ) {n x y : ℕ} → n ≡ walk (lowerBoth b) 0 i → x ≡ pick (not (eqb (entryAt b i .units) 0)) (lower n (entryAt b i .number)) n
+    → y ≡ pick (not (eqb (orderAt b i .contracts) 0)) (lower x (orderAt b i .number)) x → y ≡ walk (lowerBoth b) 0 (i + 1)
+unfolding live liveOrder
+lower-next b i p q r = walk-next (lowerBoth b) 0 i p (r ∙ ap (lowerOrder b i) q)
 
--- after a turn that cancels nothing no turn does
-pub lowest-stops : (i : ℕ) (b₀ : State) {sp sq sr : List ℤ} {n m k : ℕ} {b c : State} → i < 64 → Done sp sq n m b (each cancelLowest i b₀) → Done sq sr m k c (cancelLowest 0 b) → k ≡ m
-    → Done sp sr n k c (each cancelLowest 64 b₀)
-lowest-stops i b₀ {b = b} h d e s =
-    let q : cancelLowest 0 b ≡ still b = lowest-quiet 0 b (omega (arith, e .wrote .count, s)) in
-    let g : (j : ℕ) → cancelLowest j (each cancelLowest i b₀ .state) ≡ still (each cancelLowest i b₀ .state) = λ j. rw (d .state) at (lowest-turn j b ∙ q) in
-    let x : each cancelLowest (64 - i + i) b₀ ≡ each cancelLowest (1 + i) b₀ = idle cancelLowest b₀ i g (64 - i) ∙ sym (idle cancelLowest b₀ i g 1) in
+pub lowest-is : (b : State) {i n : ℕ} → i ≡ 32 → n ≡ walk (lowerBoth b) 0 i → n ≡ lowestLive b
+unfolding lowestLive
+lowest-is b h p = (rw h at p) ∙ walk-both (lowerEntry b) (lowerOrder b) (λ i j n. live-swap _ _ n _ _) 0 32
+
+-- after a turn that finds nothing live no turn cancels
+pub lowest-stops : (i : ℕ) (b₀ : State) {sp sq : List ℤ} {n m : ℕ} {b : State} → i < 64 → Done sp sq n m b (each cancelLowest i b₀) → ((j : ℕ) → cancelLowest j b ≡ still b)
+    → Done sp sq n m b (each cancelLowest 64 b₀)
+lowest-stops i b₀ h d q =
     let u : 64 ≡ 64 - i + i = omega arith in
-    let v : 1 + i ≡ i + 1 = omega arith in
-    done-of (ap (λ (j : ℕ). each cancelLowest j b₀) u ∙ x ∙ ap (λ (j : ℕ). each cancelLowest j b₀) v) (each-next cancelLowest i b₀ d (done-of (lowest-turn i b) e))
+    done-of (ap (λ (j : ℕ). each cancelLowest j b₀) u ∙ idle cancelLowest b₀ i (rw (d .state) at q) (64 - i)) d
 
--- what the code tests of a strategy: a starter and more, a series and its open legs
-module _ (n : ℕ) (u : Bool) where
-  pub starter-not : n ≡ 0 → false ≡ pick (not (eqb n 0)) u false
-  starter-not e = rw (eq-eqb _ _ e) (sym (pick-false _ _ _ refl))
+-- what the code tests of a number: whether it is 0
+module _ {A : Type 0} (n : ℕ) (u v : A) where
+  pub some-not : n ≡ 0 → v ≡ pick (not (eqb n 0)) u v
+  some-not e = rw (eq-eqb _ _ e) (sym (pick-false _ _ _ refl))
 
-  pub starter-yes : ¬ (n ≡ 0) → u ≡ pick (not (eqb n 0)) u false
-  starter-yes e = rw (ne-eqb _ _ e) (sym (pick-true _ _ _ refl))
+  pub some-yes : ¬ (n ≡ 0) → u ≡ pick (not (eqb n 0)) u v
+  some-yes e = rw (ne-eqb _ _ e) (sym (pick-true _ _ _ refl))
 
+-- .. of a strategy: a series and its open legs
 module _ (x y s : ℕ) where
   pub held-not : has x s ≡ false → false ≡ pick (has x s) (eqb (minus x y) 0) false
   held-not e = sym (pick-false _ _ _ e)
@@ -212,9 +215,9 @@ module _ (s a : ℕ) (b : State) where
   rests-yes e = pick-false _ _ _ (ne-eqb _ _ e)
 
 -- the rules by what the code has found
-pub low-is : (b : State) {n m : ℕ} → n ≡ walk (lowerIn (b .entries)) 0 32 → m ≡ walk (lowerOrderIn (b .orders)) n 32 → cancelLowest 0 b ≡ cancelNumber m b
-unfolding cancelLowest lowestLive
-low-is b p q = rw (q, p)
+pub low-is : (i : ℕ) (b : State) {n : ℕ} → n ≡ lowestLive b → cancelLowest i b ≡ cancelNumber n b
+unfolding cancelLowest
+low-is i b p = rw p
 
 pub clock-is : (t : ℕ) (b : State) {c : State} → c ≡ withClock b t → onClock t b ≡ each endDue 16 c
 unfolding onClock
@@ -247,6 +250,10 @@ unfolding onDayEnd
 day-end timer b {d = d} {sr = sr} {k = k} x y e = done-then _ _ x (done-then _ _ y (restarted timer e sr k d))
 
 -- THE RANGES
+pub numbered-each : (f : ℕ → State → Moved) → ((i : ℕ) (b : State) → Shrinks b (f i b .state)) → (i : ℕ) (b : State) {c : State} {sp sq : List ℤ} {n m : ℕ}
+    → Numbered b → Done sp sq n m c (each f i b) → Numbered c
+numbered-each f h i b r d = rw (d .state) (numbered-shrinks (each-shrinks f h i b) r)
+
 pub fit-each : (f : ℕ → State → Moved) → ((i : ℕ) (b : State) → length (b .orders) ≡ 32 → Shrinks b (f i b .state)) → (i : ℕ) (b : State) {c : State} {sp sq : List ℤ} {n m : ℕ}
     → Fit b → Done sp sq n m c (each f i b) → Fit c
 fit-each f h i b r d = fit-done d (each-kept shrinks-kept f h i b (r .orderRows)) r

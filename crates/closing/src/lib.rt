@@ -4,18 +4,17 @@ ghost use mathlib.Core.Bool.{false, not};
 ghost use Prim.Native.Nat.{_+_, _-_, _%_, _^_, _<_, _≤_};
 ghost use lib.Dec.{eqb, leb};
 ghost use Rattle.base.specs.Pick.{pick};
-ghost use Rattle.base.specs.Walks.{walk};
 ghost use Rattle.base.specs.Sets.{has, minus};
 ghost use Rattle.rules.specs.State.{fresh, freeStrategy, withOpened, withClock};
 ghost use Rattle.rules.specs.Moves.{each};
 ghost use Rattle.rules.specs.Auctions.{matchIn};
-ghost use Rattle.rules.specs.Events.{live, liveOrder, freeOrderSlot, ifRests, onLegOrder, cancelEntryOf, cancelOrderOf, cancelNumber, onClock, shut, reopen, onSeries, closeRunning, lower, cancelLowest, onDayEnd};
-ghost use Rattle.rules.specs.Valid.{FitOrder};
+ghost use Rattle.rules.specs.Events.{freeOrderSlot, ifRests, onLegOrder, cancelEntryOf, cancelOrderOf, cancelNumber, onClock, shut, reopen, onSeries, closeRunning, lower, lowestLive, cancelLowest, onDayEnd};
+ghost use Rattle.rules.specs.Valid.{FitOrder, Valid};
+ghost use Rattle.rules.proofs.DayEnd.{Numbered};
 ghost use Rattle.records.specs.Space.{Room};
 ghost use Rattle.records.specs.Done.{Done};
 ghost use Rattle.ranges.specs.Fit.{Fit};
 ghost use Rattle.auctions.specs.Ranged.{Ranged};
-ghost use Rattle.closing.specs.Closing.{lowerIn, lowerOrderIn};
 use auctions::close;
 use auctions::end_unfilled;
 use endings::end_auction;
@@ -26,39 +25,14 @@ use matching::leg_passes;
 use matching::match_in;
 use records::After;
 use records::less;
-use rules::Entry;
-use rules::Leg;
 use rules::LegOrder;
 use rules::State;
 use rules::Strategy;
+use tables::NO_ENTRY;
+use tables::NO_LEG;
+use tables::NO_ORDER;
 use trades::cancel_order;
 use trades::trade_all;
-
-const NO_LEG: Leg = Leg {
-    series: 0,
-    side: 0,
-    ratio: 0,
-};
-
-const NO_ENTRY: Entry = Entry {
-    number: 0,
-    member: 0,
-    strategy: 0,
-    side: 0,
-    class: 0,
-    life: 0,
-    units: 0,
-    level: 0,
-};
-
-const NO_ORDER: LegOrder = LegOrder {
-    number: 0,
-    member: 0,
-    series: 0,
-    side: 0,
-    contracts: 0,
-    price: 0,
-};
 
 // A free row of the table of strategies.
 fn free_strategy() -> Strategy
@@ -159,71 +133,43 @@ fn lower(n: u32, m: u32) -> u32
         return m;
     }
     if m < n {
+        if m == 0 {
+            return n;
+        }
         return m;
     }
     n
 }
 
-fn lower_entry(n: u32, e: Entry) -> u32
-    ensures { λ r. ⌜ r ≡ pick (live e) (lower n (e .number)) n ⌝ }
+// The lower of a number and that of a row, where the row is live.
+fn lower_live(n: u32, number: u32, quantity: u32) -> u32
+    ensures { λ r. ⌜ r ≡ pick (not (eqb quantity 0)) (lower n number) n ⌝ }
 {
-    if e.units == 0 {
+    if quantity == 0 {
         return n;
     }
-    lower(n, e.number)
+    lower(n, number)
 }
 
-fn lower_order(n: u32, o: LegOrder) -> u32
-    ensures { λ r. ⌜ r ≡ pick (liveOrder o) (lower n (o .number)) n ⌝ }
-{
-    if o.contracts == 0 {
-        return n;
-    }
-    lower(n, o.number)
-}
-
-// The lowest number of the live entries, 0 where none is.
-fn lowest_entry(es: [Entry; 32]) -> u32
-    ensures { λ r. ⌜ r ≡ walk (lowerIn es) 0 32 ⌝ }
+// The lowest number that is live, 0 where none is.
+fn lowest_live(b: State) -> u32
+    ensures { λ r. ⌜ r ≡ lowestLive b ⌝ }
 {
     let mut n: u32 = 0;
     let mut i: usize = 0;
     while i < 32 {
-        n = lower_entry(n, es[i]);
+        let e = b.entries[i];
+        let o = b.orders[i];
+        n = lower_live(n, e.number, e.units);
+        n = lower_live(n, o.number, o.contracts);
         i += 1;
     }
     n
 }
 
-// The lower of a number and those of the live leg orders.
-fn lowest_order(os: [LegOrder; 32], low: u32) -> u32
-    ensures { λ r. ⌜ r ≡ walk (lowerOrderIn os) low 32 ⌝ }
-{
-    let mut n = low;
-    let mut i: usize = 0;
-    while i < 32 {
-        n = lower_order(n, os[i]);
-        i += 1;
-    }
-    n
-}
-
-// The cancel of the lowest number that is live.
-fn cancel_lowest(b: State, space: &mut [i32], n: usize) -> After
-    requires { ⌜ Fit b ⌝ }
-    requires { ⌜ Room (now space) n (cancelLowest 0 b .records) ⌝ }
-    ensures { λ t. ⌜ Done (now (space .entry)) (now (space .exit)) n (t .count) (t .state) (cancelLowest 0 b) ⌝ }
-{
-    let es = b.entries;
-    let low = lowest_entry(es);
-    let os = b.orders;
-    let lowest = lowest_order(os, low);
-    cancel_number(b, lowest, space, n)
-}
-
-// At the day's end: all that is live, by number, until a turn cancels nothing.
+// At the day's end: all that is live, by number, until nothing is.
 fn cancel_all(b: State, space: &mut [i32], n: usize) -> After
-    requires { ⌜ Fit b ⌝ }
+    requires { ⌜ Fit b × Numbered b ⌝ }
     requires { ⌜ Room (now space) n (each cancelLowest 64 b .records) ⌝ }
     ensures { λ t. ⌜ Done (now (space .entry)) (now (space .exit)) n (t .count) (t .state) (each cancelLowest 64 b) ⌝ }
 {
@@ -231,10 +177,11 @@ fn cancel_all(b: State, space: &mut [i32], n: usize) -> After
     let mut m = n;
     let mut i: usize = 0;
     while i < 64 {
-        let t = cancel_lowest(c, space, m);
-        if t.count == m {
-            return t;
+        let low = lowest_live(c);
+        if low == 0 {
+            return After { state: c, count: m };
         }
+        let t = cancel_number(c, low, space, m);
         c = t.state;
         m = t.count;
         i += 1;
@@ -265,7 +212,7 @@ fn close_all(b: State, space: &mut [i32], n: usize) -> After
 
 // The auctions end by strategy, all that is live is cancelled by number, then a fresh book with the new timer.
 pub fn on_day_end(b: State, timer: u32, space: &mut [i32], n: usize) -> After
-    requires { ⌜ Ranged b ⌝ }
+    requires { ⌜ Valid b ⌝ }
     requires { ⌜ Room (now space) n (onDayEnd timer b .records) ⌝ }
     ensures { λ t. ⌜ Done (now (space .entry)) (now (space .exit)) n (t .count) (t .state) (onDayEnd timer b) ⌝ }
 {

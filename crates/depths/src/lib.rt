@@ -13,6 +13,7 @@ use lookups::depth;
 use rules::Depth;
 use rules::LegOrder;
 use rules::OrderEntry;
+use tables::NO_ORDER;
 
 // The leg orders of the entries read so far, by their places, and whether each was well formed.
 struct RowOrders {
@@ -48,14 +49,7 @@ fn order_of(e: OrderEntry) -> LegOrder
     ensures { λ r. ⌜ r ≡ orderOf e ⌝ }
 {
     if e.contracts == 0 {
-        return LegOrder {
-            number: 0,
-            member: 0,
-            series: 0,
-            side: 0,
-            contracts: 0,
-            price: 0,
-        };
+        return NO_ORDER;
     }
     LegOrder {
         number: 0,
@@ -70,15 +64,7 @@ fn order_of(e: OrderEntry) -> LegOrder
 fn no_orders() -> RowOrders
     ensures { λ r. ⌜ r ≡ noOrders ⌝ }
 {
-    let none = LegOrder {
-        number: 0,
-        member: 0,
-        series: 0,
-        side: 0,
-        contracts: 0,
-        price: 0,
-    };
-    let orders = [none; 32];
+    let orders = [NO_ORDER; 32];
     RowOrders { orders, fine: true }
 }
 

@@ -20,23 +20,11 @@ use rules::Entry;
 use rules::State;
 use rules::Strategy;
 
-fn no(x: bool) -> bool
-    ensures { λ r. ⌜ r ≡ not x ⌝ }
-{
-    if x {
-        return false;
-    }
-    true
-}
-
 // Whether an auction runs in a strategy.
 fn runs(s: Strategy) -> bool
     ensures { λ r. ⌜ r ≡ not (eqb (s .starter) 0) ⌝ }
 {
-    if s.starter == 0 {
-        return false;
-    }
-    true
+    s.starter != 0
 }
 
 // Whether an auction runs in strategy k.
@@ -66,7 +54,7 @@ fn starter_pass(b: State, k: usize, space: &mut [i32], n: usize) -> After
     let a = starter_slot(b, k);
     if a < 32 {
         let s = b.strategies[k];
-        let legs = no(s.answered);
+        let legs = !s.answered;
         return pass(Allocation::Shared, legs, b, a, space, n);
     }
     After { state: b, count: n }
@@ -94,7 +82,7 @@ fn later_passes(b: State, k: usize, n: u32, space: &mut [i32], m: usize) -> Afte
     while i < 32 {
         let e = c.entries[i];
         if later(k, n, e) {
-            let legs = no(e.life == 4);
+            let legs = e.life != 4;
             let t = pass(Allocation::Numbered, legs, c, i, space, o);
             c = t.state;
             o = t.count;

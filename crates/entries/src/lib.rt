@@ -1,39 +1,33 @@
 // The table of complex orders and sweeps: insertion, its counts, and the sweep that a new one replaces.
 ghost use mathlib.Core.Path.{_≡_};
-ghost use Prim.Native.Nat.{_<_};
 ghost use lib.ListN.{length};
+ghost use Rattle.base.specs.Pick.{pick};
 ghost use Rattle.base.specs.Walks.{sumN};
 ghost use Rattle.rules.specs.State.{noEntry};
 ghost use Rattle.rules.specs.Events.{live, keep, behind, enter, freeSlot, sameSweep, oldSweep};
-ghost use Rattle.rules.specs.Refusals.{isOrder, isSweep, isOrderAt, isSweepAt};
+ghost use Rattle.rules.specs.Refusals.{isOrderAt, isSweepAt};
+ghost use Rattle.entries.specs.Counts.{counts};
 use rules::Entry;
 use rules::State;
+use tables::NO_ENTRY;
 
 pub fn live(e: Entry) -> bool
     ensures { λ r. ⌜ r ≡ live e ⌝ }
 {
-    if e.units == 0 {
-        return false;
-    }
-    true
+    e.units != 0
 }
 
-// The live entries in front, in their order, and one more behind them.
-fn insert(es: [Entry; 32], e: Entry) -> [Entry; 32]
-    requires { ⌜ length (keep live es) < 32 ⌝ }
-    ensures { λ rows. ⌜ rows ≡ behind live noEntry e es ⌝ }
+// The table with a new entry, and the slot of it.
+struct Inserted {
+    rows: [Entry; 32],
+    slot: usize,
+}
+
+// The live entries in front, in their order, and one more behind them, if a slot is free.
+fn insert(es: [Entry; 32], e: Entry) -> Inserted
+    ensures { λ x. ⌜ (x .rows ≡ behind live noEntry e es) × (x .slot ≡ length (keep live es)) ⌝ }
 {
-    let none = Entry {
-        number: 0,
-        member: 0,
-        strategy: 0,
-        side: 0,
-        class: 0,
-        life: 0,
-        units: 0,
-        level: 0,
-    };
-    let mut rows = [none; 32];
+    let mut rows = [NO_ENTRY; 32];
     let mut n: usize = 0;
     let mut i: usize = 0;
     while i < 32 {
@@ -44,52 +38,49 @@ fn insert(es: [Entry; 32], e: Entry) -> [Entry; 32]
         }
         i += 1;
     }
-    rows[n] = e;
-    rows
-}
-
-// The number of live entries.
-fn count(es: [Entry; 32]) -> usize
-    ensures { λ r. ⌜ r ≡ length (keep live es) ⌝ }
-{
-    let mut n: usize = 0;
-    let mut i: usize = 0;
-    while i < 32 {
-        if live(es[i]) {
-            n += 1;
-        }
-        i += 1;
+    if n < 32 {
+        rows[n] = e;
     }
-    n
+    Inserted {
+        rows: rows,
+        slot: n,
+    }
 }
 
-// The slot that the next entry takes.
-pub fn free_slot(b: State) -> usize
-    ensures { λ r. ⌜ r ≡ freeSlot b ⌝ }
-{
-    let es = b.entries;
-    count(es)
+// A state with a new entry, and the slot of it.
+pub struct Entered {
+    pub state: State,
+    pub slot: usize,
 }
 
-// An order or sweep enters behind the live ones.
-pub fn enter(e: Entry, b: State) -> State
-    requires { ⌜ freeSlot b < 32 ⌝ }
-    ensures { λ c. ⌜ c ≡ enter e b ⌝ }
+// An order or sweep enters behind the live ones; a full table keeps its rows.
+pub fn enter(e: Entry, b: State) -> Entered
+    ensures { λ x. ⌜ (x .state ≡ enter e b) × (x .slot ≡ freeSlot b) ⌝ }
 {
     let es = b.entries;
-    let rows = insert(es, e);
+    let x = insert(es, e);
+    let rows = x.rows;
     let mut c = b;
     c.entries = rows;
     c.last = e.number;
-    c
+    Entered {
+        state: c,
+        slot: x.slot,
+    }
 }
 
-// 1 for a live complex order.
-fn is_order(e: Entry) -> u32
-    ensures { λ r. ⌜ r ≡ isOrder e ⌝ }
+// 1 for a live sweep, or for a live complex order.
+fn counts(e: Entry, sweeps: bool) -> u32
+    ensures { λ r. ⌜ r ≡ counts sweeps e ⌝ }
 {
     if live(e) {
         if e.life == 4 {
+            if sweeps {
+                return 1;
+            }
+            return 0;
+        }
+        if sweeps {
             return 0;
         }
         return 1;
@@ -97,44 +88,14 @@ fn is_order(e: Entry) -> u32
     0
 }
 
-// 1 for a live sweep.
-fn is_sweep(e: Entry) -> u32
-    ensures { λ r. ⌜ r ≡ isSweep e ⌝ }
-{
-    if live(e) {
-        if e.life == 4 {
-            return 1;
-        }
-        return 0;
-    }
-    0
-}
-
-// The number of live complex orders. The exit, where all 32 are, keeps the compiler from unrolling the loop and splitting the state.
-pub fn orders(b: State) -> u32
-    ensures { λ r. ⌜ r ≡ sumN (isOrderAt b) 32 ⌝ }
+// The number of live sweeps, or of live complex orders. The exit, where all 32 are, keeps the compiler from unrolling the loop and splitting the state.
+pub fn count_of(b: State, sweeps: bool) -> u32
+    ensures { λ r. ⌜ r ≡ pick sweeps (sumN (isSweepAt b) 32) (sumN (isOrderAt b) 32) ⌝ }
 {
     let mut n: u32 = 0;
     let mut i: usize = 0;
     while i < 32 {
-        let x = is_order(b.entries[i]);
-        n += x;
-        if n == 32 {
-            return n;
-        }
-        i += 1;
-    }
-    n
-}
-
-// The number of live sweeps, with the same exit.
-pub fn sweeps(b: State) -> u32
-    ensures { λ r. ⌜ r ≡ sumN (isSweepAt b) 32 ⌝ }
-{
-    let mut n: u32 = 0;
-    let mut i: usize = 0;
-    while i < 32 {
-        let x = is_sweep(b.entries[i]);
+        let x = counts(b.entries[i], sweeps);
         n += x;
         if n == 32 {
             return n;

@@ -1,18 +1,16 @@
-// What the events of kinds 1 to 4 bring: the row that enters, the strategy defined, and its refusal.
+// What the events of kinds 1 to 4 bring: the row that enters, the strategy defined, and whether its definition is ill-formed.
 ghost use mathlib.Core.Path.{_≡_};
-ghost use Prim.Native.Nat.{_<_, _≤_};
+ghost use Prim.Native.Nat.{_<_};
 ghost use Rattle.rules.specs.Given.{legGiven, legsGiven, strategyGiven, sweepGiven, orderGiven, legOrderGiven};
 ghost use Rattle.rules.specs.Fits.{FitGiven, FitSweepGiven, FitOrderGiven, FitLegOrderGiven};
-ghost use Rattle.rules.specs.Refusals.{illFormed, strategiesFull, causes, first};
+ghost use Rattle.rules.specs.Refusals.{illFormed};
 ghost use Rattle.rules.specs.Valid.{FitLeg};
-ghost use Rattle.events.specs.declared.Event.the-variants as E;
 use rules::Entry;
 use rules::Leg;
 use rules::LegOrder;
 use rules::State;
 use rules::Strategy;
 use strategies::defined;
-use strategies::number_of;
 use terms::over_threefold;
 use terms::twice;
 
@@ -23,7 +21,7 @@ pub fn sweep_given(b: State, e: events::Sweep) -> Entry
 {
     Entry {
         number: b.last + 1,
-        member: e.member as u16,
+        member: e.member,
         strategy: e.strategy as u8,
         side: e.side as u8,
         class: 0,
@@ -40,7 +38,7 @@ pub fn order_given(b: State, e: events::Order) -> Entry
 {
     Entry {
         number: b.last + 1,
-        member: e.member as u16,
+        member: e.member,
         strategy: e.strategy as u8,
         side: e.side as u8,
         class: e.class as u8,
@@ -103,7 +101,7 @@ pub fn strategy_given(e: events::Strategy) -> Strategy
 }
 
 // 5: a series twice, or the largest ratio over 3 × the smallest.
-fn ill_formed(e: events::Strategy) -> bool
+pub fn ill_formed(e: events::Strategy) -> bool
     requires { ⌜ FitGiven e ⌝ }
     ensures { λ r. ⌜ r ≡ illFormed e ⌝ }
 {
@@ -113,34 +111,4 @@ fn ill_formed(e: events::Strategy) -> bool
         return true;
     }
     over_threefold(legs, count)
-}
-
-// 12: 16 strategies, and none of them equal.
-fn strategies_full(b: State, e: events::Strategy) -> bool
-    requires { ⌜ FitGiven e × (b .defined ≤ 16) ⌝ }
-    ensures { λ r. ⌜ r ≡ strategiesFull b e ⌝ }
-{
-    let s = strategy_given(e);
-    let defined = b.defined as usize;
-    if number_of(b, s) < defined {
-        return false;
-    }
-    if 16 <= defined {
-        return true;
-    }
-    false
-}
-
-// The refusal of a definition, 0 where none applies.
-pub fn strategy_refusal(b: State, e: events::Strategy) -> u32
-    requires { ⌜ FitGiven e × (b .defined ≤ 16) ⌝ }
-    ensures { λ r. ⌜ r ≡ first (causes b (E.Strategy e)) ⌝ }
-{
-    if ill_formed(e) {
-        return 5;
-    }
-    if strategies_full(b, e) {
-        return 12;
-    }
-    0
 }

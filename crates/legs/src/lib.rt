@@ -1,6 +1,5 @@
 // The table of leg orders: insertion, and the best opposite order.
 ghost use mathlib.Core.Path.{_≡_};
-ghost use Prim.Native.Nat.{_<_};
 ghost use lib.ListN.{length};
 ghost use Rattle.rules.specs.State.{noOrder};
 ghost use Rattle.rules.specs.Events.{liveOrder, keep, behind, enterOrder, freeOrderSlot, meetsOrder, bestOrder};
@@ -12,6 +11,7 @@ use rules::State;
 use sides::better;
 use sides::meets;
 use sides::other;
+use tables::NO_ORDER;
 
 // Whether an order has contracts.
 fn live(o: LegOrder) -> bool
@@ -23,20 +23,11 @@ fn live(o: LegOrder) -> bool
     true
 }
 
-// The live orders in front, in their order, and one more behind them.
+// The live orders in front, in their order, and one more behind them, if a slot is free.
 fn insert(os: [LegOrder; 32], o: LegOrder) -> [LegOrder; 32]
-    requires { ⌜ length (keep liveOrder os) < 32 ⌝ }
     ensures { λ rows. ⌜ rows ≡ behind liveOrder noOrder o os ⌝ }
 {
-    let none = LegOrder {
-        number: 0,
-        member: 0,
-        series: 0,
-        side: 0,
-        contracts: 0,
-        price: 0,
-    };
-    let mut rows = [none; 32];
+    let mut rows = [NO_ORDER; 32];
     let mut n: usize = 0;
     let mut i: usize = 0;
     while i < 32 {
@@ -47,7 +38,9 @@ fn insert(os: [LegOrder; 32], o: LegOrder) -> [LegOrder; 32]
         }
         i += 1;
     }
-    rows[n] = o;
+    if n < 32 {
+        rows[n] = o;
+    }
     rows
 }
 
@@ -74,9 +67,8 @@ pub fn free_order_slot(b: State) -> usize
     count(os)
 }
 
-// A leg order enters behind the live ones.
+// A leg order enters behind the live ones, if a slot is free.
 pub fn enter_order(o: LegOrder, b: State) -> State
-    requires { ⌜ freeOrderSlot b < 32 ⌝ }
     ensures { λ c. ⌜ c ≡ enterOrder o b ⌝ }
 {
     let os = b.orders;

@@ -1,27 +1,28 @@
 -- Depth over the book's own table, and the laws of the lookups.
-use mathlib.Core.Path.{_≡_, sym, _∙_, ap}
+use mathlib.Core.Path.{_≡_, refl, sym, _∙_, ap}
+use mathlib.Core.Bool.{Bool}
 use mathlib.Core.List.{List}
-use Prim.Native.Nat.{ℕ, _-_, _*_, _^_, _≤_, _<_}
+use Prim.Native.Nat.{ℕ, _+_, _-_, _^_, _≤_, _<_}
+use native.Mathlib.Nat.{add-le-add}
 use native.Mathlib.Omega.{arith}
 use lib.Bits.{bitAnd}
 use lib.Count.{ones, trailingZeros}
-use lib.Dec.{eqb, ltb}
+use lib.Dec.{ltb}
 use Rattle.base.specs.Pick.{pick, pick-all, tests}
 use Rattle.base.specs.All.{All}
-use Rattle.base.specs.Walks.{sumN, slot, sum-le}
+use Rattle.base.specs.Walks.{sumN, slot, sum-le, sum-more}
 use Rattle.base.specs.Sets.{lowestOf}
 use Rattle.base.specs.SetLaws.{minus-and, minus-lt, size-ones}
-use Rattle.rules.specs.declared.Entry.{Entry}
 use Rattle.rules.specs.declared.LegOrder.{LegOrder}
 use Rattle.rules.specs.declared.State.{State}
 use Rattle.rules.specs.declared.Depth.{Depth}
 use Rattle.rules.specs.declared.Depth.the-variants as D
 use Rattle.rules.specs.declared.Shut.the-variants as S
-use Rattle.rules.specs.State.{entryAt, orderAt, strategyAt}
+use Rattle.rules.specs.State.{strategyAt}
 use Rattle.rules.specs.Strategies.{shutSet}
 use Rattle.rules.specs.Nets.{priceOf, lots}
 use Rattle.rules.specs.Refusals.{undefined}
-use Rattle.rules.specs.Lookups.{unitsOfNumber, contractsOfNumber, depthOf, shutLegs}
+use Rattle.rules.specs.Lookups.{unitsOfNumber, contractsOfNumber, liveQuantity, depthOf, shutLegs}
 use Rattle.rules.specs.Valid.{FitEntry, FitOrder}
 use Rattle.nets.specs.declared.Best.{Best}
 use Rattle.ranges.specs.Fit.{fit-entry, fit-order}
@@ -32,30 +33,42 @@ use Rattle.nets.specs.Best.{bestOf}
 unfoldable pub bookDepth : List LegOrder → ℕ → ℕ → Depth
 bookDepth os s side = pick (ltb 31 s) (D.Refused 3) (pick (ltb 1 side) (D.Refused 3) (depthOf os s side))
 
--- what an entry, and a leg order, holds under a number
-unfoldable pub unitsIf : ℕ → Entry → ℕ
-unitsIf n e = pick (eqb (e .number) n) (e .units) 0
-
-unfoldable pub contractsIf : ℕ → LegOrder → ℕ
-contractsIf n o = pick (eqb (o .number) n) (o .contracts) 0
-
 -- laws
 
-pub units-most : (n : ℕ) (e : Entry) → FitEntry e → unitsIf n e ≤ 9999
-unfolding unitsIf
-units-most n e f = pick-all (λ (x : ℕ). x ≤ 9999) _ (f .units) (omega arith)
+held-most : (t : Bool) {q : ℕ} → q ≤ 9999 → pick t q 0 ≤ 9999
+held-most t h = pick-all (λ (x : ℕ). x ≤ 9999) t h (omega arith)
 
-pub contracts-most : (n : ℕ) (o : LegOrder) → FitOrder o → contractsIf n o ≤ 9999
-unfolding contractsIf
-contracts-most n o f = pick-all (λ (x : ℕ). x ≤ 9999) _ (f .contracts) (omega arith)
+-- the quantity of a number by the slots passed
+module _ (b : State) (n : ℕ) where
+  unfoldable pub liveN : ℕ → ℕ
+  liveN i = sumN (unitsOfNumber b n) i + sumN (contractsOfNumber b n) i
 
-pub sum-units-most : (b : State) (n : ℕ) → All FitEntry (b .entries) → (k : ℕ) → sumN (unitsOfNumber b n) k ≤ k * 9999
-unfolding unitsIf
-sum-units-most b n a k = sum-le (unitsOfNumber b n) 9999 (λ i. units-most n (entryAt b i) (fit-entry a i)) k
+  pub live-first : 0 ≡ liveN 0
+  unfolding liveN sumN
+  live-first = refl
 
-pub sum-contracts-most : (b : State) (n : ℕ) → All FitOrder (b .orders) → (k : ℕ) → sumN (contractsOfNumber b n) k ≤ k * 9999
-unfolding contractsIf
-sum-contracts-most b n a k = sum-le (contractsOfNumber b n) 9999 (λ i. contracts-most n (orderAt b i) (fit-order a i)) k
+  pub live-next : (i : ℕ) {q x y : ℕ} → q ≡ liveN i → x ≡ unitsOfNumber b n i → y ≡ contractsOfNumber b n i → q + (x + y) ≡ liveN (i + 1)
+  unfolding liveN
+  live-next i p e g = omega (arith, p, e, g, sum-more (unitsOfNumber b n) i, sum-more (contractsOfNumber b n) i)
+
+  pub live-last : {i q : ℕ} → i ≡ 32 → q ≡ liveN i → q ≡ liveQuantity b n
+  unfolding liveN liveQuantity
+  live-last h p = rw h at p
+
+  module _ (es : All FitEntry (b .entries)) (os : All FitOrder (b .orders)) (i : ℕ) {x y : ℕ} (e : x ≡ unitsOfNumber b n i) (g : y ≡ contractsOfNumber b n i) where
+    pub pair-most : x + y ≤ 19998
+    pair-most = rw (e, g) (add-le-add (held-most _ (fit-entry es i .units)) (held-most _ (fit-order os i .contracts)))
+
+    pub live-most : {q : ℕ} → q ≡ liveN i → i < 32 → q + (x + y) ≤ 639936
+    unfolding liveN
+    live-most p h =
+        omega (
+          arith,
+          p,
+          pair-most,
+          sum-le (unitsOfNumber b n) 9999 (λ j. held-most _ (fit-entry es j .units)) i,
+          sum-le (contractsOfNumber b n) 9999 (λ j. held-most _ (fit-order os j .contracts)) i,
+        )
 
 -- depth by what the code tests
 module _ (os : List LegOrder) (s side : ℕ) where

@@ -1,72 +1,46 @@
 // Lookups: live quantity, shut legs, depth.
 ghost use mathlib.Core.Path.{_≡_};
-ghost use Prim.Native.Nat.{_+_, _-_, _<_, _≤_};
+ghost use Prim.Native.Nat.{_+_, _-_, _<_};
+ghost use lib.Dec.{eqb};
+ghost use Rattle.base.specs.Pick.{pick};
 ghost use Rattle.base.specs.All.{All};
-ghost use Rattle.base.specs.Walks.{sumN};
 ghost use Rattle.rules.specs.Strategies.{shutSet};
-ghost use Rattle.rules.specs.Lookups.{unitsOfNumber, contractsOfNumber, liveQuantity, shutLegs};
-ghost use Rattle.rules.specs.Valid.{FitEntry, FitOrder};
+ghost use Rattle.rules.specs.Lookups.{liveQuantity, shutLegs};
+ghost use Rattle.rules.specs.Valid.{FitOrder, Valid};
 ghost use Rattle.nets.specs.Best.{Priced};
-ghost use Rattle.lookups.specs.Lookups.{unitsIf, contractsIf, bookDepth};
+ghost use Rattle.lookups.specs.Lookups.{bookDepth};
 use nets::best_of;
 use rules::Depth;
-use rules::Entry;
 use rules::LegOrder;
 use rules::Shut;
 use rules::State;
 
-fn units_if(n: u32, e: Entry) -> u32
-    ensures { λ r. ⌜ r ≡ unitsIf n e ⌝ }
+// What a row of number x holds under a number.
+fn held_by(x: u32, quantity: u32, number: u32) -> u32
+    ensures { λ r. ⌜ r ≡ pick (eqb x number) quantity 0 ⌝ }
 {
-    if e.number == n {
-        return e.units;
+    if x == number {
+        return quantity;
     }
     0
-}
-
-fn live_units(b: State, n: u32) -> u32
-    requires { ⌜ All FitEntry (b .entries) ⌝ }
-    ensures { λ r. ⌜ r ≡ sumN (unitsOfNumber b n) 32 ⌝ }
-{
-    let mut units: u32 = 0;
-    let mut i: usize = 0;
-    while i < 32 {
-        units += units_if(n, b.entries[i]);
-        i += 1;
-    }
-    units
-}
-
-fn contracts_if(n: u32, o: LegOrder) -> u32
-    ensures { λ r. ⌜ r ≡ contractsIf n o ⌝ }
-{
-    if o.number == n {
-        return o.contracts;
-    }
-    0
-}
-
-fn live_contracts(b: State, n: u32) -> u32
-    requires { ⌜ All FitOrder (b .orders) ⌝ }
-    ensures { λ r. ⌜ r ≡ sumN (contractsOfNumber b n) 32 ⌝ }
-{
-    let mut contracts: u32 = 0;
-    let mut i: usize = 0;
-    while i < 32 {
-        contracts += contracts_if(n, b.orders[i]);
-        i += 1;
-    }
-    contracts
 }
 
 // The live quantity of a number, 0 if there is none.
 pub fn live_quantity(b: State, n: u32) -> u32
-    requires { ⌜ All FitEntry (b .entries) × All FitOrder (b .orders) ⌝ }
+    requires { ⌜ Valid b ⌝ }
     ensures { λ r. ⌜ r ≡ liveQuantity b n ⌝ }
 {
-    let units = live_units(b, n);
-    let contracts = live_contracts(b, n);
-    units + contracts
+    let mut quantity: u32 = 0;
+    let mut i: usize = 0;
+    while i < 32 {
+        let e = b.entries[i];
+        let o = b.orders[i];
+        let units = held_by(e.number, e.units, n);
+        let contracts = held_by(o.number, o.contracts, n);
+        quantity += units + contracts;
+        i += 1;
+    }
+    quantity
 }
 
 // The shut legs of a strategy, as a set of series.
@@ -80,7 +54,7 @@ fn shut_set(b: State, k: usize) -> u32
 
 // How many legs of a strategy are shut, and the lowest series of them; 32 when none is shut.
 pub fn shut_legs(b: State, k: u32) -> Shut
-    requires { ⌜ b .defined ≤ 16 ⌝ }
+    requires { ⌜ Valid b ⌝ }
     ensures { λ r. ⌜ r ≡ shutLegs b k ⌝ }
 {
     let defined = b.defined as u32;

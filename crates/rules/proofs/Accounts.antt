@@ -4,12 +4,10 @@ use mathlib.Core.Bool.{Bool, true, false}
 use mathlib.Core.Logic.{⊎-elim, _≢_}
 use mathlib.Core.List.{List, [], _∷_, _++_}
 use Prim.Native.Nat.{ℕ, _+_, _-_, _*_, _≤_, _<_, min}
-use native.Mathlib.Nat.{zero-sub}
 use native.Mathlib.Omega.{arith}
-use borrow.Author.Tests.{eqb-true, eqb-false, le-leb, leb-true}
+use borrow.Author.Tests.{eqb-true, le-leb, leb-true}
 use lib.Dec.{eqb, leb}
 use lib.ListN.{length, getD, List·getD-eq-default}
-use lib.Seq.{getD-set-same, getD-set-other, set-out}
 use Rattle.base.specs.Pick.{pick, pick-all, pick-by, pick-true}
 use Rattle.base.specs.Walks.{sumN, slot, lt-or-le, sum-zero, sum-same, sum-add}
 use Rattle.rules.specs.declared.Leg.{Leg}
@@ -21,14 +19,14 @@ use Rattle.rules.specs.declared.Record.{Record}
 use Rattle.rules.specs.State.{noEntry, noOrder, entryAt, orderAt, strategyAt, strategyOf, legAt, withEntries, withOrders, withStrategies}
 use Rattle.rules.specs.Moves.{Moved, still}
 use Rattle.rules.specs.Sides.{other, legSide, meets}
-use Rattle.rules.specs.Lookups.{unitsOfNumber, contractsOfNumber}
-use Rattle.rules.specs.Fills.{wholeRecord, legRecord, legRecordAt, partyRecords, cutOrder, cut, cutLeg, noPrices, orderRecord, wholeFill, legTrade, cancelRecord, cancelLegRecord, cancelEntry, cancelOrder}
+use Rattle.rules.specs.Fills.{wholeRecord, legRecord, legRecordAt, partyRecords, cut, cutLeg, noPrices, orderRecord, wholeFill, legTrade, cancelRecord, cancelLegRecord, cancelEntry, cancelOrder}
 use Rattle.rules.specs.Auctions.{putAuction, begin, close, answer, starterSlot}
 use Rattle.rules.specs.Totals.{when}
 use Rattle.rules.proofs.Shrinks.{shrinks-trans, cut-shrinks, cutLeg-shrinks, auction-shrinks, begin-shrinks, close-shrinks}
-use Rattle.rules.proofs.Gives.{Opposed, opposed, cut-at, cut-other}
+use Rattle.rules.proofs.Gives.{Opposed, opposed, cut-at, cut-other, cutLeg-at, cutLeg-other}
 use Rattle.rules.proofs.Control.{Proper, proper-apart, Trading, trading-apart, Standing, meets-standing, meets-price, meets-self}
-use Rattle.rules.proofs.Laws.{tally, Law, ofUnits, ofContracts, noEntries, noOrders, ofSeries, ofCash, ofRatio, ofLimit, ofPrice, size, come, gone, Good, Steady, Acct, ratioFor, ratioAt, tally-append, tally-join, acct-nothing, pick-none, when-no, when-same, pick-plus, pick-sub, pick-times, sum-pick, sum-times, sum-at, leg-side, leg-other, even, even-cash}
+use Rattle.rules.proofs.Tables.{tally, tally-append, tally-join, positive}
+use Rattle.rules.proofs.Laws.{Law, ofUnits, ofContracts, noEntries, noOrders, ofSeries, ofCash, ofRatio, ofLimit, ofPrice, size, come, gone, Good, Steady, Acct, ratioFor, ratioAt, acct-nothing, pick-none, when-no, when-same, pick-plus, pick-sub, pick-times, sum-pick, sum-times, sum-at, leg-side, leg-other, even, even-cash, measure-by, byKind}
 
 -- CUTS of an entry and of a leg order
 -- past the end of a table nothing is live
@@ -38,51 +36,33 @@ past-entry b n i h = List·getD-eq-default (b .entries) noEntry {n = i} (omega a
 pub past-order : (b : State) → length (b .orders) ≡ 32 → (i : ℕ) → 32 ≤ i → orderAt b i ≡ noOrder
 past-order b n i h = List·getD-eq-default (b .orders) noOrder {n = i} (omega arith)
 
-pub cut-units : (b : State) → length (b .entries) ≡ 32 → (i q n : ℕ) → q ≤ entryAt b i .units → size (ofUnits n) b ≡ when (entryAt b i .number) n q + size (ofUnits n) (cut b i q)
-cut-units b r i q n h =
-    let e : Entry = entryAt b i in
-    let f : ℕ → ℕ = unitsOfNumber (cut b i q) n in
-    let g : ℕ → ℕ = unitsOfNumber b n in
-    let other : (j : ℕ) → (j ≡ i → ⊥) → f j ≡ g j = λ j z. ap (λ (x : Entry). when (x .number) n (x .units)) (cut-other b i q j z) in
-    let mine : f i ≡ when (e .number) n (e .units - q) = ap (λ (x : Entry). when (x .number) n (x .units)) (cut-at b i q) in
+-- the quantity of a number in a table whose row i has become x, with q less of its quantity
+cut-number : {A : Type 0} (number quantity : A → ℕ) {old new : ℕ → A} {i q : ℕ} {x none : A} → ((j : ℕ) → j ≢ i → new j ≡ old j) → new i ≡ x → number x ≡ number (old i) → quantity x ≡ quantity (old i) - q →
+    (32 ≤ i → old i ≡ none) → quantity none ≡ 0 → q ≤ quantity (old i) → (n : ℕ) →
+    sumN (λ (j : ℕ). when (number (old j)) n (quantity (old j))) 32 ≡ when (number (old i)) n q + sumN (λ (j : ℕ). when (number (new j)) n (quantity (new j))) 32
+cut-number {A} number quantity {old} {new} {i} {q} same is named less past empty h n =
+    let w : A → ℕ = λ (y : A). when (number y) n (quantity y) in
+    let f : ℕ → ℕ = λ (j : ℕ). w (new j) in
+    let g : ℕ → ℕ = λ (j : ℕ). w (old j) in
+    let other : (j : ℕ) → (j ≡ i → ⊥) → f j ≡ g j = λ j z. ap w (same j z) in
+    let mine : f i ≡ when (number (old i)) n (quantity (old i) - q) = rw (is, named, less) in
     ⊎-elim
-    (λ (l : i < 32). omega (arith, sum-at f g 32 i l other, mine, pick-sub (eqb (e .number) n) (e .units) q h))
+    (λ (l : i < 32). omega (arith, sum-at f g 32 i l other, mine, pick-sub (eqb (number (old i)) n) (quantity (old i)) q h))
     (λ (l : 32 ≤ i).
-    let z : e .units ≡ 0 = ap (λ (x : Entry). x .units) (past-entry b r i l) in
-    let y : when (e .number) n q ≡ 0 = rw (let k : q ≡ 0 = omega arith in k) (pick-none (eqb (e .number) n)) in
+    let z : quantity (old i) ≡ 0 = rw (past l) empty in
+    let y : when (number (old i)) n q ≡ 0 = rw (let k : q ≡ 0 = omega arith in k) (pick-none (eqb (number (old i)) n)) in
     omega (arith, sum-same f g 32 (λ j m. other j (λ (k : j ≡ i). omega arith))))
     (lt-or-le i 32)
+
+pub cut-units : (b : State) → length (b .entries) ≡ 32 → (i q n : ℕ) → q ≤ entryAt b i .units → size (ofUnits n) b ≡ when (entryAt b i .number) n q + size (ofUnits n) (cut b i q)
+cut-units b r i q n h = cut-number (λ (e : Entry). e .number) (λ (e : Entry). e .units) (cut-other b i q) (cut-at b i q) refl refl (past-entry b r i) refl h n
 
 pub cut-contracts : (b : State) (i q n : ℕ) → size (ofContracts n) (cut b i q) ≡ size (ofContracts n) b
 unfolding cut withEntries
 cut-contracts b i q n = refl
 
-pub cutLeg-at : (b : State) (i q : ℕ) → orderAt (cutLeg b i q) i ≡ cutOrder (orderAt b i) q
-unfolding cutLeg withOrders
-cutLeg-at b i q =
-    ⊎-elim
-    (λ (l : i < length (b .orders)). getD-set-same (b .orders) i _ noOrder l)
-    (λ (l : length (b .orders) ≤ i). rw (set-out (b .orders) i (cutOrder (orderAt b i) q) l, List·getD-eq-default (b .orders) noOrder l, zero-sub q))
-    (lt-or-le i (length (b .orders)))
-
-pub cutLeg-other : (b : State) (i q j : ℕ) → j ≢ i → orderAt (cutLeg b i q) j ≡ orderAt b j
-unfolding cutLeg withOrders
-cutLeg-other b i q j h = getD-set-other (b .orders) i j _ noOrder h
-
 pub cutLeg-contracts : (b : State) → length (b .orders) ≡ 32 → (i q n : ℕ) → q ≤ orderAt b i .contracts → size (ofContracts n) b ≡ when (orderAt b i .number) n q + size (ofContracts n) (cutLeg b i q)
-cutLeg-contracts b r i q n h =
-    let o : LegOrder = orderAt b i in
-    let f : ℕ → ℕ = contractsOfNumber (cutLeg b i q) n in
-    let g : ℕ → ℕ = contractsOfNumber b n in
-    let other : (j : ℕ) → (j ≡ i → ⊥) → f j ≡ g j = λ j z. ap (λ (x : LegOrder). when (x .number) n (x .contracts)) (cutLeg-other b i q j z) in
-    let mine : f i ≡ when (o .number) n (o .contracts - q) = ap (λ (x : LegOrder). when (x .number) n (x .contracts)) (cutLeg-at b i q) in
-    ⊎-elim
-    (λ (l : i < 32). omega (arith, sum-at f g 32 i l other, mine, pick-sub (eqb (o .number) n) (o .contracts) q h))
-    (λ (l : 32 ≤ i).
-    let z : o .contracts ≡ 0 = ap (λ (x : LegOrder). x .contracts) (past-order b r i l) in
-    let y : when (o .number) n q ≡ 0 = rw (let k : q ≡ 0 = omega arith in k) (pick-none (eqb (o .number) n)) in
-    omega (arith, sum-same f g 32 (λ j m. other j (λ (k : j ≡ i). omega arith))))
-    (lt-or-le i 32)
+cutLeg-contracts b r i q n h = cut-number (λ (o : LegOrder). o .number) (λ (o : LegOrder). o .contracts) (cutLeg-other b i q) (cutLeg-at b i q) refl refl (past-order b r i) refl h n
 
 pub cutLeg-units : (b : State) (i q n : ℕ) → size (ofUnits n) (cutLeg b i q) ≡ size (ofUnits n) b
 unfolding cutLeg withOrders
@@ -303,97 +283,86 @@ module _ (b : State) (a h : ℕ) (st : Steady b) (t : Trading b a h) where
   unfolding legTrade
   acct-trade = record { shrinks = shrinks-trans (cutLeg-shrinks b a c) (cutLeg-shrinks (cutLeg b a c) h c); law = deal-law }
 
+-- ONE RECORD that is no fill: what it says of quantities, and of numbers that have no record
+record Single (b c : State) (r : Record) : Type 0 where
+  pub noFill : (w l f : ℕ) → byKind (r .kind) w l f 0 0 ≡ 0
+  pub units : (n : ℕ) → size (ofUnits n) b ≡ gone (ofUnits n) r + size (ofUnits n) c
+  pub contracts : (n : ℕ) → size (ofContracts n) b ≡ gone (ofContracts n) r + size (ofContracts n) c
+  pub entries : (n : ℕ) → Good (noEntries n) b → come (noEntries n) r ≡ 0
+  pub orders : (n : ℕ) → Good (noOrders n) b → come (noOrders n) r ≡ 0
+
+single-law : {b c : State} {r : Record} → Single b c r → (l : Law) → Good l b → size l b + tally (come l) (r ∷ []) ≡ tally (gone l) (r ∷ []) + size l c
+unfolding tally
+single-law s (ofUnits n) g = omega (arith, s .units n)
+single-law s (ofContracts n) g = omega (arith, s .contracts n)
+single-law s (noEntries n) g = omega (arith, s .entries n g)
+single-law s (noOrders n) g = omega (arith, s .orders n g)
+single-law s (ofSeries x) g = simp (s .noFill)
+single-law s ofCash g = simp (s .noFill)
+single-law s (ofRatio n x y) g = simp (s .noFill)
+single-law s (ofLimit n side limit) g = simp (s .noFill)
+single-law s (ofPrice n side price) g = simp (s .noFill)
+
 -- CANCELS
 module _ (b : State) (st : Steady b) (i : ℕ) where
-  cancel-law : (eqb (entryAt b i .units) 0 ≡ false) → (l : Law) → Good l b →
-      size l b + tally (come l) (cancelRecord (entryAt b i) ∷ []) ≡ tally (gone l) (cancelRecord (entryAt b i) ∷ []) + size l (cut b i (entryAt b i .units))
-  unfolding tally
-  cancel-law z (ofUnits n) g = omega (arith, cut-units b (st .entryRows) i (entryAt b i .units) n (omega arith))
-  cancel-law z (ofContracts n) g = omega (arith, cut-contracts b i (entryAt b i .units) n)
-  cancel-law z (noEntries n) g =
-      let some : ¬ (entryAt b i .units ≡ 0) = eqb-false _ 0 z in
-      omega (arith, when-no (entryAt b i .number) n 1 (g .entry i (omega arith)))
-  cancel-law z (noOrders n) g = refl
-  cancel-law z (ofSeries s) g = refl
-  cancel-law z ofCash g = refl
-  cancel-law z (ofRatio n s x) g = refl
-  cancel-law z (ofLimit n side limit) g = refl
-  cancel-law z (ofPrice n side price) g = refl
+  cancelled : eqb (entryAt b i .units) 0 ≡ false → Single b (cut b i (entryAt b i .units)) (cancelRecord (entryAt b i))
+  cancelled z =
+      let some : 0 < entryAt b i .units = positive _ z in
+      record {
+        noFill = λ w l f. refl;
+        units = λ n. cut-units b (st .entryRows) i (entryAt b i .units) n (omega arith);
+        contracts = λ n. omega (arith, cut-contracts b i (entryAt b i .units) n);
+        entries = λ n g. when-no (entryAt b i .number) n 1 (g .entry i some);
+        orders = λ n g. refl;
+      }
 
   pub acct-cancel : Acct b (cancelEntry i b)
   unfolding cancelEntry
-  acct-cancel = pick-by (Acct b) (eqb (entryAt b i .units) 0) (λ z. acct-nothing b) (λ z. record { shrinks = cut-shrinks b i _; law = cancel-law z })
+  acct-cancel = pick-by (Acct b) (eqb (entryAt b i .units) 0) (λ z. acct-nothing b) (λ z. record { shrinks = cut-shrinks b i _; law = single-law (cancelled z) })
 
-  cancelOrder-law : (eqb (orderAt b i .contracts) 0 ≡ false) → (l : Law) → Good l b →
-      size l b + tally (come l) (cancelLegRecord (orderAt b i) ∷ []) ≡ tally (gone l) (cancelLegRecord (orderAt b i) ∷ []) + size l (cutLeg b i (orderAt b i .contracts))
-  unfolding tally
-  cancelOrder-law z (ofUnits n) g = omega (arith, cutLeg-units b i (orderAt b i .contracts) n)
-  cancelOrder-law z (ofContracts n) g = omega (arith, cutLeg-contracts b (st .orderRows) i (orderAt b i .contracts) n (omega arith))
-  cancelOrder-law z (noEntries n) g = refl
-  cancelOrder-law z (noOrders n) g =
-      let some : ¬ (orderAt b i .contracts ≡ 0) = eqb-false _ 0 z in
-      omega (arith, when-no (orderAt b i .number) n 1 (g .order i (omega arith)))
-  cancelOrder-law z (ofSeries s) g = refl
-  cancelOrder-law z ofCash g = refl
-  cancelOrder-law z (ofRatio n s x) g = refl
-  cancelOrder-law z (ofLimit n side limit) g = refl
-  cancelOrder-law z (ofPrice n side price) g = refl
+  cancelledOrder : eqb (orderAt b i .contracts) 0 ≡ false → Single b (cutLeg b i (orderAt b i .contracts)) (cancelLegRecord (orderAt b i))
+  cancelledOrder z =
+      let some : 0 < orderAt b i .contracts = positive _ z in
+      record {
+        noFill = λ w l f. refl;
+        units = λ n. omega (arith, cutLeg-units b i (orderAt b i .contracts) n);
+        contracts = λ n. cutLeg-contracts b (st .orderRows) i (orderAt b i .contracts) n (omega arith);
+        entries = λ n g. refl;
+        orders = λ n g. when-no (orderAt b i .number) n 1 (g .order i some);
+      }
 
   pub acct-cancelOrder : Acct b (cancelOrder i b)
   unfolding cancelOrder
-  acct-cancelOrder = pick-by (Acct b) (eqb (orderAt b i .contracts) 0) (λ z. acct-nothing b) (λ z. record { shrinks = cutLeg-shrinks b i _; law = cancelOrder-law z })
+  acct-cancelOrder = pick-by (Acct b) (eqb (orderAt b i .contracts) 0) (λ z. acct-nothing b) (λ z. record { shrinks = cutLeg-shrinks b i _; law = single-law (cancelledOrder z) })
 
 -- AUCTIONS: no quantity changes, and their records weigh nothing
 pub size-same : (l : Law) (b c : State) → c .entries ≡ b .entries → c .orders ≡ b .orders → size l c ≡ size l b
-size-same (ofUnits n) b c h k = ap (λ (es : List Entry). sumN (λ (i : ℕ). when (getD es i noEntry .number) n (getD es i noEntry .units)) 32) h
-size-same (ofContracts n) b c h k = ap (λ (os : List LegOrder). sumN (λ (i : ℕ). when (getD os i noOrder .number) n (getD os i noOrder .contracts)) 32) k
-size-same (noEntries n) b c h k = refl
-size-same (noOrders n) b c h k = refl
-size-same (ofSeries s) b c h k = refl
-size-same ofCash b c h k = refl
-size-same (ofRatio n s x) b c h k = refl
-size-same (ofLimit n side limit) b c h k = refl
-size-same (ofPrice n side price) b c h k = refl
+size-same l b c h k =
+    measure-by (λ (x y z : ℕ). x ≡ y) refl l {w = λ (n : ℕ). 0} {e = λ (n : ℕ). 0}
+    (λ n. ap (λ (es : List Entry). sumN (λ (i : ℕ). when (getD es i noEntry .number) n (getD es i noEntry .units)) 32) h)
+    (λ n. ap (λ (os : List LegOrder). sumN (λ (i : ℕ). when (getD os i noOrder .number) n (getD os i noOrder .contracts)) 32) k)
 
 auction-size : (l : Law) (b : State) (k n t : ℕ) (a : Bool) → size l (putAuction b k n t a) ≡ size l b
 unfolding putAuction withStrategies
 auction-size l b k n t a = size-same l b (putAuction b k n t a) refl refl
 
-pub acct-begins : (b : State) (i : ℕ) → Acct b (begin i b)
-unfolding begin tally
-acct-begins b i = record { shrinks = begin-shrinks b i; law = law }
-  where
-    same : (l : Law) → size l b ≡ size l (begin i b .state)
-    same l = sym (auction-size l b (entryAt b i .strategy) (entryAt b i .number) (b .clock) false)
+-- the record of a beginning or an end
+auction-single : (b : State) (k n t : ℕ) (a : Bool) (r : Record) → ((w l f c d : ℕ) → byKind (r .kind) w l f c d ≡ 0) → Single b (putAuction b k n t a) r
+auction-single b k n t a r z = record {
+  noFill = λ w l f. z w l f 0 0;
+  units = λ m. omega (arith, auction-size (ofUnits m) b k n t a, z (when (r .number) m (r .quantity)) 0 0 (when (r .number) m (r .quantity)) 0);
+  contracts = λ m. omega (arith, auction-size (ofContracts m) b k n t a, z 0 0 (when (r .number) m (r .quantity)) 0 (when (r .number) m (r .quantity)));
+  entries = λ m g. z _ _ _ _ _;
+  orders = λ m g. z _ _ _ _ _;
+}
 
-    law : (l : Law) → Good l b → size l b + tally (come l) (begin i b .records) ≡ tally (gone l) (begin i b .records) + size l (begin i b .state)
-    law (ofUnits n) g = omega (arith, same (ofUnits n))
-    law (ofContracts n) g = omega (arith, same (ofContracts n))
-    law (noEntries n) g = refl
-    law (noOrders n) g = refl
-    law (ofSeries s) g = refl
-    law ofCash g = refl
-    law (ofRatio n s r) g = refl
-    law (ofLimit n side limit) g = refl
-    law (ofPrice n side price) g = refl
+pub acct-begins : (b : State) (i : ℕ) → Acct b (begin i b)
+unfolding begin
+acct-begins b i = record { shrinks = unfold begin in begin-shrinks b i; law = single-law (auction-single b _ _ _ _ _ (λ w l f c d. refl)) }
 
 pub acct-closes : (b : State) (k : ℕ) → Acct b (close k b)
-unfolding close tally
-acct-closes b k = record { shrinks = close-shrinks b k; law = law }
-  where
-    same : (l : Law) → size l b ≡ size l (close k b .state)
-    same l = sym (auction-size l b k 0 0 false)
-
-    law : (l : Law) → Good l b → size l b + tally (come l) (close k b .records) ≡ tally (gone l) (close k b .records) + size l (close k b .state)
-    law (ofUnits n) g = omega (arith, same (ofUnits n))
-    law (ofContracts n) g = omega (arith, same (ofContracts n))
-    law (noEntries n) g = refl
-    law (noOrders n) g = refl
-    law (ofSeries s) g = refl
-    law ofCash g = refl
-    law (ofRatio n s r) g = refl
-    law (ofLimit n side limit) g = refl
-    law (ofPrice n side price) g = refl
+unfolding close
+acct-closes b k = record { shrinks = unfold close in close-shrinks b k; law = single-law (auction-single b _ _ _ _ _ (λ w l f c d. refl)) }
 
 pub acct-answers : (b : State) (k side : ℕ) → Acct b (still (answer k side b))
 unfolding answer tally

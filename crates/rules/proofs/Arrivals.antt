@@ -85,17 +85,17 @@ rest-valid {b} i s near legs r =
     (λ _. cancel-valid i s near legs (λ k q p. clash q (rw (p .strategy) at r)))
 
 -- an answer changes no starter, no beginning and no entry
-answer-starter : (b : State) (k side j : ℕ) → strategyAt (answer k side b) j .starter ≡ strategyAt b j .starter
+answer-same : (g : Strategy → ℕ) → ((s : Strategy) → g (withAuction s (s .starter) (s .begun) true) ≡ g s) → (b : State) (k side j : ℕ) → g (strategyAt (answer k side b) j) ≡ g (strategyAt b j)
 unfolding answer
-answer-starter b k side j =
-    pick-all (λ (c : State). strategyAt c j .starter ≡ strategyAt b j .starter) _
-    (put-by b k _ _ _ (λ (y : Strategy). y .starter ≡ strategyAt b j .starter) j refl (λ e. rw e)) refl
+answer-same g h b k side j =
+    pick-all (λ (c : State). g (strategyAt c j) ≡ g (strategyAt b j)) _
+    (put-by b k _ _ _ (λ (y : Strategy). g y ≡ g (strategyAt b j)) j refl (λ e. rw e (h _))) refl
+
+answer-starter : (b : State) (k side j : ℕ) → strategyAt (answer k side b) j .starter ≡ strategyAt b j .starter
+answer-starter = answer-same (λ (s : Strategy). s .starter) (λ s. refl)
 
 answer-begun : (b : State) (k side j : ℕ) → strategyAt (answer k side b) j .begun ≡ strategyAt b j .begun
-unfolding answer
-answer-begun b k side j =
-    pick-all (λ (c : State). strategyAt c j .begun ≡ strategyAt b j .begun) _
-    (put-by b k _ _ _ (λ (y : Strategy). y .begun ≡ strategyAt b j .begun) j refl (λ e. rw e)) refl
+answer-begun = answer-same (λ (s : Strategy). s .begun) (λ s. refl)
 
 answer-entries : (b : State) (k side : ℕ) → answer k side b .entries ≡ b .entries
 unfolding answer

@@ -5,7 +5,7 @@ use mathlib.Core.Logic.{⊎-elim}
 use mathlib.Core.List.{List}
 use Prim.Native.Nat.{ℕ, zero, suc, _+_, _-_, _*_, _^_, _≤_, _<_, min}
 use native.Mathlib.Omega.{arith}
-use borrow.Author.Tests.{eqb-true, eqb-false, ne-eqb, ltb-true}
+use borrow.Author.Tests.{eqb-true, ne-eqb, ltb-true}
 use lib.Dec.{eqb}
 use lib.ListN.{length, length-append, length-take, length-replicate, List·getD-eq-default}
 use Rattle.base.specs.Pick.{pick, pick-all, pick-by, pick-yes, pick-no, pick-false}
@@ -19,6 +19,7 @@ use Rattle.rules.specs.Moves.{Moved, and-then, each}
 use Rattle.rules.specs.Fills.{wholeFill, cancelEntry}
 use Rattle.rules.specs.Auctions.{liveIn, isNumber, starterSlot, cancelLapsed, endUnfilled, starterPass, later, laterPass, endAuction, endDue, endHolding, dayOrder, legPass, legPassesIn, legPasses, bestSlot, matchOnce, matchAll, matchIn}
 use Rattle.rules.specs.Events.{live, liveOrder, behind, enter, enterOrder, restOrCancel, waits, trades, arrive, onOrder, oldSweep, enterSweep, onSweep, bestOrder, tradeOnce, tradeAll, ifRests, onLegOrder, cancelEntryOf, cancelOrderOf, cancelNumber, onClock, shut, reopen, onSeries, closeRunning, lowestLive, cancelLowest, restart, onDayEnd}
+use Rattle.rules.proofs.Tables.{positive}
 use Rattle.rules.proofs.Shrinks.{Shrinks, shrinks-refl, shrinks-trans}
 use Rattle.rules.proofs.Control.{Crossed, crossed-best, buy-proper, sell-proper, best-order}
 use Rattle.rules.proofs.Load.{alive, Pays, Six, six-shrinks, pays-nothing, pays-more, pays-then, if-pays, sum-ones, few-entries, few-orders, whole-ends, trade-pays, cancel-pays, cancelOrder-pays, begin-pays, close-pays, answer-pays}
@@ -81,7 +82,7 @@ live-in : (k : ℕ) (e : Entry) → liveIn k e ≡ true → LiveIn k e
 unfolding liveIn
 live-in k e h =
     let p = pick-no (eqb (e .units) 0) h in
-    record { units = (let z : ¬ (e .units ≡ 0) = eqb-false (e .units) 0 (p .0) in omega arith); strategy = eqb-true (e .strategy) k (p .1) }
+    record { units = positive (e .units) (p .0); strategy = eqb-true (e .strategy) k (p .1) }
 
 module _ (b₀ : State) (six : Six b₀) where
   -- the entry that gets a pass counts in its strategy
@@ -182,7 +183,7 @@ tradeOnce-pays a i b six =
     (λ e. if-pays _
     (λ l. let h : bestOrder b (orderAt b a) < 32 = ltb-true _ _ l in
     trade-pays b six a (bestOrder b (orderAt b a))
-    (record { slot = h; meets = best-order b (orderAt b a) h; live = (let z : ¬ (orderAt b a .contracts ≡ 0) = eqb-false _ _ e in omega arith) }))
+    (record { slot = h; meets = best-order b (orderAt b a) h; live = positive _ e }))
     (λ _. pays-nothing 0 b))
 
 ifRests-pays : (b₀ : State) → Six b₀ → (s a : ℕ) (b : State) → Shrinks b₀ b → Pays (13 * sumN (alive (b₀ .entries)) 32) b (ifRests s a b)

@@ -6,7 +6,7 @@ use mathlib.Core.Logic.{⊎-elim, _≢_}
 use mathlib.Core.List.{List}
 use Prim.Native.Nat.{ℕ, zero, suc, _+_, _-_, _^_, _≤_, _<_, min}
 use native.Mathlib.Omega.{arith}
-use borrow.Author.Tests.{eqb-true, eqb-false, eq-eqb, ne-eqb, ltb-true, leb-true, le-leb, not-true}
+use borrow.Author.Tests.{eqb-true, eq-eqb, ne-eqb, ltb-true, leb-true, le-leb, not-true}
 use lib.Dec.{eqb, ltb}
 use lib.ListN.{length}
 use Rattle.base.specs.Pick.{pick, pick-all, pick-by, pick-yes, pick-no, pick-true, pick-false}
@@ -28,8 +28,9 @@ use Rattle.rules.specs.Fills.{wholeFill, legFill, legTrade, cancelEntry,
 use Rattle.rules.specs.Passes.{opposes, holding, sizes, giveAt, give, giveInTurn, giveGroup, giveShared, meetLimit, ready, readyNet, opposite, legsFirst, turnAt, turnOf, take, turn, pass}
 use Rattle.rules.specs.Auctions.{liveIn, begin, close, answer, cancelLapsed, endUnfilled, starterPass, laterPass, endAuction, endDue, endHolding, legPass, legPassesIn, legPasses, ahead, bestStep, bestSlot, crossed, matchOnce, matchAll, matchIn}
 use Rattle.rules.specs.Events.{enter, enterOrder, restOrCancel, waits, trades, arrive, onOrder, meetsOrder, aheadOrder, bestOrderStep, bestOrder, tradeOnce, tradeAll, ifRests, onLegOrder, cancelEntryOf, cancelOrderOf, cancelNumber, onClock, shut, reopen, closeRunning, lowestLive, cancelLowest}
+use Rattle.rules.proofs.Tables.{positive}
 use Rattle.rules.proofs.Shrinks.{Shrinks, shrinks-refl, then-shrinks, whole-shrinks, legs-shrinks, trade-shrinks, cancel-shrinks, cancelOrder-shrinks, begin-shrinks, close-shrinks, answer-shrinks}
-use Rattle.rules.proofs.Quotas.{inTurn-sum, share-total}
+use Rattle.rules.proofs.Quotas.{Divides, inTurn-divides, share-divides}
 use Rattle.rules.proofs.Gives.{whole-none, opposed, opposed-apart, other-apart, Holder, Quoted, quoted-holder, inTurn-quoted, share-quoted, Given, given, given-each}
 
 -- A WHOLE FILL is proper: two that oppose each other, units that both have, a price that meets both limits.
@@ -94,7 +95,7 @@ standing s side o h =
     let p = pick-no (eqb (o .contracts) 0) h in
     let q = pick-yes (eqb (o .series) s) (p .1) in
     record {
-      live = (let z : ¬ (o .contracts ≡ 0) = eqb-false (o .contracts) 0 (p .0) in omega arith);
+      live = positive (o .contracts) (p .0);
       inSeries = eqb-true (o .series) s (q .0);
       onSide = eqb-true (o .side) side (q .1);
     }
@@ -150,21 +151,16 @@ unfolding giveGroup
 group-given a level g b m = given b a level g _ (share-quoted b a level g m)
 
 -- what a group leaves of the active entry
+given-left : {quotas : ℕ → List ℕ → List ℕ} → Divides quotas → {b c : State} {a : ℕ} {xs : List ℕ} → Given b a (quotas (entryAt b a .units) xs) 32 c → entryAt c a .units ≡ entryAt b a .units - sumN (slot xs) 32
+given-left d {b} {c} {a} {xs} v = omega (arith, ap (λ (x : Entry). x .units) (v .active), d .sum (entryAt b a .units) xs)
+
 pub inTurn-left : (a level g : ℕ) (b : State) → meets (entryAt b a .side) (entryAt b a .level) level ≡ true
     → entryAt (giveInTurn a level g b .state) a .units ≡ entryAt b a .units - sumN (slot (sizes (b .entries) (entryAt b a) level g)) 32
-inTurn-left a level g b m =
-    let r : ℕ = entryAt b a .units in
-    let xs : List ℕ = sizes (b .entries) (entryAt b a) level g in
-    let e : entryAt (giveInTurn a level g b .state) a .units ≡ r - sumN (slot (inTurn r xs)) 32 = ap (λ (x : Entry). x .units) (inTurn-given a level g b m .active) in
-    omega (arith, e, inTurn-sum r xs)
+inTurn-left a level g b m = given-left inTurn-divides (inTurn-given a level g b m)
 
 pub group-left : (a level g : ℕ) (b : State) → meets (entryAt b a .side) (entryAt b a .level) level ≡ true
     → entryAt (giveGroup a level g b .state) a .units ≡ entryAt b a .units - sumN (slot (sizes (b .entries) (entryAt b a) level g)) 32
-group-left a level g b m =
-    let r : ℕ = entryAt b a .units in
-    let xs : List ℕ = sizes (b .entries) (entryAt b a) level g in
-    let e : entryAt (giveGroup a level g b .state) a .units ≡ r - sumN (slot (share r xs)) 32 = ap (λ (x : Entry). x .units) (group-given a level g b m .active) in
-    omega (arith, e, share-total r xs)
+group-left a level g b m = given-left share-divides (group-given a level g b m)
 
 -- LEGS
 -- the units of a fill by legs are no more than asked, and some where one is there
@@ -201,9 +197,6 @@ abbrev pub Fits : State → ℕ → Turn → Type 0
 Fits b a Stop = Unit {0}
 Fits b a ByLegs = Legged b a
 Fits b a (AtLimit level) = Limited b a level
-
-positive : (n : ℕ) → eqb n 0 ≡ false → 0 < n
-positive n e = let z : ¬ (n ≡ 0) = eqb-false n 0 e in omega arith
 
 legged : (legs : Bool) (a : ℕ) (b : State) → 0 < entryAt b a .units → 0 < readyNet legs a b → meets (entryAt b a .side) (entryAt b a .level) (readyNet legs a b) ≡ true → Legged b a
 unfolding readyNet ready
@@ -327,25 +320,21 @@ other-sell x y p q = p ∙ sym (pick-false _ _ _ (ne-eqb y 0 (λ z. omega arith)
 
 -- either of the two may be the active one, at its own limit
 module _ (b : State) (k x y : ℕ) (c : Crossed b k x y) where
+  at-limit : (a h : ℕ) → 0 < entryAt b a .units → opposes (entryAt b a) (entryAt b h) ≡ true → 0 < entryAt b h .units → meets (entryAt b h .side) (entryAt b h .level) (entryAt b a .level) ≡ true →
+      Proper b a h (entryAt b a .level) (min (entryAt b a .units) (entryAt b h .units))
+  at-limit a h mine o its m = record { opposed = o; mine = omega arith; its = omega arith; some = omega arith; limit = meets-self _ _; itsLimit = m }
+
   pub buy-proper : Proper b x y (entryAt b x .level) (min (entryAt b x .units) (entryAt b y .units))
-  buy-proper = record {
-    opposed = opposes-is (entryAt b x) (entryAt b y) (c .sell .live) (c .sell .strategy ∙ sym (c .buy .strategy)) (other-buy _ _ (c .buy .onSide) (c .sell .onSide));
-    mine = omega arith;
-    its = omega arith;
-    some = omega (arith, c .buy .live, c .sell .live);
-    limit = meets-self _ _;
-    itsLimit = meets-sell _ _ _ (c .sell .onSide) (c .levels);
-  }
+  buy-proper =
+      at-limit x y (c .buy .live)
+      (opposes-is (entryAt b x) (entryAt b y) (c .sell .live) (c .sell .strategy ∙ sym (c .buy .strategy)) (other-buy _ _ (c .buy .onSide) (c .sell .onSide)))
+      (c .sell .live) (meets-sell _ _ _ (c .sell .onSide) (c .levels))
 
   pub sell-proper : Proper b y x (entryAt b y .level) (min (entryAt b y .units) (entryAt b x .units))
-  sell-proper = record {
-    opposed = opposes-is (entryAt b y) (entryAt b x) (c .buy .live) (c .buy .strategy ∙ sym (c .sell .strategy)) (other-sell _ _ (c .buy .onSide) (c .sell .onSide));
-    mine = omega arith;
-    its = omega arith;
-    some = omega (arith, c .buy .live, c .sell .live);
-    limit = meets-self _ _;
-    itsLimit = meets-buy _ _ _ (c .buy .onSide) (c .levels);
-  }
+  sell-proper =
+      at-limit y x (c .sell .live)
+      (opposes-is (entryAt b y) (entryAt b x) (c .buy .live) (c .buy .strategy ∙ sym (c .sell .strategy)) (other-sell _ _ (c .buy .onSide) (c .sell .onSide)))
+      (c .buy .live) (meets-buy _ _ _ (c .buy .onSide) (c .levels))
 
 -- THE RULES
 module _ {K : State → Moved → Type 0} (κ : Kept K) where

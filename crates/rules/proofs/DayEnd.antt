@@ -4,22 +4,23 @@ use mathlib.Core.Bool.{Bool, true, false, not}
 use mathlib.Core.Logic.{_⊎_, inl, inr, ⊎-elim}
 use Prim.Native.Nat.{ℕ, zero, suc, _+_, _≤_, _<_}
 use native.Mathlib.Omega.{arith}
-use borrow.Author.Tests.{eqb-true, eqb-false, eq-eqb, ne-eqb, ltb-true, ltb-false, not-true, not-false}
-use lib.Dec.{eqb, ltb}
+use borrow.Author.Tests.{eqb-true, eqb-false, eq-eqb, ne-eqb, not-true, not-false}
+use lib.Dec.{eqb}
 use lib.ListN.{length}
 use Rattle.base.specs.Pick.{pick, pick-true, pick-by, pick-all}
-use Rattle.base.specs.Walks.{walk, sum-one, sum-zero, clash, below, lt-or-le}
+use Rattle.base.specs.Walks.{walk, clash, below, lt-or-le}
 use Rattle.rules.specs.declared.State.{State}
 use Rattle.rules.specs.State.{entryAt, orderAt}
 use Rattle.rules.specs.Moves.{Moved, still, and-then, each}
 use Rattle.rules.specs.Fills.{cancelEntry, cancelOrder}
 use Rattle.rules.specs.Events.{live, liveOrder, cancelEntryOf, cancelOrderOf, cancelNumber, closeRunning, lower, lowerEntry, lowerOrder, lowestLive, cancelLowest}
 use Rattle.rules.specs.Valid.{Sound}
+use Rattle.rules.proofs.Tables.{positive}
 use Rattle.rules.proofs.Shrinks.{Shrinks, shrinks-refl, cancel-shrinks, cancelOrder-shrinks, close-shrinks, then-shrinks}
 use Rattle.rules.proofs.Turns.{each-ends}
 use Rattle.rules.proofs.Firsts.{live-slot, order-slot}
 use Rattle.rules.proofs.Ends.{cut-takes}
-use Rattle.rules.proofs.Finishes.{one, one-live, one-gone, entries, orders, entries-most, orders-most, entries-fewer, orders-fewer, entries-no-more, orders-no-more, cutLeg-takes, each-shrinks}
+use Rattle.rules.proofs.Finishes.{entries, orders, entries-most, orders-most, entries-fewer, orders-fewer, entries-no-more, orders-no-more, cutLeg-takes, each-shrinks, lives-none, none-lives}
 
 -- CANCELS by number: every row of that number is finished
 cancel-empties : (i : ℕ) (b : State) → entryAt (cancelEntry i b .state) i .units ≡ 0
@@ -31,6 +32,17 @@ cancelOrder-empties : (i : ℕ) (b : State) → orderAt (cancelOrder i b .state)
 unfolding cancelOrder
 cancelOrder-empties i b =
     pick-by (λ (m : Moved). orderAt (m .state) i .contracts ≡ 0) (eqb (orderAt b i .contracts) 0) (λ e. eqb-true _ _ e) (λ _. omega (arith, cutLeg-takes b i (orderAt b i .contracts)))
+
+-- moves slot by slot, of which that of slot i finishes a row of number n: it is finished from then on
+each-finishes : (f : ℕ → State → Moved) → ((i : ℕ) (c : State) → Shrinks c (f i c .state)) → (number quantity : State → ℕ) → ((b c : State) → Shrinks b c → number c ≡ number b) → ((b c : State) → Shrinks b c → quantity c ≤ quantity b) →
+    (n i : ℕ) → ((c : State) → number c ≡ n → quantity (f i c .state) ≡ 0) → (b : State) → number b ≡ n → (k : ℕ) → i < k → quantity (each f k b .state) ≡ 0
+unfolding each and-then
+each-finishes f sh number quantity same less n i empties b e zero l = absurd (omega arith)
+each-finishes f sh number quantity same less n i empties b e (suc k) l =
+    let c : State = each f k b .state in
+    ⊎-elim
+    (λ (q : i ≡ k). rw (← q) (empties (each f i b .state) (same b _ (each-shrinks f sh i b) ∙ e)))
+    (λ m. omega (arith, each-finishes f sh number quantity same less n i empties b e k m, less c (f k c .state) (sh k c))) (below l)
 
 module _ (n : ℕ) where
   of-shrinks : (i : ℕ) (b : State) → Shrinks b (cancelEntryOf n i b .state)
@@ -49,24 +61,15 @@ module _ (n : ℕ) where
   unfolding cancelOrderOf
   orderOf-empties i b e = rw (pick-true _ (cancelOrder i b) (still b) (eq-eqb _ _ e)) (cancelOrder-empties i b)
 
-  module _ (b : State) (i : ℕ) where
-    gone : entryAt b i .number ≡ n → (k : ℕ) → i < k → entryAt (each (cancelEntryOf n) k b .state) i .units ≡ 0
-    unfolding each and-then
-    gone e zero l = absurd (omega arith)
-    gone e (suc k) l =
-        let c : State = each (cancelEntryOf n) k b .state in
-        ⊎-elim
-        (λ (q : i ≡ k). rw q (of-empties k c (rw q at (each-shrinks (cancelEntryOf n) of-shrinks k b .entry i .number ∙ e))))
-        (λ m. let z = gone e k m in omega (arith, of-shrinks k c .entry i .units)) (below l)
+  gone : (b : State) (i : ℕ) → entryAt b i .number ≡ n → (k : ℕ) → i < k → entryAt (each (cancelEntryOf n) k b .state) i .units ≡ 0
+  gone b i =
+      each-finishes (cancelEntryOf n) of-shrinks (λ (c : State). entryAt c i .number) (λ (c : State). entryAt c i .units)
+      (λ b c h. h .entry i .number) (λ b c h. h .entry i .units) n i (of-empties i) b
 
-    orderGone : orderAt b i .number ≡ n → (k : ℕ) → i < k → orderAt (each (cancelOrderOf n) k b .state) i .contracts ≡ 0
-    unfolding each and-then
-    orderGone e zero l = absurd (omega arith)
-    orderGone e (suc k) l =
-        let c : State = each (cancelOrderOf n) k b .state in
-        ⊎-elim
-        (λ (q : i ≡ k). rw q (orderOf-empties k c (rw q at (each-shrinks (cancelOrderOf n) orderOf-shrinks k b .order i .number ∙ e))))
-        (λ m. let z = orderGone e k m in omega (arith, orderOf-shrinks k c .order i .contracts)) (below l)
+  orderGone : (b : State) (i : ℕ) → orderAt b i .number ≡ n → (k : ℕ) → i < k → orderAt (each (cancelOrderOf n) k b .state) i .contracts ≡ 0
+  orderGone b i =
+      each-finishes (cancelOrderOf n) orderOf-shrinks (λ (c : State). orderAt c i .number) (λ (c : State). orderAt c i .contracts)
+      (λ b c h. h .order i .number) (λ b c h. h .order i .contracts) n i (orderOf-empties i) b
 
   number-shrinks : (b : State) → Shrinks b (cancelNumber n b .state)
   unfolding cancelNumber
@@ -97,15 +100,16 @@ lower-is : (n m : ℕ) → (lower n m ≡ m) ⊎ ((lower n m ≡ n) × (n ≡ 0 
 unfolding lower
 lower-is n m =
     let P : ℕ → Type 0 = λ (x : ℕ). (x ≡ m) ⊎ ((x ≡ n) × (n ≡ 0 → ⊥)) in
-    pick-by P (eqb n 0) (λ _. inl refl) (λ z. pick-all P _ (inl refl) (inr (refl, eqb-false n 0 z)))
+    pick-by P (eqb n 0) (λ _. inl refl) (λ z. let some : ¬ (n ≡ 0) = eqb-false n 0 z in
+    pick-all P _ (inr (refl, some)) (⊎-elim (λ (l : m < n). inl (omega arith)) (λ (l : n ≤ m). inr (omega arith, some)) (lt-or-le m n)))
 
 lower-low : (n m : ℕ) → 0 < m → (0 < lower n m) × (lower n m ≤ m) × (0 < n → lower n m ≤ n)
 unfolding lower
 lower-low n m p =
     let P : ℕ → Type 0 = λ (x : ℕ). (0 < x) × (x ≤ m) × (0 < n → x ≤ n) in
     pick-by P (eqb n 0) (λ z. (p, omega arith, λ h. absurd (omega (arith, eqb-true n 0 z))))
-    (λ z. let some : ¬ (n ≡ 0) = eqb-false n 0 z in
-    pick-by P (ltb m n) (λ l. (p, omega arith, λ h. omega (arith, ltb-true m n l))) (λ l. (omega arith, omega (arith, ltb-false m n l), λ h. omega arith)))
+    (λ z. let some : 0 < n = positive n z in
+    pick-by P (eqb m 0) (λ y. absurd (omega (arith, eqb-true m 0 y))) (λ y. (omega arith, omega arith, λ h. omega arith)))
 
 module _ (ok : ℕ → Bool) (num : ℕ → ℕ) where
   abbrev lows : ℕ → ℕ → ℕ
@@ -142,7 +146,7 @@ module _ (ok : ℕ → Bool) (num : ℕ → ℕ) where
 
 -- nothing is live
 some-units : (u : ℕ) → not (eqb u 0) ≡ true → 0 < u
-some-units u e = let n : ¬ (u ≡ 0) = eqb-false u 0 (not-true _ e) in omega arith
+some-units u e = positive u (not-true _ e)
 
 no-units : (u : ℕ) → not (eqb u 0) ≡ false → u ≡ 0
 no-units u e = eqb-true u 0 (not-false _ e)
@@ -170,20 +174,16 @@ lowest-named b some = ⊎-elim (λ n. n) (λ z. absurd (some (none (z .1) (z .2)
     32 (omega arith))
   where
     none : ((i : ℕ) → i < 32 → liveAt b i ≡ false) → ((i : ℕ) → i < 32 → liveOrderAt b i ≡ false) → entries b + orders b ≡ 0
-    none p q = omega (arith, sum-zero (λ (i : ℕ). one (entryAt b i .units)) 32 (λ i l. one-gone _ (no-units _ (p i l))), sum-zero (λ (i : ℕ). one (orderAt b i .contracts)) 32 (λ i l. one-gone _ (no-units _ (q i l))))
+    none p q = omega (arith, lives-none (λ (i : ℕ). entryAt b i .units) (λ i l. no-units _ (p i l)), lives-none (λ (i : ℕ). orderAt b i .contracts) (λ i l. no-units _ (q i l)))
 
 -- THE CANCELS END where nothing is live
 empty-entry : (b : State) → left b ≡ 0 → (i : ℕ) → i < 32 → entryAt b i .units ≡ 0
 unfolding left entries
-empty-entry b e i h = ⊎-elim
-    (λ (l : 0 < entryAt b i .units). absurd (omega (arith, sum-one (λ (j : ℕ). one (entryAt b j .units)) 32 i h, one-live (entryAt b i .units) l)))
-    (λ (l : entryAt b i .units ≤ 0). omega arith) (lt-or-le 0 (entryAt b i .units))
+empty-entry b e = none-lives (λ (i : ℕ). entryAt b i .units) (omega arith)
 
 empty-order : (b : State) → left b ≡ 0 → (i : ℕ) → i < 32 → orderAt b i .contracts ≡ 0
 unfolding left orders
-empty-order b e i h = ⊎-elim
-    (λ (l : 0 < orderAt b i .contracts). absurd (omega (arith, sum-one (λ (j : ℕ). one (orderAt b j .contracts)) 32 i h, one-live (orderAt b i .contracts) l)))
-    (λ (l : orderAt b i .contracts ≤ 0). omega arith) (lt-or-le 0 (orderAt b i .contracts))
+empty-order b e = none-lives (λ (i : ℕ). orderAt b i .contracts) (omega arith)
 
 each-still : (f : ℕ → State → Moved) (b : State) (k : ℕ) → ((i : ℕ) → i < k → f i b ≡ still b) → each f k b ≡ still b
 unfolding each and-then
@@ -209,9 +209,37 @@ cleared b =
     eqb-true _ _ (each-ends cancelLowest (λ (c : State). eqb (left c) 0) left
     (λ i c e. cancel-stops (lowestLive c) c (eqb-true _ _ e)) (λ i c e. number-falls (lowestLive c) c (lowest-named c (eqb-false _ _ e))) 64 b (left-most b))
 
-lowest-shrinks : (i : ℕ) (b : State) → Shrinks b (cancelLowest i b .state)
+pub lowest-shrinks : (i : ℕ) (b : State) → Shrinks b (cancelLowest i b .state)
 unfolding cancelLowest
 lowest-shrinks i b = number-shrinks (lowestLive b) b
+
+-- live rows have a number
+pub record Numbered (b : State) : Type 0 where
+  pub entries : (i : ℕ) → 0 < entryAt b i .units → 1 ≤ entryAt b i .number
+  pub orders : (i : ℕ) → 0 < orderAt b i .contracts → 1 ≤ orderAt b i .number
+
+pub numbered-sound : {b : State} → Sound b → Numbered b
+numbered-sound s = record { entries = λ i l. s .live i l .given .0; orders = λ i l. s .liveOrder i l .given .0 }
+
+pub numbered-shrinks : {b c : State} → Shrinks b c → Numbered b → Numbered c
+numbered-shrinks {b} {c} s n = record { entries = entry; orders = order }
+  where
+    entry : (i : ℕ) → 0 < entryAt c i .units → 1 ≤ entryAt c i .number
+    entry i l = let e = s .entry i in omega (arith, e .number, n .entries i (omega (arith, e .units)))
+
+    order : (i : ℕ) → 0 < orderAt c i .contracts → 1 ≤ orderAt c i .number
+    order i l = let o = s .order i in omega (arith, o .number, n .orders i (omega (arith, o .contracts)))
+
+unnamed : {b : State} → Numbered b → Named b 0 → ⊥
+unnamed n (an-entry i h l q) = omega (arith, n .entries i l)
+unnamed n (an-order i h l q) = omega (arith, n .orders i l)
+
+-- where the lowest live number is 0 nothing is live, and its cancel finds nothing
+pub lowest-none : {b : State} → Numbered b → lowestLive b ≡ 0 → (i : ℕ) → cancelLowest i b ≡ still b
+unfolding cancelLowest
+lowest-none {b} n e i =
+    cancel-stops (lowestLive b) b
+    (⊎-elim (λ (l : 0 < left b). absurd (unnamed n (rw e at (lowest-named b (λ z. omega arith))))) (λ (l : left b ≤ 0). omega arith) (lt-or-le 0 (left b)))
 
 -- a row of which nothing is live
 pub record Finished (c : State) (i : ℕ) : Type 0 where
@@ -231,7 +259,7 @@ day-ends b n m =
     finished _ (s .entryRows ∙ n) (s .orderRows ∙ m) (cleared b)
 
 -- the same within the event, as the auctions that run are closed first
-running-shrinks : (k : ℕ) (b : State) → Shrinks b (closeRunning k b .state)
+pub running-shrinks : (k : ℕ) (b : State) → Shrinks b (closeRunning k b .state)
 unfolding closeRunning
 running-shrinks k b = pick-all (λ (m : Moved). Shrinks b (m .state)) _ (close-shrinks b k) (shrinks-refl b)
 

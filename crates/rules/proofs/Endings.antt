@@ -8,7 +8,7 @@ use native.Mathlib.Nat.{le-refl}
 use native.Mathlib.Omega.{arith}
 use borrow.Author.Tests.{eqb-true, eqb-false, eq-eqb, ne-eqb, not-true}
 use lib.Dec.{eqb}
-use lib.ListN.{getD, List·getD-eq-default}
+use lib.ListN.{getD}
 use Rattle.base.specs.Pick.{pick, pick-by, pick-all, pick-true, pick-false, pick-yes}
 use Rattle.base.specs.Walks.{below, clash, lt-or-le}
 use Rattle.base.specs.Sets.{has}
@@ -27,6 +27,7 @@ use Rattle.rules.proofs.Entering.{sound-auctions, sound-shrinks, auctio
 use Rattle.rules.proofs.Only.{Only, only-refl, only-trans, only-each, lapsed-only, starterPass-only, laterPass-only, matchAll-only}
 use Rattle.rules.proofs.Settled.{same-or, Nearly, OpenLegs, settled-nearly, running-same, nearly-moves, open-moves, shut-same, strategy-same, nearly-tables, Loose, valid-loose, loose-valid, valid-only, each-keeps, cancel-dead}
 use Rattle.rules.proofs.Arrivals.{put-other, put-at, put-entries, put-auctions, legPasses-valid}
+use Rattle.rules.proofs.Firsts.{live-slot}
 
 -- What lapses.
 
@@ -74,13 +75,6 @@ lapsed-all k (suc n) b i h =
 day-left : (n : ℕ) → n ≤ 4 → (n ≡ 1 → ⊥) → (n ≡ 2 → ⊥) → (n ≡ 3 → ⊥) → (n ≡ 4 → ⊥) → n ≡ 0
 day-left n h a b c d = omega arith
 
--- a live entry stands in one of the slots
-live-slot : (b : State) → Sound b → (i : ℕ) → 0 < entryAt b i .units → i < 32
-live-slot b s i h =
-    ⊎-elim (λ (m : i < 32). m)
-    (λ (m : 32 ≤ i). absurd (omega (arith, ap (λ (e : Entry). e .units) (List·getD-eq-default (b .entries) noEntry {n = i} (omega (arith, s .entryRows))))))
-    (lt-or-le i 32)
-
 -- The end of an auction: from the cancels on, once its passes have touched entries of its strategy only.
 
 module _ (k : ℕ) {b c : State} (low : k < 16) (l : Loose b) (o : Only k b c) where
@@ -122,7 +116,7 @@ module _ (k : ℕ) {b c : State} (low : k < 16) (l : Loose b) (o : Only k b c) w
 
   ended-day : (i : ℕ) → (i ≡ 32 → ⊥) → 0 < entryAt ended i .units → entryAt ended i .strategy ≡ k → entryAt ended i .life ≡ 0
   ended-day i n h s =
-      let p : Lasts k (entryAt ended i) = rw (ended-entry i) (lapsed-all k 32 c i (live-slot ended ended-sound i h)) in
+      let p : Lasts k (entryAt ended i) = rw (ended-entry i) (lapsed-all k 32 c i (live-slot ended (ended-sound .entryRows) i h)) in
       let q = p h s in
       day-left (entryAt ended i .life) (fit-entry-at ended ended-sound i .life) (q .0) (q .1) (ended-stays i n h s) (q .2)
 

@@ -1,13 +1,12 @@
 -- What the paper repeats is repeated to its end: "while units of it remain", "while they meet", all that is live at day end.
 use mathlib.Core.Path.{_≡_, refl, sym, ap, _∙_}
 use mathlib.Core.Bool.{Bool, true, false}
-use mathlib.Core.List.{List, [], _∷_}
+use mathlib.Core.List.{List}
 use mathlib.Core.Logic.{_⊎_, inl, inr, ⊎-elim}
 use Prim.Native.Nat.{ℕ, zero, suc, _-_, _≤_, _<_, min}
 use native.Mathlib.Omega.{arith}
-use borrow.Author.Tests.{eqb-true, eqb-false, eq-eqb, ltb-true, ltb-false, leb-false, lt-leb, not-true}
+use borrow.Author.Tests.{eqb-true, eqb-false, eq-eqb, ltb-false, leb-false, lt-leb, not-true}
 use lib.Dec.{eqb, ltb, leb}
-use lib.ListN.{getD, set}
 use Rattle.base.specs.Pick.{pick, pick-true, pick-false, pick-by, pick-all, pick-no}
 use Rattle.base.specs.Walks.{sumN, slot, table-slot, sum-one, clash, lt-or-le}
 use Rattle.rules.specs.declared.Strategy.{Strategy}
@@ -17,26 +16,22 @@ use Rattle.rules.specs.declared.Allocation.{Allocation}
 use Rattle.rules.specs.declared.Allocation.the-variants.{LegsOnly, Shared, Numbered}
 use Rattle.rules.specs.declared.Turn.{Turn}
 use Rattle.rules.specs.declared.Turn.the-variants.{Stop, ByLegs, AtLimit}
-use Rattle.rules.specs.State.{noEntry, entryAt, strategyOf, withEntries, withOrders}
-use Rattle.rules.specs.Moves.{Moved, still, and-then, each}
+use Rattle.rules.specs.State.{entryAt, strategyOf, withOrders}
+use Rattle.rules.specs.Moves.{Moved, and-then, each}
 use Rattle.rules.specs.Sides.{meets, better}
-use Rattle.rules.specs.Quotas.{inTurn, share}
 use Rattle.rules.specs.Nets.{prices, unitsOf}
-use Rattle.rules.specs.Fills.{cutEntry, cut, wholeFill, takeLegs, legFill}
+use Rattle.rules.specs.Fills.{cut, wholeFill, takeLegs, legFill}
 use Rattle.rules.specs.Passes.{opposes, groupOf, within, holding, sizeAt, sizes, giveAt, give, giveInTurn, giveGroup, giveShared, meetLimit, ready, readyNet, opposite, legsFirst, turnAt, turnOf, take, turn, pass}
+use Rattle.rules.proofs.Tables.{positive}
 use Rattle.rules.proofs.Shrinks.{cut-shrinks}
 use Rattle.rules.proofs.Turns.{each-ends, units-some, Holder, opposite-holder}
-use Rattle.rules.proofs.Quotas.{inTurn-sum, share-total}
+use Rattle.rules.proofs.Quotas.{Divides, inTurn-divides, share-divides}
+use Rattle.rules.proofs.Gives.{whole-none, cut-at}
+use Rattle.rules.proofs.Firsts.{better-turn}
 
--- CUTS: what a store leaves at its own slot
-pub made : {A : Type 0} (P : A → Type 0) (d x : A) (l : List A) (i : ℕ) → P x → P d → P (getD (set l i x) i d)
-made P d x [] i p q = q
-made P d x (y ∷ l) zero p q = p
-made P d x (y ∷ l) (suc i) p q = made P d x l i p q
-
+-- CUTS
 pub cut-takes : (b : State) (i q : ℕ) → entryAt (cut b i q) i .units ≤ entryAt b i .units - q
-unfolding cut withEntries
-cut-takes b i q = made (λ (e : Entry). e .units ≤ entryAt b i .units - q) noEntry (cutEntry (entryAt b i) q) (b .entries) i (omega arith) (omega arith)
+cut-takes b i q = rw (cut-at b i q) (omega arith)
 
 -- FILLS of an entry by others: each takes its quota, and none takes nothing
 pub whole-takes : (b : State) (a h level q : ℕ) → entryAt (wholeFill b a h level q .state) a .units ≤ entryAt b a .units - q
@@ -45,10 +40,6 @@ whole-takes b a h level q =
     pick-by (λ (m : Moved). entryAt (m .state) a .units ≤ entryAt b a .units - q) (eqb q 0)
     (λ e. omega (arith, eqb-true q 0 e))
     (λ _. omega (arith, cut-takes b a q, cut-shrinks (cut b a q) h q .entry a .units))
-
-whole-none : (b : State) (a h level q : ℕ) → q ≡ 0 → wholeFill b a h level q ≡ still b
-unfolding wholeFill
-whole-none b a h level q e = pick-true _ _ _ (eq-eqb q 0 e)
 
 module _ (a level : ℕ) (qs : List ℕ) (b : State) where
   gives : (k : ℕ) → entryAt (each (giveAt a level qs) k b .state) a .units ≤ entryAt b a .units - sumN (slot qs) k
@@ -68,29 +59,25 @@ total b a level g = sumN (slot (sizes (b .entries) (entryAt b a) level g)) 32
 abbrev unitsAt : ℕ → State → ℕ
 unitsAt a b = entryAt b a .units
 
-inTurn-takes : (a level g : ℕ) (b : State) → unitsAt a (giveInTurn a level g b .state) ≤ unitsAt a b - min (unitsAt a b) (total b a level g)
-unfolding giveInTurn give
-inTurn-takes a level g b =
-    let xs : List ℕ = sizes (b .entries) (entryAt b a) level g in
-    omega (arith, gives a level (inTurn (unitsAt a b) xs) b 32, inTurn-sum (unitsAt a b) xs)
+module _ {quotas : ℕ → List ℕ → List ℕ} (d : Divides quotas) (a level g : ℕ) (b : State) where
+  abbrev quoted : List ℕ
+  quoted = quotas (unitsAt a b) (sizes (b .entries) (entryAt b a) level g)
 
-inTurn-none : (a level g : ℕ) (b : State) → total b a level g ≡ 0 → giveInTurn a level g b .state ≡ b
-unfolding giveInTurn give
-inTurn-none a level g b e =
-    let xs : List ℕ = sizes (b .entries) (entryAt b a) level g in
-    gives-none a level (inTurn (unitsAt a b) xs) b 32 (omega (arith, inTurn-sum (unitsAt a b) xs))
+  give-takes : unitsAt a (give a level quoted b .state) ≤ unitsAt a b - min (unitsAt a b) (total b a level g)
+  unfolding give
+  give-takes = omega (arith, gives a level quoted b 32, d .sum (unitsAt a b) (sizes (b .entries) (entryAt b a) level g))
+
+  give-none : total b a level g ≡ 0 → give a level quoted b .state ≡ b
+  unfolding give
+  give-none e = gives-none a level quoted b 32 (omega (arith, d .sum (unitsAt a b) (sizes (b .entries) (entryAt b a) level g)))
+
+inTurn-takes : (a level g : ℕ) (b : State) → unitsAt a (giveInTurn a level g b .state) ≤ unitsAt a b - min (unitsAt a b) (total b a level g)
+unfolding giveInTurn
+inTurn-takes = give-takes inTurn-divides
 
 group-takes : (a level g : ℕ) (b : State) → unitsAt a (giveGroup a level g b .state) ≤ unitsAt a b - min (unitsAt a b) (total b a level g)
-unfolding giveGroup give
-group-takes a level g b =
-    let xs : List ℕ = sizes (b .entries) (entryAt b a) level g in
-    omega (arith, gives a level (share (unitsAt a b) xs) b 32, share-total (unitsAt a b) xs)
-
-group-none : (a level g : ℕ) (b : State) → total b a level g ≡ 0 → giveGroup a level g b .state ≡ b
-unfolding giveGroup give
-group-none a level g b e =
-    let xs : List ℕ = sizes (b .entries) (entryAt b a) level g in
-    gives-none a level (share (unitsAt a b) xs) b 32 (omega (arith, share-total (unitsAt a b) xs))
+unfolding giveGroup
+group-takes = give-takes share-divides
 
 -- the holder's group holds some
 group-of : (f : Entry) → (groupOf f ≡ 0) ⊎ ((groupOf f ≡ 1) ⊎ (groupOf f ≡ 2))
@@ -107,7 +94,7 @@ module _ (a x : ℕ) (b : State) (some : 0 < unitsAt a b) (h : Holder (b .entrie
   unfolding sizes holding opposes holder
   holds g w =
       let f : ℕ → ℕ = sizeAt (b .entries) (entryAt b a) x g in
-      let u : 0 < holder .units = (let n : ¬ (holder .units ≡ 0) = eqb-false _ _ (pick-no (eqb (holder .units) 0) (h .opposed) .0) in omega arith) in
+      let u : 0 < holder .units = positive _ (pick-no (eqb (holder .units) 0) (h .opposed) .0) in
       let e : slot (sizes (b .entries) (entryAt b a) x g) (h .at) ≡ holder .units =
       table-slot f 0 32 (h .at) (h .slot) ∙ pick-true _ _ _ (h .opposed) ∙ pick-true _ _ _ (eq-eqb _ _ (h .level)) ∙ pick-true _ _ _ w in
       omega (arith, sum-one (slot (sizes (b .entries) (entryAt b a) x g)) 32 (h .at) (h .slot))
@@ -119,11 +106,16 @@ module _ (a x : ℕ) (b : State) (some : 0 < unitsAt a b) (h : Holder (b .entrie
   abbrev Stays : State → Type 0
   Stays c = Falls c ⊎ (c ≡ b)
 
+  give-stays : {quotas : ℕ → List ℕ → List ℕ} (d : Divides quotas) (g : ℕ) → Stays (give a x (quotas (unitsAt a b) (sizes (b .entries) (entryAt b a) x g)) b .state)
+  give-stays d g = ⊎-elim (λ (l : 0 < total b a x g). inl (omega (arith, give-takes d a x g b))) (λ (l : total b a x g ≤ 0). inr (give-none d a x g b (omega arith))) (lt-or-le 0 (total b a x g))
+
   inTurn-stays : (g : ℕ) → Stays (giveInTurn a x g b .state)
-  inTurn-stays g = ⊎-elim (λ (l : 0 < total b a x g). inl (omega (arith, inTurn-takes a x g b))) (λ (l : total b a x g ≤ 0). inr (inTurn-none a x g b (omega arith))) (lt-or-le 0 (total b a x g))
+  unfolding giveInTurn
+  inTurn-stays = give-stays inTurn-divides
 
   group-stays : (g : ℕ) → Stays (giveGroup a x g b .state)
-  group-stays g = ⊎-elim (λ (l : 0 < total b a x g). inl (omega (arith, group-takes a x g b))) (λ (l : total b a x g ≤ 0). inr (group-none a x g b (omega arith))) (lt-or-le 0 (total b a x g))
+  unfolding giveGroup
+  group-stays = give-stays share-divides
 
   group-next : (g : ℕ) (c : State) → Stays c → Stays (giveGroup a x g c .state)
   group-next g c s = ⊎-elim (λ l. inl (omega (arith, group-takes a x g c))) (λ e. rw e (group-stays g)) s
@@ -178,7 +170,7 @@ legs-fall a b some e =
     let s : Strategy = strategyOf b (entryAt b a) in
     let side : ℕ = entryAt b a .side in
     let ps : List ℕ = prices (b .orders) side (s .legs) in
-    let one : 0 < unitsOf (b .orders) side s ps 1 = (let n : ¬ (unitsOf (b .orders) side s ps 1 ≡ 0) = eqb-false _ _ (not-true _ e) in omega arith) in
+    let one : 0 < unitsOf (b .orders) side s ps 1 = positive _ (not-true _ e) in
     omega (arith, cut-takes b a (unitsOf (b .orders) side s ps (unitsAt a b)), units-some (b .orders) side s ps (unitsAt a b) some one)
 
 -- A TURN THAT DOES NOT STOP FILLS AT LEAST ONE UNIT
@@ -189,11 +181,8 @@ turn-fills way legs a i b =
     let stop : P Stop = λ go. absurd (go refl) in
     pick-by P _ (λ _. stop) (λ u.
     pick-by P _
-    (λ f. pick-all P _ (λ _. legs-fall a b (some u) (is-ready legs a b (eqb-false _ _ (pick-no (eqb (readyNet legs a b) 0) f .0)))) stop)
-    (λ _. pick-by P _ (λ _. stop) (λ x. pick-all P _ (λ _. limit-falls way a b (some u) (eqb-false _ _ x)) stop)))
-  where
-    some : eqb (unitsAt a b) 0 ≡ false → 0 < unitsAt a b
-    some u = let n : ¬ (unitsAt a b ≡ 0) = eqb-false (unitsAt a b) 0 u in omega arith
+    (λ f. pick-all P _ (λ _. legs-fall a b (positive (unitsAt a b) u) (is-ready legs a b (eqb-false _ _ (pick-no (eqb (readyNet legs a b) 0) f .0)))) stop)
+    (λ _. pick-by P _ (λ _. stop) (λ x. pick-all P _ (λ _. limit-falls way a b (positive (unitsAt a b) u) (eqb-false _ _ x)) stop)))
 
 -- A PASS ENDS ONLY WHERE A TURN STOPS
 stopped : Turn → Bool
@@ -222,14 +211,6 @@ pub record Neither (e : Entry) (x net : ℕ) : Type 0 where
   pub limit : (x ≡ 0) ⊎ (meets (e .side) (e .level) x ≡ false)
   pub legs : (net ≡ 0) ⊎ (meets (e .side) (e .level) net ≡ false)
 
-worse-fails : (side limit x y : ℕ) → better side x y ≡ true → meets side limit x ≡ false → meets side limit y ≡ false
-unfolding better meets pick
-worse-fails side limit x y = by (eqb side 0)
-  where
-    by : (t : Bool) → pick t (ltb x y) (ltb y x) ≡ true → pick t (leb x limit) (leb limit x) ≡ false → pick t (leb y limit) (leb limit y) ≡ false
-    by true e f = lt-leb y limit (omega (arith, ltb-true x y e, leb-false x limit f))
-    by false e f = lt-leb limit y (omega (arith, ltb-true y x e, leb-false limit x f))
-
 no-better-fails : (side limit x y : ℕ) → better side x y ≡ false → meets side limit y ≡ false → meets side limit x ≡ false
 unfolding better meets pick
 no-better-fails side limit x y = by (eqb side 0)
@@ -237,6 +218,9 @@ no-better-fails side limit x y = by (eqb side 0)
     by : (t : Bool) → pick t (ltb x y) (ltb y x) ≡ false → pick t (leb y limit) (leb limit y) ≡ false → pick t (leb x limit) (leb limit x) ≡ false
     by true e f = lt-leb x limit (omega (arith, ltb-false x y e, leb-false y limit f))
     by false e f = lt-leb limit x (omega (arith, ltb-false y x e, leb-false limit y f))
+
+worse-fails : (side limit x y : ℕ) → better side x y ≡ true → meets side limit x ≡ false → meets side limit y ≡ false
+worse-fails side limit x y e = no-better-fails side limit y x (better-turn side x y e)
 
 module _ (e : Entry) (x net : ℕ) where
   -- what the choice of the legs says of the price that was not chosen

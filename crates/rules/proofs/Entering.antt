@@ -2,36 +2,37 @@
 use mathlib.Core.Path.{_≡_, refl, _∙_, ap}
 use mathlib.Core.Bool.{Bool, true, false, not}
 use mathlib.Core.Logic.{⊎-elim}
-use mathlib.Core.List.{List}
+use mathlib.Core.List.{List, []}
 use Prim.Native.Nat.{ℕ, suc, _+_, _^_, _≤_, _<_}
 use native.Mathlib.Nat.{le-refl}
 use native.Mathlib.Omega.{arith}
-use borrow.Author.Tests.{eqb-true, eqb-false, ne-eqb, not-true, not-false}
+use borrow.Author.Tests.{eqb-true, ne-eqb, not-true, not-false}
 use lib.Count.{onesIn}
 use lib.Dec.{eqb}
 use lib.ListN.{length, getD, replicate, length-set, length-replicate}
 use lib.Seq.{getD-set-same, getD-set-other}
 use Rattle.base.specs.Pick.{pick, pick-by, pick-all, pick-true, pick-false}
 use Rattle.base.specs.Walks.{sumN, sum-zero, sum-mono, below}
-use Rattle.base.specs.All.{all-nil, all-at, all-set, all-replicate}
+use Rattle.base.specs.All.{all-nil, all-at, all-set, all-replicate, All}
 use Rattle.base.specs.Sets.{sizeOf}
+use Rattle.rules.specs.declared.Leg.{Leg}
 use Rattle.rules.specs.declared.Strategy.{Strategy}
 use Rattle.rules.specs.declared.Entry.{Entry}
 use Rattle.rules.specs.declared.LegOrder.{LegOrder}
 use Rattle.rules.specs.declared.State.{State}
 use Rattle.rules.specs.State.{noLeg, noEntry, noOrder, noStrategy, freeStrategy, fresh, entryAt, orderAt, strategyAt, withEntries, withOrders, withStrategies, withOpened, withClock, withLast}
-use Rattle.rules.specs.Strategies.{held, define}
-use Rattle.rules.specs.Events.{live, liveOrder, keep, behind, enter, enterOrder, freeSlot, freeOrderSlot}
+use Rattle.rules.specs.Strategies.{held, added, define}
+use Rattle.rules.specs.Events.{live, liveOrder, keep, enter, enterOrder, freeSlot}
 use Rattle.rules.specs.Refusals.{isOrder, isSweep, isLegOrder, isOrderAt, isSweepAt, isLegOrderAt}
 use Rattle.rules.specs.Valid.{FitLeg, FitStrategy, FitEntry, FitOrder, LiveEntry, LiveOrder, Sound}
-use Rattle.rules.proofs.Tables.{all-of, sorted-of, sorted-any, total, sum-total, total-add, Stands, keep-all, keep-length, behind-length, behind-all, behind-slot, behind-other, behind-sorted, behind-total, behind-stands}
+use Rattle.rules.proofs.Tables.{all-of, tally, sum-tally, tally-plus, Stands, keep-all, keep-length, behind-length, behind-all, behind-slot, behind-other, behind-tally, behind-stands, behind-live, behind-ordered, positive}
 use Rattle.rules.proofs.Shrinks.{SameEntry, SameOrder, SameStrategy, Shrinks}
 
 -- The tests of the live rows.
 
 pub live-pos : (e : Entry) → live e ≡ true → 0 < e .units
 unfolding live
-live-pos e h = let z : ¬ (e .units ≡ 0) = eqb-false _ 0 (not-true _ h) in omega arith
+live-pos e h = positive (e .units) (not-true _ h)
 
 pub pos-live : (e : Entry) → 0 < e .units → live e ≡ true
 unfolding live
@@ -41,19 +42,11 @@ pub dead-zero : (e : Entry) → live e ≡ false → e .units ≡ 0
 unfolding live
 dead-zero e h = eqb-true _ 0 (not-false _ h)
 
-pub order-pos : (o : LegOrder) → liveOrder o ≡ true → 0 < o .contracts
-unfolding liveOrder
-order-pos o h = let z : ¬ (o .contracts ≡ 0) = eqb-false _ 0 (not-true _ h) in omega arith
-
-pub pos-order : (o : LegOrder) → 0 < o .contracts → liveOrder o ≡ true
-unfolding liveOrder
-pos-order o h = ap not (ne-eqb (o .contracts) 0 (λ z. omega arith))
-
-none-live : live noEntry ≡ false
+pub none-live : live noEntry ≡ false
 unfolding live
 none-live = refl
 
-none-order : liveOrder noOrder ≡ false
+pub none-order : liveOrder noOrder ≡ false
 unfolding liveOrder
 none-order = refl
 
@@ -102,10 +95,11 @@ no-ones : sizeOf 0 ≡ 0
 unfolding sizeOf onesIn
 no-ones = refl
 
-pub fit-past : FitStrategy noStrategy
-fit-past = record {
+-- a strategy with no leg in use and no auction
+fit-unused : (legs : List Leg) → All FitLeg legs → FitStrategy (record { legs = legs; count = 0; series = 0; starter = 0; begun = 0; answered = false })
+fit-unused legs a = record {
   count = omega arith;
-  legs = all-nil;
+  legs = a;
   used = λ i h. absurd (omega arith);
   rising = λ i j h l. absurd (omega arith);
   held = λ i h. absurd (omega arith);
@@ -115,18 +109,11 @@ fit-past = record {
   begun = omega arith;
 }
 
+pub fit-past : FitStrategy noStrategy
+fit-past = fit-unused [] all-nil
+
 pub fit-free : FitStrategy freeStrategy
-fit-free = record {
-  count = omega arith;
-  legs = all-replicate noLeg fit-no-leg 6;
-  used = λ i h. absurd (omega arith);
-  rising = λ i j h l. absurd (omega arith);
-  held = λ i h. absurd (omega arith);
-  ones = no-ones;
-  series = omega arith;
-  starter = omega arith;
-  begun = omega arith;
-}
+fit-free = fit-unused (replicate 6 noLeg) (all-replicate noLeg fit-no-leg 6)
 
 -- Live rows of a state in which more numbers were given and more strategies are defined.
 
@@ -193,11 +180,11 @@ pub record Entering (b : State) (e : Entry) : Type 0 where
   pub sweeps : sumN (isSweepAt b) 32 + isSweep e ≤ 16
 
 module _ (b : State) (e : Entry) (s : Sound b) (n : Entering b e) where
-  total-orders : sumN (isOrderAt b) 32 ≡ total isOrder (b .entries)
-  total-orders = sum-total isOrder noEntry (order-dead noEntry none-live) (b .entries) 32 (omega (arith, s .entryRows))
+  total-orders : sumN (isOrderAt b) 32 ≡ tally isOrder (b .entries)
+  total-orders = sum-tally isOrder noEntry (order-dead noEntry none-live) (b .entries) 32 (omega (arith, s .entryRows))
 
-  total-sweeps : sumN (isSweepAt b) 32 ≡ total isSweep (b .entries)
-  total-sweeps = sum-total isSweep noEntry (sweep-dead noEntry none-live) (b .entries) 32 (omega (arith, s .entryRows))
+  total-sweeps : sumN (isSweepAt b) 32 ≡ tally isSweep (b .entries)
+  total-sweeps = sum-tally isSweep noEntry (sweep-dead noEntry none-live) (b .entries) 32 (omega (arith, s .entryRows))
 
   -- a slot is free
   pub enter-room : length (keep live (b .entries)) < 32
@@ -205,7 +192,7 @@ module _ (b : State) (e : Entry) (s : Sound b) (n : Entering b e) where
       omega (
         arith,
         keep-length live noEntry (λ (y : Entry). isOrder y + isSweep y) one-kind (b .entries),
-        total-add isOrder isSweep (b .entries),
+        tally-plus isOrder isSweep (b .entries),
         total-orders,
         total-sweeps,
         one-kind e,
@@ -213,43 +200,6 @@ module _ (b : State) (e : Entry) (s : Sound b) (n : Entering b e) where
         n .orders,
         n .sweeps,
       )
-
-  abbrev after : List Entry
-  after = behind live noEntry e (b .entries)
-
-  abbrev LiveThere : Entry → Type 0
-  LiveThere y = 0 < y .units → LiveEntry (enter e b) y
-
-  enter-live : (i : ℕ) → LiveThere (getD after i noEntry)
-  unfolding enter withLast withEntries
-  enter-live i =
-      all-at {P = LiveThere} noEntry (λ h. absurd (omega arith))
-      (behind-all live noEntry e (b .entries) {P = LiveThere} (λ h. absurd (omega arith))
-      (λ h. record { given = (omega (arith, n .number), le-refl _); level = n .level; strategy = n .strategy })
-      (all-of LiveThere noEntry (b .entries) (λ j h. live-more (omega (arith, n .number)) (le-refl _) (s .live j h)))) i
-
-  abbrev InOrder : Entry → Entry → Type 0
-  InOrder x y = 0 < x .units → 0 < y .units → x .number < y .number
-
-  abbrev Given : Entry → Type 0
-  Given x = InOrder x e
-
-  enter-rising : (i j : ℕ) → i < j → InOrder (getD after i noEntry) (getD after j noEntry)
-  enter-rising =
-      sorted-any {R = InOrder} noEntry (λ a h k. absurd (omega arith))
-      (behind-sorted live noEntry e (b .entries) {R = InOrder} (λ a h k. absurd (omega arith))
-      (keep-all live noEntry (all-of Given noEntry (b .entries) (λ j h k. omega (arith, n .number, s .live j h .given .1))))
-      (sorted-of InOrder noEntry (b .entries) (s .rising)))
-
-  abbrev Apart : Entry → Type 0
-  Apart y = (j : ℕ) → 0 < y .units → 0 < orderAt b j .contracts → y .number ≡ orderAt b j .number → ⊥
-
-  enter-apart : (i j : ℕ) → 0 < getD after i noEntry .units → 0 < orderAt b j .contracts → getD after i noEntry .number ≡ orderAt b j .number → ⊥
-  enter-apart i =
-      all-at {P = Apart} noEntry (λ j h. absurd (omega arith))
-      (behind-all live noEntry e (b .entries) {P = Apart} (λ j h. absurd (omega arith))
-      (λ j h k q. omega (arith, n .number, s .liveOrder j k .given .1))
-      (all-of Apart noEntry (b .entries) (λ i j. s .apart i j))) i
 
   pub sound-enter : Sound (enter e b)
   unfolding enter withLast withEntries
@@ -267,13 +217,16 @@ module _ (b : State) (e : Entry) (s : Sound b) (n : Entering b e) where
     last = n .fit .number;
     undefined = s .undefined;
     legs = s .legs;
-    live = enter-live;
+    live = behind-live live noEntry (λ (y : Entry). y .units) refl e (b .entries) (LiveEntry (enter e b)) (record { given = (omega (arith, n .number), le-refl _); level = n .level; strategy = n .strategy })
+        (λ i h. live-more (omega (arith, n .number)) (le-refl _) (s .live i h));
     liveOrder = λ i h. order-more (omega (arith, n .number)) (s .liveOrder i h);
-    rising = enter-rising;
+    rising = behind-ordered live noEntry (λ (y : Entry). y .units) refl e (b .entries) (λ (y z : Entry). y .number < z .number)
+        (λ i h. omega (arith, n .number, s .live i h .given .1)) (s .rising);
     risingOrders = s .risingOrders;
-    apart = enter-apart;
-    complexOrders = omega (arith, behind-total live noEntry e (b .entries) isOrder none-live order-dead enter-room, total-orders, n .orders);
-    sweeps = omega (arith, behind-total live noEntry e (b .entries) isSweep none-live sweep-dead enter-room, total-sweeps, n .sweeps);
+    apart = λ i j h. behind-live live noEntry (λ (y : Entry). y .units) refl e (b .entries) (λ (y : Entry). (j : ℕ) → 0 < orderAt b j .contracts → y .number ≡ orderAt b j .number → ⊥)
+        (λ j k q. omega (arith, n .number, s .liveOrder j k .given .1)) (λ i h j. s .apart i j h) i h j;
+    complexOrders = omega (arith, behind-tally live noEntry e (b .entries) isOrder none-live order-dead enter-room, total-orders, n .orders);
+    sweeps = omega (arith, behind-tally live noEntry e (b .entries) isSweep none-live sweep-dead enter-room, total-sweeps, n .sweeps);
   }
 
   -- it stands in the slot that was free
@@ -315,46 +268,9 @@ module _ (b : State) (o : LegOrder) (s : Sound b) (n : EnteringOrder b o) where
       omega (
         arith,
         keep-length liveOrder noOrder isLegOrder leg-order-is (b .orders),
-        sum-total isLegOrder noOrder (leg-order-is noOrder ∙ pick-false _ _ _ none-order) (b .orders) 32 (omega (arith, s .orderRows)),
+        sum-tally isLegOrder noOrder (leg-order-is noOrder ∙ pick-false _ _ _ none-order) (b .orders) 32 (omega (arith, s .orderRows)),
         n .room,
       )
-
-  abbrev afterOrder : List LegOrder
-  afterOrder = behind liveOrder noOrder o (b .orders)
-
-  abbrev LiveOrderThere : LegOrder → Type 0
-  LiveOrderThere y = 0 < y .contracts → LiveOrder (enterOrder o b) y
-
-  enterOrder-live : (i : ℕ) → LiveOrderThere (getD afterOrder i noOrder)
-  unfolding enterOrder withLast withOrders
-  enterOrder-live i =
-      all-at {P = LiveOrderThere} noOrder (λ h. absurd (omega arith))
-      (behind-all liveOrder noOrder o (b .orders) {P = LiveOrderThere} (λ h. absurd (omega arith))
-      (λ h. record { given = (omega (arith, n .number), le-refl _); price = n .price })
-      (all-of LiveOrderThere noOrder (b .orders) (λ j h. order-more (omega (arith, n .number)) (s .liveOrder j h)))) i
-
-  abbrev OrdersInOrder : LegOrder → LegOrder → Type 0
-  OrdersInOrder x y = 0 < x .contracts → 0 < y .contracts → x .number < y .number
-
-  abbrev OrderGiven : LegOrder → Type 0
-  OrderGiven x = OrdersInOrder x o
-
-  enterOrder-rising : (i j : ℕ) → i < j → OrdersInOrder (getD afterOrder i noOrder) (getD afterOrder j noOrder)
-  enterOrder-rising =
-      sorted-any {R = OrdersInOrder} noOrder (λ a h k. absurd (omega arith))
-      (behind-sorted liveOrder noOrder o (b .orders) {R = OrdersInOrder} (λ a h k. absurd (omega arith))
-      (keep-all liveOrder noOrder (all-of OrderGiven noOrder (b .orders) (λ j h k. omega (arith, n .number, s .liveOrder j h .given .1))))
-      (sorted-of OrdersInOrder noOrder (b .orders) (s .risingOrders)))
-
-  abbrev ApartOrder : LegOrder → Type 0
-  ApartOrder y = (i : ℕ) → 0 < entryAt b i .units → 0 < y .contracts → entryAt b i .number ≡ y .number → ⊥
-
-  enterOrder-apart : (j i : ℕ) → 0 < entryAt b i .units → 0 < getD afterOrder j noOrder .contracts → entryAt b i .number ≡ getD afterOrder j noOrder .number → ⊥
-  enterOrder-apart j =
-      all-at {P = ApartOrder} noOrder (λ i h k. absurd (omega arith))
-      (behind-all liveOrder noOrder o (b .orders) {P = ApartOrder} (λ i h k. absurd (omega arith))
-      (λ i h k q. omega (arith, n .number, s .live i h .given .1))
-      (all-of ApartOrder noOrder (b .orders) (λ j i. s .apart i j))) j
 
   pub sound-enterOrder : Sound (enterOrder o b)
   unfolding enterOrder withLast withOrders
@@ -373,22 +289,20 @@ module _ (b : State) (o : LegOrder) (s : Sound b) (n : EnteringOrder b o) where
     undefined = s .undefined;
     legs = s .legs;
     live = λ i h. live-more (omega (arith, n .number)) (le-refl _) (s .live i h);
-    liveOrder = enterOrder-live;
+    liveOrder = behind-live liveOrder noOrder (λ (y : LegOrder). y .contracts) refl o (b .orders) (LiveOrder (enterOrder o b)) (record { given = (omega (arith, n .number), le-refl _); price = n .price })
+        (λ i h. order-more (omega (arith, n .number)) (s .liveOrder i h));
     rising = s .rising;
-    risingOrders = enterOrder-rising;
-    apart = λ i j. enterOrder-apart j i;
+    risingOrders = behind-ordered liveOrder noOrder (λ (y : LegOrder). y .contracts) refl o (b .orders) (λ (y z : LegOrder). y .number < z .number)
+        (λ i h. omega (arith, n .number, s .liveOrder i h .given .1)) (s .risingOrders);
+    apart = λ i j h. behind-live liveOrder noOrder (λ (y : LegOrder). y .contracts) refl o (b .orders) (λ (y : LegOrder). entryAt b i .number ≡ y .number → ⊥) (λ q. omega (arith, n .number, s .live i h .given .1)) (λ j. s .apart i j h) j;
     complexOrders = s .complexOrders;
     sweeps = s .sweeps;
   }
 
-  pub enterOrder-slot : orderAt (enterOrder o b) (freeOrderSlot b) ≡ o
-  unfolding enterOrder withLast withOrders freeOrderSlot
-  enterOrder-slot = behind-slot liveOrder noOrder o (b .orders) enterOrder-room
-
 -- A strategy that is defined.
 
 pub sound-define : (b : State) (t : Strategy) → Sound b → FitStrategy t → 2 ≤ t .count → (held b t ≡ false → b .defined < 16) → Sound (define t b)
-unfolding define withStrategies
+unfolding define added withStrategies
 sound-define b t s f two room =
     pick-by Sound (held b t) (λ _. s)
     (λ e.
@@ -424,9 +338,9 @@ sound-define b t s f two room =
 
 -- The clock and the open series.
 
-pub sound-clock : (b : State) (t : ℕ) → Sound b → t ≤ 86_400_000 → Sound (withClock b t)
-unfolding withClock
-sound-clock b t s h = record {
+sound-set : (b : State) (t o : ℕ) → Sound b → t ≤ 86_400_000 → o < 2 ^ 32 → Sound (withClock (withOpened b o) t)
+unfolding withClock withOpened
+sound-set b t o s h k = record {
   strategies = s .strategies;
   entries = s .entries;
   orders = s .orders;
@@ -434,7 +348,7 @@ sound-clock b t s h = record {
   entryRows = s .entryRows;
   orderRows = s .orderRows;
   defined = s .defined;
-  opened = s .opened;
+  opened = k;
   clock = h;
   timer = s .timer;
   last = s .last;
@@ -449,30 +363,13 @@ sound-clock b t s h = record {
   sweeps = s .sweeps;
 }
 
+pub sound-clock : (b : State) (t : ℕ) → Sound b → t ≤ 86_400_000 → Sound (withClock b t)
+unfolding withClock withOpened
+sound-clock b t s h = sound-set b t (b .opened) s h (s .opened)
+
 pub sound-opened : (b : State) (o : ℕ) → Sound b → o < 2 ^ 32 → Sound (withOpened b o)
-unfolding withOpened
-sound-opened b o s h = record {
-  strategies = s .strategies;
-  entries = s .entries;
-  orders = s .orders;
-  strategyRows = s .strategyRows;
-  entryRows = s .entryRows;
-  orderRows = s .orderRows;
-  defined = s .defined;
-  opened = h;
-  clock = s .clock;
-  timer = s .timer;
-  last = s .last;
-  undefined = s .undefined;
-  legs = s .legs;
-  live = λ i l. live-more (le-refl _) (le-refl _) (s .live i l);
-  liveOrder = λ i l. order-more (le-refl _) (s .liveOrder i l);
-  rising = s .rising;
-  risingOrders = s .risingOrders;
-  apart = s .apart;
-  complexOrders = s .complexOrders;
-  sweeps = s .sweeps;
-}
+unfolding withClock withOpened
+sound-opened b o s h = sound-set b (b .clock) o s (s .clock) h
 
 -- Rows that have lost at most a quantity.
 
@@ -512,19 +409,20 @@ fit-strategy {s} {t} h a u f = record {
   begun = u;
 }
 
+-- what counts by the life of a live entry
+life-le : (k : ℕ → ℕ) {e f : Entry} → SameEntry e f → pick (live f) (k (f .life)) 0 ≤ pick (live e) (k (e .life)) 0
+life-le k {e} {f} h =
+    pick-by (λ (n : ℕ). n ≤ pick (live e) (k (e .life)) 0) (live f)
+    (λ l. rw (pick-true (live e) (k (e .life)) 0 (pos-live e (omega (arith, live-pos f l, h .units))), h .life) (le-refl _))
+    (λ l. omega arith)
+
 pub order-le : {e f : Entry} → SameEntry e f → isOrder f ≤ isOrder e
 unfolding isOrder
-order-le {e} {f} h =
-    pick-by (λ (n : ℕ). n ≤ isOrder e) (live f)
-    (λ l. rw (order-live e (pos-live e (omega (arith, live-pos f l, h .units))), h .life) (le-refl _))
-    (λ l. omega arith)
+order-le = life-le (λ (n : ℕ). pick (eqb n 4) 0 1)
 
 pub sweep-le : {e f : Entry} → SameEntry e f → isSweep f ≤ isSweep e
 unfolding isSweep
-sweep-le {e} {f} h =
-    pick-by (λ (n : ℕ). n ≤ isSweep e) (live f)
-    (λ l. rw (sweep-live e (pos-live e (omega (arith, live-pos f l, h .units))), h .life) (le-refl _))
-    (λ l. omega arith)
+sweep-le = life-le (λ (n : ℕ). pick (eqb n 4) 1 0)
 
 -- The auctions of a state: a starter's number and a beginning in range, none in a strategy that is not defined.
 pub record Auctions (b : State) : Type 0 where

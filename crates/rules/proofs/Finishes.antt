@@ -4,23 +4,24 @@ use mathlib.Core.Bool.{Bool, true, false, not}
 use mathlib.Core.Logic.{_⊎_, inl, inr, ⊎-elim}
 use Prim.Native.Nat.{ℕ, zero, suc, _-_, _≤_, _<_, min}
 use native.Mathlib.Omega.{arith}
-use borrow.Author.Tests.{eqb-true, eqb-false, eq-eqb, ne-eqb, ltb-true, ltb-false, lt-ltb, leb-false, not-true, not-false}
+use borrow.Author.Tests.{eqb-true, eq-eqb, ne-eqb, ltb-true, ltb-false, lt-ltb, leb-false, not-true, not-false}
 use lib.Dec.{eqb, ltb, leb}
 use lib.ListN.{length, List·getD-eq-default}
 use Rattle.base.specs.Pick.{pick, pick-true, pick-false, pick-by, pick-all, pick-yes, pick-no}
-use Rattle.base.specs.Walks.{sumN, sum-le, sum-mono, clash, lt-or-le}
-use Rattle.rules.specs.declared.LegOrder.{LegOrder}
+use Rattle.base.specs.Walks.{sumN, sum-le, sum-mono, clash, lt-or-le, sum-zero, sum-one}
 use Rattle.rules.specs.declared.State.{State}
-use Rattle.rules.specs.State.{noOrder, entryAt, orderAt, withOrders}
+use Rattle.rules.specs.State.{noOrder, entryAt, orderAt}
 use Rattle.rules.specs.Sides.{other, better}
 use Rattle.rules.specs.Moves.{Moved, still, each}
-use Rattle.rules.specs.Fills.{cutOrder, cut, cutLeg, wholeFill, legTrade}
+use Rattle.rules.specs.Fills.{cut, cutLeg, wholeFill, legTrade}
 use Rattle.rules.specs.Auctions.{bestSlot, crossed, matchOnce, matchAll}
 use Rattle.rules.specs.Events.{bestOrder, tradeOnce, tradeAll}
+use Rattle.rules.proofs.Tables.{positive}
 use Rattle.rules.proofs.Shrinks.{Shrinks, shrinks-refl, cut-shrinks, cutLeg-shrinks, whole-shrinks, trade-shrinks, then-shrinks}
 use Rattle.rules.proofs.Turns.{each-ends, sum-less}
 use Rattle.rules.proofs.Firsts.{Resting, Meeting, best-rests, best-meets, best-any, best-order-any}
-use Rattle.rules.proofs.Ends.{made, cut-takes, whole-takes}
+use Rattle.rules.proofs.Ends.{cut-takes, whole-takes}
+use Rattle.rules.proofs.Gives.{cutLeg-at}
 
 -- HOW MANY ARE LIVE: the number that falls
 unfoldable pub one : ℕ → ℕ
@@ -41,38 +42,62 @@ one-gone u e = pick-true _ _ _ (eq-eqb u 0 e)
 one-less : (u v : ℕ) → u ≤ v → one u ≤ one v
 one-less u v h = ⊎-elim (λ (l : 0 < v). omega (arith, one-most u, one-live v l)) (λ (l : v ≤ 0). omega (arith, one-gone u (omega arith))) (lt-or-le 0 v)
 
+-- of 32 rows with these quantities
+unfoldable pub lives : (ℕ → ℕ) → ℕ
+lives q = sumN (λ (i : ℕ). one (q i)) 32
+
+lives-most : (q : ℕ → ℕ) → lives q ≤ 32
+unfolding lives
+lives-most q = omega (arith, sum-le (λ (i : ℕ). one (q i)) 1 (λ i. one-most (q i)) 32)
+
+-- where no quantity rises there are no more of them, and fewer where a live one is finished
+lives-fewer : (p q : ℕ → ℕ) → ((j : ℕ) → q j ≤ p j) → (i : ℕ) → i < 32 → 0 < p i → q i ≡ 0 → lives q < lives p
+unfolding lives
+lives-fewer p q less i h l e = sum-less _ _ 32 i h (λ j. one-less (q j) (p j) (less j)) (omega (arith, one-live (p i) l, one-gone (q i) e))
+
+lives-no-more : (p q : ℕ → ℕ) → ((j : ℕ) → q j ≤ p j) → lives q ≤ lives p
+unfolding lives
+lives-no-more p q less = sum-mono _ _ 32 (λ j l. one-less (q j) (p j) (less j))
+
+-- none where nothing is live
+pub lives-none : (q : ℕ → ℕ) → ((i : ℕ) → i < 32 → q i ≡ 0) → lives q ≡ 0
+unfolding lives
+lives-none q h = sum-zero (λ (i : ℕ). one (q i)) 32 (λ i l. one-gone (q i) (h i l))
+
+pub none-lives : (q : ℕ → ℕ) → lives q ≡ 0 → (i : ℕ) → i < 32 → q i ≡ 0
+unfolding lives
+none-lives q e i h =
+    ⊎-elim (λ (l : 0 < q i). absurd (omega (arith, sum-one (λ (j : ℕ). one (q j)) 32 i h, one-live (q i) l))) (λ (l : q i ≤ 0). omega arith) (lt-or-le 0 (q i))
+
 unfoldable pub entries : State → ℕ
-entries b = sumN (λ (i : ℕ). one (entryAt b i .units)) 32
+entries b = lives (λ (i : ℕ). entryAt b i .units)
 
 unfoldable pub orders : State → ℕ
-orders b = sumN (λ (i : ℕ). one (orderAt b i .contracts)) 32
+orders b = lives (λ (i : ℕ). orderAt b i .contracts)
 
 pub entries-most : (b : State) → entries b ≤ 32
 unfolding entries
-entries-most b = omega (arith, sum-le (λ (i : ℕ). one (entryAt b i .units)) 1 (λ i. one-most (entryAt b i .units)) 32)
+entries-most b = lives-most _
 
 pub orders-most : (b : State) → orders b ≤ 32
 unfolding orders
-orders-most b = omega (arith, sum-le (λ (i : ℕ). one (orderAt b i .contracts)) 1 (λ i. one-most (orderAt b i .contracts)) 32)
+orders-most b = lives-most _
 
--- what shrinks has no more of them, and fewer where a live one is finished
 pub entries-fewer : {b c : State} → Shrinks b c → (i : ℕ) → i < 32 → 0 < entryAt b i .units → entryAt c i .units ≡ 0 → entries c < entries b
 unfolding entries
-entries-fewer {b} {c} s i h l e =
-    sum-less _ _ 32 i h (λ j. one-less (entryAt c j .units) (entryAt b j .units) (s .entry j .units)) (omega (arith, one-live (entryAt b i .units) l, one-gone (entryAt c i .units) e))
+entries-fewer s = lives-fewer _ _ (λ j. s .entry j .units)
 
 pub orders-fewer : {b c : State} → Shrinks b c → (i : ℕ) → i < 32 → 0 < orderAt b i .contracts → orderAt c i .contracts ≡ 0 → orders c < orders b
 unfolding orders
-orders-fewer {b} {c} s i h l e =
-    sum-less _ _ 32 i h (λ j. one-less (orderAt c j .contracts) (orderAt b j .contracts) (s .order j .contracts)) (omega (arith, one-live (orderAt b i .contracts) l, one-gone (orderAt c i .contracts) e))
+orders-fewer s = lives-fewer _ _ (λ j. s .order j .contracts)
 
 pub entries-no-more : {b c : State} → Shrinks b c → entries c ≤ entries b
 unfolding entries
-entries-no-more {b} {c} s = sum-mono _ _ 32 (λ j l. one-less (entryAt c j .units) (entryAt b j .units) (s .entry j .units))
+entries-no-more s = lives-no-more _ _ (λ j. s .entry j .units)
 
 pub orders-no-more : {b c : State} → Shrinks b c → orders c ≤ orders b
 unfolding orders
-orders-no-more {b} {c} s = sum-mono _ _ 32 (λ j l. one-less (orderAt c j .contracts) (orderAt b j .contracts) (s .order j .contracts))
+orders-no-more s = lives-no-more _ _ (λ j. s .order j .contracts)
 
 -- moves that shrink, one after the other
 pub each-shrinks : (f : ℕ → State → Moved) → ((i : ℕ) (c : State) → Shrinks c (f i c .state)) → (k : ℕ) (b : State) → Shrinks b (each f k b .state)
@@ -165,8 +190,7 @@ match-apart k b n i j p q =
 
 -- A LEG TRADE finishes one of the two
 pub cutLeg-takes : (b : State) (i q : ℕ) → orderAt (cutLeg b i q) i .contracts ≤ orderAt b i .contracts - q
-unfolding cutLeg withOrders
-cutLeg-takes b i q = made (λ (o : LegOrder). o .contracts ≤ orderAt b i .contracts - q) noOrder (cutOrder (orderAt b i) q) (b .orders) i (omega arith) (omega arith)
+cutLeg-takes b i q = rw (cutLeg-at b i q) (omega arith)
 
 trade-finishes : (b : State) (a h : ℕ) → 0 < orderAt b a .contracts → 0 < orderAt b h .contracts → a < 32 → h < 32 → orders (legTrade b a h .state) < orders b
 unfolding legTrade
@@ -197,9 +221,9 @@ unfolding tradeOnce trading
 trade-falls a i b s e =
     let u = pick-no (eqb (orderAt b a .contracts) 0) e in
     let h : bestOrder b (orderAt b a) < 32 = ltb-true _ _ (u .1) in
-    let n : ¬ (orderAt b a .contracts ≡ 0) = eqb-false _ _ (u .0) in
+    let n : 0 < orderAt b a .contracts = positive _ (u .0) in
     rw (pick-false _ (still b) (pick (ltb (bestOrder b (orderAt b a)) 32) (legTrade b a (bestOrder b (orderAt b a))) (still b)) (u .0), pick-true _ (legTrade b a (bestOrder b (orderAt b a))) (still b) (u .1))
-    (trade-finishes b a (bestOrder b (orderAt b a)) (omega arith) (best-meets b (orderAt b a) h .live) s h)
+    (trade-finishes b a (bestOrder b (orderAt b a)) n (best-meets b (orderAt b a) h .live) s h)
 
 tradeOnce-shrinks : (a i : ℕ) (b : State) → Shrinks b (tradeOnce a i b .state)
 unfolding tradeOnce

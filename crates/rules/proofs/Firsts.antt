@@ -5,11 +5,12 @@ use mathlib.Core.Logic.{_⊎_, inl, inr, ⊎-elim}
 use Prim.Native.Nat.{ℕ, zero, suc, _≤_, _<_}
 use native.Mathlib.Nat.{eq-or-lt-of-le}
 use native.Mathlib.Omega.{arith}
-use borrow.Author.Tests.{ltb-true, ltb-false, lt-ltb, le-ltb, eqb-true, eqb-false, eq-eqb, ne-eqb}
+use borrow.Author.Tests.{ltb-true, ltb-false, lt-ltb, le-ltb, eqb-true, eq-eqb, ne-eqb}
 use lib.Dec.{eqb, ltb}
-use lib.ListN.{length, List·getD-eq-default}
+use lib.ListN.{length}
 use Rattle.base.specs.Pick.{pick, pick-true, pick-false, pick-all, pick-by, pick-yes, pick-no}
 use Rattle.base.specs.Walks.{walk, clash, below, lt-or-le}
+use Rattle.rules.specs.declared.Entry.{Entry}
 use Rattle.rules.specs.declared.LegOrder.{LegOrder}
 use Rattle.rules.specs.declared.State.{State}
 use Rattle.rules.specs.State.{noEntry, noOrder, entryAt, orderAt}
@@ -18,28 +19,23 @@ use Rattle.rules.specs.Nets.{stands}
 use Rattle.rules.specs.Auctions.{liveIn, ahead, bestSlot}
 use Rattle.rules.specs.Events.{meetsOrder, aheadOrder, bestOrder}
 use Rattle.rules.specs.Valid.{Sound}
+use Rattle.rules.proofs.Tables.{live-row, positive}
 
--- BY NUMBER IS BY SLOT
+-- BY NUMBER IS BY SLOT, where the numbers of live rows rise
+by-rising : (number quantity : ℕ → ℕ) → ((i j : ℕ) → i < j → 0 < quantity i → 0 < quantity j → number i < number j) → (i j : ℕ) → 0 < quantity i → 0 < quantity j → number i < number j → i < j
+by-rising number quantity rising i j p q h =
+    ⊎-elim (λ l. l)
+    (λ (l : j ≤ i). absurd (⊎-elim (λ (e : j ≡ i). omega (arith, ap number e)) (λ (m : j < i). omega (arith, rising j i m q p)) (eq-or-lt-of-le l)))
+    (lt-or-le i j)
+
 pub by-number : {b : State} → Sound b → (i j : ℕ) → 0 < entryAt b i .units → 0 < entryAt b j .units → entryAt b i .number < entryAt b j .number → i < j
-by-number {b} v i j p q h = ⊎-elim (λ l. l) (λ l. absurd (not-behind l)) (lt-or-le i j)
-  where
-    not-behind : j ≤ i → ⊥
-    not-behind l = ⊎-elim (λ (m : j < i). omega (arith, v .rising j i m q p)) (λ (m : i ≤ j). same (omega arith)) (lt-or-le j i)
-      where
-        same : i ≡ j → ⊥
-        same e = let n : entryAt b i .number ≡ entryAt b j .number = ap (λ (k : ℕ). entryAt b k .number) e in omega arith
+by-number {b} v = by-rising (λ (i : ℕ). entryAt b i .number) (λ (i : ℕ). entryAt b i .units) (v .rising)
 
 pub by-order-number : {b : State} → Sound b → (i j : ℕ) → 0 < orderAt b i .contracts → 0 < orderAt b j .contracts → orderAt b i .number < orderAt b j .number → i < j
-by-order-number {b} v i j p q h = ⊎-elim (λ l. l) (λ l. absurd (not-behind l)) (lt-or-le i j)
-  where
-    not-behind : j ≤ i → ⊥
-    not-behind l = ⊎-elim (λ (m : j < i). omega (arith, v .risingOrders j i m q p)) (λ (m : i ≤ j). same (omega arith)) (lt-or-le j i)
-      where
-        same : i ≡ j → ⊥
-        same e = let n : orderAt b i .number ≡ orderAt b j .number = ap (λ (k : ℕ). orderAt b k .number) e in omega arith
+by-order-number {b} v = by-rising (λ (i : ℕ). orderAt b i .number) (λ (i : ℕ). orderAt b i .contracts) (v .risingOrders)
 
 -- BETTER is a strict order of prices
-better-turn : (side x y : ℕ) → better side x y ≡ true → better side y x ≡ false
+pub better-turn : (side x y : ℕ) → better side x y ≡ true → better side y x ≡ false
 unfolding better pick
 better-turn side x y = by (eqb side 0)
   where
@@ -144,24 +140,15 @@ unfolding pick
 both true t u = refl
 both false t u = refl
 
-some-left : (u : ℕ) → eqb u 0 ≡ false → 0 < u
-some-left u e = let n : ¬ (u ≡ 0) = eqb-false u 0 e in omega arith
-
 none-left : (u : ℕ) → 0 < u → eqb u 0 ≡ false
 none-left u h = ne-eqb u 0 (λ e. omega arith)
 
 -- a live row stands within the table
 pub live-slot : (b : State) → length (b .entries) ≡ 32 → (i : ℕ) → 0 < entryAt b i .units → i < 32
-live-slot b n i h = ⊎-elim (λ l. l) (λ l. absurd (past l)) (lt-or-le i 32)
-  where
-    past : 32 ≤ i → ⊥
-    past l = let e : entryAt b i .units ≡ 0 = rw (List·getD-eq-default (b .entries) noEntry {n = i} (omega arith)) in omega arith
+live-slot b n = live-row (λ (e : Entry). e .units) noEntry refl (b .entries) n
 
 pub order-slot : (b : State) → length (b .orders) ≡ 32 → (i : ℕ) → 0 < orderAt b i .contracts → i < 32
-order-slot b n i h = ⊎-elim (λ l. l) (λ l. absurd (past l)) (lt-or-le i 32)
-  where
-    past : 32 ≤ i → ⊥
-    past l = let e : orderAt b i .contracts ≡ 0 = rw (List·getD-eq-default (b .orders) noOrder {n = i} (omega arith)) in omega arith
+order-slot b n = live-row (λ (o : LegOrder). o .contracts) noOrder refl (b .orders) n
 
 -- BEST BUY, BEST SELL. A live entry of a strategy and side
 pub record Resting (b : State) (k s i : ℕ) : Type 0 where
@@ -177,7 +164,7 @@ unfolding liveIn
 in-book b k s i e =
     let l = pick-yes (liveIn k (entryAt b i)) e in
     let u = pick-no (eqb (entryAt b i .units) 0) (l .0) in
-    record { live = some-left _ (u .0); strategy = eqb-true _ _ (u .1); side = eqb-true _ _ (l .1) }
+    record { live = positive _ (u .0); strategy = eqb-true _ _ (u .1); side = eqb-true _ _ (l .1) }
 
 rests-in : (b : State) (k s i : ℕ) → Resting b k s i → inBook b k s i ≡ true
 unfolding liveIn
@@ -256,7 +243,7 @@ meets-at b o i e =
     let m = pick-yes (stands (o .series) (other (o .side)) (orderAt b i)) e in
     let u = pick-no (eqb (orderAt b i .contracts) 0) (m .0) in
     let w = pick-yes (eqb (orderAt b i .series) (o .series)) (u .1) in
-    record { live = some-left _ (u .0); series = eqb-true _ _ (w .0); side = eqb-true _ _ (w .1); price = m .1 }
+    record { live = positive _ (u .0); series = eqb-true _ _ (w .0); side = eqb-true _ _ (w .1); price = m .1 }
 
 at-meets : (b : State) (o : LegOrder) (i : ℕ) → Meeting b o i → meetsAt b o i ≡ true
 unfolding meetsOrder stands

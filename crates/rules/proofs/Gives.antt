@@ -8,20 +8,22 @@ use native.Mathlib.Nat.{sub-zero, zero-sub}
 use native.Mathlib.Omega.{arith}
 use borrow.Author.Tests.{eqb-true, eqb-false}
 use lib.Dec.{eqb}
-use lib.ListN.{length, getD, List·getD-eq-default}
-use lib.Seq.{getD-set-same, getD-set-other, set-out}
+use lib.ListN.{getD}
+use lib.Seq.{getD-set-other}
 use Rattle.base.specs.Pick.{pick, pick-by, pick-yes, pick-no}
-use Rattle.base.specs.Walks.{sumN, slot, table-slot, lt-or-le, below}
+use Rattle.base.specs.Walks.{sumN, slot, table-slot, below}
 use Rattle.rules.specs.declared.Entry.{Entry}
+use Rattle.rules.specs.declared.LegOrder.{LegOrder}
 use Rattle.rules.specs.declared.State.{State}
-use Rattle.rules.specs.State.{noEntry, entryAt, withEntries}
+use Rattle.rules.specs.State.{noEntry, entryAt, withEntries, noOrder, orderAt, withOrders}
 use Rattle.rules.specs.Moves.{Moved, still, and-then, each}
 use Rattle.rules.specs.Sides.{other, meets}
-use Rattle.rules.specs.Fills.{cutEntry, cut, wholeFill}
+use Rattle.rules.specs.Fills.{cutEntry, cut, wholeFill, cutOrder, cutLeg}
 use Rattle.rules.specs.Quotas.{inTurn, share}
 use Rattle.rules.specs.Passes.{opposes, within, holding, sizeAt, sizes, giveAt, give}
-use Rattle.rules.proofs.Shrinks.{Shrinks, shrinks-refl, shrinks-trans, whole-shrinks}
-use Rattle.rules.proofs.Quotas.{inTurn-under, inTurn-sum, share-under, share-total}
+use Rattle.rules.proofs.Tables.{positive}
+use Rattle.rules.proofs.Shrinks.{Shrinks, shrinks-refl, shrinks-trans, whole-shrinks, set-own}
+use Rattle.rules.proofs.Quotas.{Divides, inTurn-divides, share-divides}
 
 -- CUTS
 pub cut-none : (e : Entry) → cutEntry e 0 ≡ e
@@ -33,15 +35,19 @@ cut-cut e p q = let h : e .units - p - q ≡ e .units - (p + q) = omega arith in
 -- a row past the end stays empty, so no index needs a bound
 pub cut-at : (b : State) (i q : ℕ) → entryAt (cut b i q) i ≡ cutEntry (entryAt b i) q
 unfolding cut withEntries
-cut-at b i q =
-    ⊎-elim
-    (λ (l : i < length (b .entries)). getD-set-same (b .entries) i _ noEntry l)
-    (λ (l : length (b .entries) ≤ i). rw (set-out (b .entries) i (cutEntry (entryAt b i) q) l, List·getD-eq-default (b .entries) noEntry l, zero-sub q))
-    (lt-or-le i (length (b .entries)))
+cut-at b i q = set-own (λ (e : Entry). cutEntry e q) noEntry (rw (zero-sub q)) (b .entries) i
 
 pub cut-other : (b : State) (i q j : ℕ) → j ≢ i → entryAt (cut b i q) j ≡ entryAt b j
 unfolding cut withEntries
 cut-other b i q j h = getD-set-other (b .entries) i j _ noEntry h
+
+pub cutLeg-at : (b : State) (i q : ℕ) → orderAt (cutLeg b i q) i ≡ cutOrder (orderAt b i) q
+unfolding cutLeg withOrders
+cutLeg-at b i q = set-own (λ (o : LegOrder). cutOrder o q) noOrder (rw (zero-sub q)) (b .orders) i
+
+pub cutLeg-other : (b : State) (i q j : ℕ) → j ≢ i → orderAt (cutLeg b i q) j ≡ orderAt b j
+unfolding cutLeg withOrders
+cutLeg-other b i q j h = getD-set-other (b .orders) i j _ noOrder h
 
 -- A WHOLE FILL
 pub whole-none : (b : State) (a h level q : ℕ) → q ≡ 0 → wholeFill b a h level q ≡ still b
@@ -49,22 +55,20 @@ unfolding wholeFill pick
 whole-none b a h level q e = rw e
 
 module _ (b : State) (a h level q : ℕ) where
+  -- a party's entry, by what the two cuts leave of it
+  whole-party : (j : ℕ) → (0 < q → entryAt (cut (cut b a q) h q) j ≡ cutEntry (entryAt b j) q) → entryAt (wholeFill b a h level q .state) j ≡ cutEntry (entryAt b j) q
+  unfolding wholeFill
+  whole-party j c =
+      pick-by (λ (m : Moved). entryAt (m .state) j ≡ cutEntry (entryAt b j) q) (eqb q 0)
+      (λ e. rw (eqb-true q 0 e) (sym (cut-none (entryAt b j))))
+      (λ e. c (positive q e))
+
   -- the active entry and the holder, which are not the same where anything is filled
   pub whole-active : (0 < q → h ≢ a) → entryAt (wholeFill b a h level q .state) a ≡ cutEntry (entryAt b a) q
-  unfolding wholeFill
-  whole-active ne =
-      pick-by (λ (m : Moved). entryAt (m .state) a ≡ cutEntry (entryAt b a) q) (eqb q 0)
-      (λ e. rw (eqb-true q 0 e) (sym (cut-none (entryAt b a))))
-      (λ e. let some : 0 < q = (let z : ¬ (q ≡ 0) = eqb-false q 0 e in omega arith) in
-      cut-other (cut b a q) h q a (λ g. ne some (sym g)) ∙ cut-at b a q)
+  whole-active ne = whole-party a (λ some. cut-other (cut b a q) h q a (λ g. ne some (sym g)) ∙ cut-at b a q)
 
   pub whole-holder : (0 < q → h ≢ a) → entryAt (wholeFill b a h level q .state) h ≡ cutEntry (entryAt b h) q
-  unfolding wholeFill
-  whole-holder ne =
-      pick-by (λ (m : Moved). entryAt (m .state) h ≡ cutEntry (entryAt b h) q) (eqb q 0)
-      (λ e. rw (eqb-true q 0 e) (sym (cut-none (entryAt b h))))
-      (λ e. let some : 0 < q = (let z : ¬ (q ≡ 0) = eqb-false q 0 e in omega arith) in
-      cut-at (cut b a q) h q ∙ ap (λ (x : Entry). cutEntry x q) (cut-other b a q h (ne some)))
+  whole-holder ne = whole-party h (λ some. cut-at (cut b a q) h q ∙ ap (λ (x : Entry). cutEntry x q) (cut-other b a q h (ne some)))
 
   pub whole-other : (j : ℕ) → j ≢ a → j ≢ h → entryAt (wholeFill b a h level q .state) j ≡ entryAt b j
   unfolding wholeFill
@@ -93,7 +97,7 @@ opposed e f h =
     let p = pick-no (eqb (f .units) 0) h in
     let q = pick-yes (eqb (f .strategy) (e .strategy)) (p .1) in
     record {
-      live = (let z : ¬ (f .units ≡ 0) = eqb-false (f .units) 0 (p .0) in omega arith);
+      live = positive (f .units) (p .0);
       strategy = eqb-true (f .strategy) (e .strategy) (q .0);
       side = eqb-true (f .side) (other (e .side)) (q .1);
     }
@@ -142,25 +146,21 @@ sizes-at es e level g i h = table-slot (sizeAt es e level g) 0 32 i h
 
 -- by number and shared alike the quotas are so
 module _ (b : State) (a level g : ℕ) (m : meets (entryAt b a .side) (entryAt b a .level) level ≡ true) where
-  pub inTurn-quoted : Quoted b a level g (inTurn (entryAt b a .units) (sizes (b .entries) (entryAt b a) level g))
-  inTurn-quoted =
+  quoted : {quotas : ℕ → List ℕ → List ℕ} → Divides quotas → Quoted b a level g (quotas (entryAt b a .units) (sizes (b .entries) (entryAt b a) level g))
+  quoted d =
       let r : ℕ = entryAt b a .units in
       let xs : List ℕ = sizes (b .entries) (entryAt b a) level g in
       record {
-        within = λ i l. rw (sizes-at (b .entries) (entryAt b a) level g i l) at (inTurn-under r xs i);
-        sum = omega (arith, inTurn-sum r xs);
+        within = λ i l. rw (sizes-at (b .entries) (entryAt b a) level g i l) at (d .under r xs i);
+        sum = omega (arith, d .sum r xs);
         limit = m;
       }
 
+  pub inTurn-quoted : Quoted b a level g (inTurn (entryAt b a .units) (sizes (b .entries) (entryAt b a) level g))
+  inTurn-quoted = quoted inTurn-divides
+
   pub share-quoted : Quoted b a level g (share (entryAt b a .units) (sizes (b .entries) (entryAt b a) level g))
-  share-quoted =
-      let r : ℕ = entryAt b a .units in
-      let xs : List ℕ = sizes (b .entries) (entryAt b a) level g in
-      record {
-        within = λ i l. rw (sizes-at (b .entries) (entryAt b a) level g i l) at (share-under r xs i);
-        sum = omega (arith, share-total r xs);
-        limit = m;
-      }
+  share-quoted = quoted share-divides
 
 -- the entries after the fills of the first k slots
 pub record Given (b : State) (a : ℕ) (qs : List ℕ) (k : ℕ) (c : State) : Type 0 where
@@ -215,9 +215,3 @@ module _ (b : State) (a level g : ℕ) (qs : List ℕ) (h : Quoted b a level g q
   pub given : Given b a qs 32 (give a level qs b .state)
   unfolding give
   given = given-each 32 (omega arith)
-
-  pub give-active : entryAt (give a level qs b .state) a ≡ cutEntry (entryAt b a) (sumN (slot qs) 32)
-  give-active = given .active
-
-  pub give-holder : (j : ℕ) → j < 32 → j ≢ a → entryAt (give a level qs b .state) j ≡ cutEntry (entryAt b j) (slot qs j)
-  give-holder j l n = given .done j l n

@@ -3,7 +3,6 @@
 use mathlib.Core.Path.{_≡_, refl, sym, _∙_, ap}
 use mathlib.Core.Bool.{Bool, true, false}
 use mathlib.Core.Logic.{_⊎_, inl, inr, ⊎-elim}
-use mathlib.Core.List.{List, [], _∷_, _++_}
 use Prim.Native.Nat.{ℕ, zero, suc, _+_, _-_, _*_, _≤_, _<_}
 use native.Mathlib.Nat.{add-mul}
 use native.Mathlib.Omega.{arith}
@@ -11,7 +10,7 @@ use borrow.Author.Tests.{eqb-true, eq-eqb, ne-eqb}
 use lib.Dec.{eqb}
 use lib.ListN.{length}
 use Rattle.base.specs.Pick.{pick, pick-all, pick-by, pick-true, pick-false}
-use Rattle.base.specs.Walks.{sumN, joinN, below, sum-zero, sum-same}
+use Rattle.base.specs.Walks.{sumN, below, sum-zero, sum-same}
 use Rattle.rules.specs.declared.Leg.{Leg}
 use Rattle.rules.specs.declared.Strategy.{Strategy}
 use Rattle.rules.specs.declared.Entry.{Entry}
@@ -25,92 +24,50 @@ use Rattle.rules.specs.Moves.{Moved, still, and-then}
 use Rattle.rules.specs.Sides.{other, legSide, meets}
 use Rattle.rules.specs.Lookups.{unitsOfNumber, contractsOfNumber}
 use Rattle.rules.specs.Totals.{when}
+use Rattle.rules.proofs.Tables.{tally, tally-append}
 use Rattle.rules.proofs.Shrinks.{Shrinks, SameEntry, SameOrder, shrinks-refl, shrinks-trans}
 
--- sums over the records of the rules, which tell a leg order's from a complex party's
-unfoldable pub tally : (Record → ℕ) → List Record → ℕ
-tally w [] = 0
-tally w (r ∷ rs) = w r + tally w rs
+-- what counts of each kind: a whole fill, a leg fill, a leg order's fill, a cancel, a leg order's cancel; nothing of an auction
+abbrev pub byKind : Kind → (whole leg orderFill cancel orderCancel : ℕ) → ℕ
+byKind WholeFill w l f c d = w
+byKind LegFill w l f c d = l
+byKind LegOrderFill w l f c d = f
+byKind Cancelled w l f c d = c
+byKind LegOrderCancelled w l f c d = d
+byKind AuctionBegun w l f c d = 0
+byKind AuctionEnded w l f c d = 0
 
 -- whole fills
 abbrev pub onWhole : Kind → ℕ → ℕ
-onWhole WholeFill q = q
-onWhole LegFill q = 0
-onWhole LegOrderFill q = 0
-onWhole Cancelled q = 0
-onWhole LegOrderCancelled q = 0
-onWhole AuctionBegun q = 0
-onWhole AuctionEnded q = 0
+onWhole k q = byKind k q 0 0 0 0
 
 -- what takes units of an entry
 abbrev pub onUnits : Kind → ℕ → ℕ
-onUnits WholeFill q = q
-onUnits LegFill q = 0
-onUnits LegOrderFill q = 0
-onUnits Cancelled q = q
-onUnits LegOrderCancelled q = 0
-onUnits AuctionBegun q = 0
-onUnits AuctionEnded q = 0
+onUnits k q = byKind k q 0 0 q 0
 
 -- all that tells of an entry, but for auctions
 abbrev pub onComplex : Kind → ℕ → ℕ
-onComplex WholeFill q = q
-onComplex LegFill q = q
-onComplex LegOrderFill q = 0
-onComplex Cancelled q = q
-onComplex LegOrderCancelled q = 0
-onComplex AuctionBegun q = 0
-onComplex AuctionEnded q = 0
+onComplex k q = byKind k q q 0 q 0
 
 -- all that tells of a leg order
 abbrev pub onLegOrder : Kind → ℕ → ℕ
-onLegOrder WholeFill q = 0
-onLegOrder LegFill q = 0
-onLegOrder LegOrderFill q = q
-onLegOrder Cancelled q = 0
-onLegOrder LegOrderCancelled q = q
-onLegOrder AuctionBegun q = 0
-onLegOrder AuctionEnded q = 0
+onLegOrder k q = byKind k 0 0 q 0 q
 
 -- a complex party's leg fills
 abbrev pub onPart : Kind → ℕ → ℕ
-onPart WholeFill q = 0
-onPart LegFill q = q
-onPart LegOrderFill q = 0
-onPart Cancelled q = 0
-onPart LegOrderCancelled q = 0
-onPart AuctionBegun q = 0
-onPart AuctionEnded q = 0
+onPart k q = byKind k 0 q 0 0 0
 
 -- a leg order's fills
 abbrev pub onTraded : Kind → ℕ → ℕ
-onTraded WholeFill q = 0
-onTraded LegFill q = 0
-onTraded LegOrderFill q = q
-onTraded Cancelled q = 0
-onTraded LegOrderCancelled q = 0
-onTraded AuctionBegun q = 0
-onTraded AuctionEnded q = 0
+onTraded k q = byKind k 0 0 q 0 0
 
 -- leg fills of both
 abbrev pub onLegs : Kind → ℕ → ℕ
-onLegs WholeFill q = 0
-onLegs LegFill q = q
-onLegs LegOrderFill q = q
-onLegs Cancelled q = 0
-onLegs LegOrderCancelled q = 0
-onLegs AuctionBegun q = 0
-onLegs AuctionEnded q = 0
+onLegs k q = byKind k 0 q q 0 0
 
 -- "A fill is a record 1, or a leg order's record 2"
 abbrev pub onFill : Kind → ℕ → ℕ
-onFill WholeFill q = q
-onFill LegFill q = 0
-onFill LegOrderFill q = q
-onFill Cancelled q = 0
-onFill LegOrderCancelled q = 0
-onFill AuctionBegun q = 0
-onFill AuctionEnded q = 0
+onFill k q = byKind k q 0 q 0 0
 
 -- the ratio of a series in a strategy, 0 where it has no leg there
 abbrev pub ratioAt : Strategy → ℕ → ℕ → ℕ
@@ -132,16 +89,33 @@ pub data Law : Type 0 where
   ofLimit : (n side limit : ℕ) → Law
   ofPrice : (n side price : ℕ) → Law
 
+-- what a law measures: by its number where it is of units or of contracts, nothing else
+abbrev pub measure : Law → (units contracts : ℕ → ℕ) → ℕ
+measure (ofUnits n) u c = u n
+measure (ofContracts n) u c = c n
+measure (noEntries n) u c = 0
+measure (noOrders n) u c = 0
+measure (ofSeries s) u c = 0
+measure ofCash u c = 0
+measure (ofRatio n s x) u c = 0
+measure (ofLimit n side limit) u c = 0
+measure (ofPrice n side price) u c = 0
+
+-- what holds of the quantities of every number, and of nothing, holds of what a law measures
+pub measure-by : (R : ℕ → ℕ → ℕ → Type 0) → R 0 0 0 → (l : Law) {u v w c d e : ℕ → ℕ} → ((n : ℕ) → R (u n) (v n) (w n)) → ((n : ℕ) → R (c n) (d n) (e n)) →
+    R (measure l u c) (measure l v d) (measure l w e)
+measure-by R z (ofUnits n) h k = h n
+measure-by R z (ofContracts n) h k = k n
+measure-by R z (noEntries n) h k = z
+measure-by R z (noOrders n) h k = z
+measure-by R z (ofSeries s) h k = z
+measure-by R z ofCash h k = z
+measure-by R z (ofRatio n s x) h k = z
+measure-by R z (ofLimit n side limit) h k = z
+measure-by R z (ofPrice n side price) h k = z
+
 abbrev pub size : Law → State → ℕ
-size (ofUnits n) b = sumN (unitsOfNumber b n) 32
-size (ofContracts n) b = sumN (contractsOfNumber b n) 32
-size (noEntries n) b = 0
-size (noOrders n) b = 0
-size (ofSeries s) b = 0
-size ofCash b = 0
-size (ofRatio n s x) b = 0
-size (ofLimit n side limit) b = 0
-size (ofPrice n side price) b = 0
+size l b = measure l (λ (n : ℕ). sumN (unitsOfNumber b n) 32) (λ (n : ℕ). sumN (contractsOfNumber b n) 32)
 
 abbrev pub come : Law → Record → ℕ
 come (ofUnits n) r = 0
@@ -251,16 +225,6 @@ good-shrinks l h g = record {
   entry = λ i alive. fits-same l h (h .entry i) (g .entry i (omega (arith, h .entry i .units)));
   order = λ i alive. fits-same-order l (h .order i) (g .order i (omega (arith, h .order i .contracts)));
 }
-
-pub tally-append : (w : Record → ℕ) (rs ss : List Record) → tally w (rs ++ ss) ≡ tally w rs + tally w ss
-unfolding tally
-tally-append w [] ss = omega arith
-tally-append w (r ∷ rs) ss = omega (arith, tally-append w rs ss)
-
-pub tally-join : (w : Record → ℕ) (f : ℕ → List Record) (k : ℕ) → tally w (joinN f k) ≡ sumN (λ (i : ℕ). tally w (f i)) k
-unfolding joinN sumN tally
-tally-join w f zero = refl
-tally-join w f (suc k) = rw tally-append (omega (arith, tally-join w f k))
 
 pub acct-nothing : (b : State) → Acct b (still b)
 unfolding tally

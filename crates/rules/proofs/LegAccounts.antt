@@ -6,7 +6,7 @@ use mathlib.Core.List.{List, _++_}
 use Prim.Native.Nat.{ℕ, zero, suc, _+_, _-_, _*_, _/_, _≤_, _<_}
 use native.Mathlib.Nat.{sub-zero, mul-le-mul-left, mul-div-le, mul-add, add-mul, mul-assoc, mul-comm, zero-mul}
 use native.Mathlib.Omega.{arith}
-use borrow.Author.Tests.{eqb-true, eqb-false}
+use borrow.Author.Tests.{eqb-true}
 use lib.Dec.{eqb}
 use lib.ListN.{getD, List·getD-eq-default}
 use Rattle.base.specs.Pick.{pick, pick-all, pick-by}
@@ -26,7 +26,8 @@ use Rattle.rules.specs.Totals.{when}
 use Rattle.rules.proofs.Shrinks.{takeLegs-shrinks}
 use Rattle.rules.proofs.Quotas.{inTurn-under, inTurn-sum}
 use Rattle.rules.proofs.Control.{Standing, standing, meets-self, Legged, pricesFor, unitsFor, legged-mine}
-use Rattle.rules.proofs.Laws.{tally, Law, ofUnits, ofContracts, noEntries, noOrders, ofSeries, ofCash, ofRatio, ofLimit, ofPrice, size, come, gone, Good, Steady, Acct, ratioFor, tally-append, tally-join, pick-none, when-no, when-same, pick-plus, pick-sub, sum-pick, side-is, leg-side, even}
+use Rattle.rules.proofs.Tables.{tally, tally-append, tally-join, positive}
+use Rattle.rules.proofs.Laws.{Law, ofUnits, ofContracts, noEntries, noOrders, ofSeries, ofCash, ofRatio, ofLimit, ofPrice, size, come, gone, Good, Steady, Acct, ratioFor, pick-none, when-no, when-same, pick-plus, pick-sub, sum-pick, side-is, leg-side, even}
 use Rattle.rules.proofs.Accounts.{cut-units, partAt, party-tally, parts-none, parts-ratio, not-worse}
 
 -- WHAT A LEG ORDER HOLDS for a leg at a price: all its contracts, where it stands in the leg's series on the other side at that price
@@ -132,7 +133,7 @@ module _ (os : List LegOrder) (side q : ℕ) (legs : List Leg) (ps : List ℕ) w
   row-by w P i j z h =
       pick-by (λ (rs : List Record). P (tally w rs)) (eqb (quota i j) 0)
       (λ e. z (eqb-true (quota i j) 0 e))
-      (λ e. let some : 0 < quota i j = (let n : ¬ (quota i j ≡ 0) = eqb-false (quota i j) 0 e in omega arith) in
+      (λ e. let some : 0 < quota i j = positive (quota i j) e in
       let one : w (orderRecord (row j) (quota i j) (slot ps i)) + 0 ≡ w (orderRecord (row j) (quota i j) (slot ps i)) = omega arith in
       rw one (h some (quota-held i j some)))
 

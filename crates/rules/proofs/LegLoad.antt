@@ -7,7 +7,7 @@ use mathlib.Core.List.{List, _++_}
 use Prim.Native.Nat.{ℕ, zero, suc, _+_, _-_, _*_, _/_, _%_, _≤_, _<_, min}
 use native.Mathlib.Nat.{div-add-mod, mod-lt, div-eq-of-lt, div-zero, mul-le-mul-left}
 use native.Mathlib.Omega.{arith}
-use borrow.Author.Tests.{eqb-true, eqb-false, ne-eqb}
+use borrow.Author.Tests.{eqb-true, ne-eqb}
 use lib.Dec.{eqb}
 use lib.ListN.{length, getD, length-append}
 use Rattle.base.specs.Pick.{pick, pick-all, pick-by, pick-both}
@@ -23,11 +23,13 @@ use Rattle.rules.specs.Sides.{other, legSide}
 use Rattle.rules.specs.Quotas.{inTurnAt, inTurn}
 use Rattle.rules.specs.Nets.{stands, priceWith, priceStep, priceOf, lot, lotAt, lots, legPrice, priceAt, prices, netOf, legUnits, unitsOf}
 use Rattle.rules.specs.Fills.{partyRecords, cutOrder, cut, legQuotas, orderRow, orderRows, cutAt, cutOrders, quotasAt, orderRecords, cutByLegs, takeLegs, legFill}
+use Rattle.rules.proofs.Tables.{positive}
 use Rattle.rules.proofs.Shrinks.{SameOrder, same-order, order-trans, cut-order}
 use Rattle.rules.proofs.Quotas.{inTurn-under, inTurn-sum}
 use Rattle.rules.proofs.Control.{Legged, standing, pricesFor, unitsFor}
 use Rattle.rules.proofs.Turns.{units-most}
-use Rattle.rules.proofs.Load.{alive, aliveOrder, load, Six, live-slot, cut-alive, party-length}
+use Rattle.rules.proofs.Load.{alive, aliveOrder, load, Six, cut-alive, party-length}
+use Rattle.rules.proofs.Firsts.{live-slot}
 
 -- WHAT A LEG ORDER HOLDS at a price of a series and side
 pub record Held (s : ℕ) (o : LegOrder) (x : ℕ) : Type 0 where
@@ -190,7 +192,7 @@ module _ (os : List LegOrder) (side q : ℕ) (legs : List Leg) (ps : List ℕ) w
     row-length o n price =
         pick-by (λ (l : List Record). length l ≡ min n 1) (eqb n 0)
         (λ e. omega (arith, eqb-true n 0 e))
-        (λ e. let z : ¬ (n ≡ 0) = eqb-false n 0 e in omega arith)
+        (λ e. omega (arith, positive n e))
 
     leg-length : (k : ℕ) → length (orderRecords os side q legs ps k) ≡ sumN (λ (j : ℕ). min (quota k j) 1) 32
     leg-length k =

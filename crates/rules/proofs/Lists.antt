@@ -29,7 +29,8 @@ use Rattle.rules.proofs.Refusals.{reads}
 use Rattle.rules.specs.Fits.{FitEvent, FitReading}
 use Rattle.rules.proofs.Ranges.{reading-fit}
 use Rattle.rules.proofs.Validity.{clear, valid-step}
-use Rattle.rules.proofs.Laws.{tally, Law, size, come, gone, Good, tally-append}
+use Rattle.rules.proofs.Tables.{tally, tally-append}
+use Rattle.rules.proofs.Laws.{Law, size, come, gone, Good}
 use Rattle.rules.proofs.Steps.{Row, entryRow, legRow, noRow, added, FitsRow, Books, books-still, rowOf, accept-books}
 
 -- WHAT BECAME OF AN EVENT

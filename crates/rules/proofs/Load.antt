@@ -1,28 +1,29 @@
 -- What is live pays for the records: 14 for each live entry and leg order, spent when it is finished.
 use mathlib.Core.Path.{_≡_, refl, _∙_, ap}
 use mathlib.Core.Bool.{Bool, true, false}
-use mathlib.Core.Logic.{_⊎_, inl, inr, ⊎-elim, _≢_}
-use mathlib.Core.List.{List, _++_}
+use mathlib.Core.Logic.{_⊎_, inl, inr, ⊎-elim}
+use mathlib.Core.List.{List, _++_, [], _∷_}
 use Prim.Native.Nat.{ℕ, zero, suc, _+_, _-_, _*_, _≤_, _<_, min}
-use native.Mathlib.Nat.{zero-sub}
 use native.Mathlib.Omega.{arith}
-use borrow.Author.Tests.{eqb-false}
 use lib.Dec.{eqb}
-use lib.ListN.{length, getD, length-append, List·getD-eq-default}
-use lib.Seq.{getD-set-same, getD-set-other, set-out}
+use lib.ListN.{length, getD, length-append}
 use Rattle.base.specs.Pick.{pick, pick-all, pick-by}
-use Rattle.base.specs.Walks.{sumN, lt-or-le, below, length-join, sum-same, sum-le}
+use Rattle.base.specs.Walks.{sumN, lt-or-le, length-join, sum-le}
 use Rattle.rules.specs.declared.Strategy.{Strategy}
 use Rattle.rules.specs.declared.Entry.{Entry}
 use Rattle.rules.specs.declared.LegOrder.{LegOrder}
 use Rattle.rules.specs.declared.State.{State}
+use Rattle.rules.specs.declared.Record.{Record}
 use Rattle.rules.specs.State.{noEntry, noOrder, entryAt, orderAt, strategyAt, strategyOf, legAt, withEntries, withOrders, withStrategies}
 use Rattle.rules.specs.Moves.{Moved, still, and-then}
-use Rattle.rules.specs.Fills.{legRecordAt, partyRecords, cutOrder, cut, cutLeg, noPrices, wholeFill, legTrade, cancelEntry, cancelOrder}
+use Rattle.rules.specs.Fills.{legRecordAt, partyRecords, cut, cutLeg, noPrices, wholeFill, legTrade, cancelEntry, cancelOrder}
 use Rattle.rules.specs.Auctions.{putAuction, begin, close, answer}
+use Rattle.rules.proofs.Tables.{positive}
 use Rattle.rules.proofs.Shrinks.{Shrinks, shrinks-refl, shrinks-trans, cut-shrinks, cutLeg-shrinks, whole-shrinks, trade-shrinks, begin-shrinks, close-shrinks, answer-shrinks}
-use Rattle.rules.proofs.Gives.{cut-at, cut-other}
+use Rattle.rules.proofs.Gives.{cut-at, cut-other, cutLeg-at, cutLeg-other}
 use Rattle.rules.proofs.Control.{Proper, proper-apart, Trading, trading-apart, meets-standing}
+use Rattle.rules.proofs.Laws.{sum-at}
+use Rattle.rules.proofs.Firsts.{live-slot, order-slot}
 
 -- one for each row that is live
 abbrev pub alive : List Entry → ℕ → ℕ
@@ -71,16 +72,6 @@ pub if-pays : {c : ℕ} {b : State} {x y : Moved} (t : Bool) → (t ≡ true →
 if-pays {c} {b} t h k = pick-by (Pays c b) t h k
 
 -- SUMS
--- one term has changed
-sum-change : (f g : ℕ → ℕ) (k i : ℕ) → i < k → ((j : ℕ) → j ≢ i → g j ≡ f j) → sumN g k + f i ≡ sumN f k + g i
-unfolding sumN
-sum-change f g zero i l h = absurd (omega arith)
-sum-change f g (suc k) i l h =
-    ⊎-elim
-    (λ (e : i ≡ k). rw e (omega (arith, sum-same g f k (λ j m. h j (λ z. omega arith)))))
-    (λ (m : i < k). omega (arith, sum-change f g k i m h, h k (λ z. omega arith)))
-    (below l)
-
 -- a sum of ones
 pub sum-ones : (f : ℕ → ℕ) (k : ℕ) → ((i : ℕ) → f i ≡ 1) → sumN f k ≡ k
 unfolding sumN
@@ -95,45 +86,18 @@ pub few-orders : (os : List LegOrder) → sumN (aliveOrder os) 32 ≤ 32
 few-orders os = omega (arith, sum-le (aliveOrder os) 1 (λ i. omega arith) 32)
 
 -- CUTS
--- a live row is one of the 32
-pub live-slot : (b : State) → length (b .entries) ≡ 32 → (i : ℕ) → 0 < entryAt b i .units → i < 32
-live-slot b n i h =
-    ⊎-elim (λ (l : i < 32). l)
-    (λ (l : 32 ≤ i). let e : entryAt b i ≡ noEntry = List·getD-eq-default (b .entries) noEntry {n = i} (omega arith) in
-    absurd (omega (arith, ap (λ (x : Entry). x .units) e)))
-    (lt-or-le i 32)
-
-pub live-order : (b : State) → length (b .orders) ≡ 32 → (i : ℕ) → 0 < orderAt b i .contracts → i < 32
-live-order b n i h =
-    ⊎-elim (λ (l : i < 32). l)
-    (λ (l : 32 ≤ i). let e : orderAt b i ≡ noOrder = List·getD-eq-default (b .orders) noOrder {n = i} (omega arith) in
-    absurd (omega (arith, ap (λ (x : LegOrder). x .contracts) e)))
-    (lt-or-le i 32)
-
 pub cut-alive : (b : State) (i q : ℕ) → i < 32 → sumN (alive (cut b i q .entries)) 32 + min (entryAt b i .units) 1 ≡ sumN (alive (b .entries)) 32 + min (entryAt b i .units - q) 1
 cut-alive b i q l =
-    sum-change (alive (b .entries)) (alive (cut b i q .entries)) 32 i l (λ j n. ap (λ (e : Entry). min (e .units) 1) (cut-other b i q j n))
+    sum-at (alive (cut b i q .entries)) (alive (b .entries)) 32 i l (λ j n. ap (λ (e : Entry). min (e .units) 1) (cut-other b i q j n))
     ∙ ap (λ (e : Entry). sumN (alive (b .entries)) 32 + min (e .units) 1) (cut-at b i q)
 
 pub cut-orders : (b : State) (i q : ℕ) → cut b i q .orders ≡ b .orders
 unfolding cut withEntries
 cut-orders b i q = refl
 
-cutLeg-at : (b : State) (i q : ℕ) → orderAt (cutLeg b i q) i ≡ cutOrder (orderAt b i) q
-unfolding cutLeg withOrders
-cutLeg-at b i q =
-    ⊎-elim
-    (λ (l : i < length (b .orders)). getD-set-same (b .orders) i _ noOrder l)
-    (λ (l : length (b .orders) ≤ i). rw (set-out (b .orders) i (cutOrder (orderAt b i) q) l, List·getD-eq-default (b .orders) noOrder l, zero-sub q))
-    (lt-or-le i (length (b .orders)))
-
-cutLeg-other : (b : State) (i q j : ℕ) → j ≢ i → orderAt (cutLeg b i q) j ≡ orderAt b j
-unfolding cutLeg withOrders
-cutLeg-other b i q j h = getD-set-other (b .orders) i j _ noOrder h
-
 cutLeg-alive : (b : State) (i q : ℕ) → i < 32 → sumN (aliveOrder (cutLeg b i q .orders)) 32 + min (orderAt b i .contracts) 1 ≡ sumN (aliveOrder (b .orders)) 32 + min (orderAt b i .contracts - q) 1
 cutLeg-alive b i q l =
-    sum-change (aliveOrder (b .orders)) (aliveOrder (cutLeg b i q .orders)) 32 i l (λ j n. ap (λ (o : LegOrder). min (o .contracts) 1) (cutLeg-other b i q j n))
+    sum-at (aliveOrder (cutLeg b i q .orders)) (aliveOrder (b .orders)) 32 i l (λ j n. ap (λ (o : LegOrder). min (o .contracts) 1) (cutLeg-other b i q j n))
     ∙ ap (λ (o : LegOrder). sumN (aliveOrder (b .orders)) 32 + min (o .contracts) 1) (cutLeg-at b i q)
 
 cutLeg-entries : (b : State) (i q : ℕ) → cutLeg b i q .entries ≡ b .entries
@@ -210,7 +174,7 @@ unfolding legTrade
 trade-pays b six a h t =
     let q : ℕ = min (orderAt b a .contracts) (orderAt b h .contracts) in
     let its : 0 < orderAt b h .contracts = meets-standing (orderAt b a) (orderAt b h) (t .meets) .live in
-    let x = cutLeg-alive b a q (live-order b (six .orders) a (t .live)) in
+    let x = cutLeg-alive b a q (order-slot b (six .orders) a (t .live)) in
     let y = rw (cutLeg-other b a q h (trading-apart t)) at (cutLeg-alive (cutLeg b a q) h q (t .slot)) in
     let gone = one-gone (orderAt b a .contracts) (orderAt b h .contracts) q (sumN (aliveOrder (b .orders)) 32) (sumN (aliveOrder (cutLeg b a q .orders)) 32) (sumN (aliveOrder (cutLeg (cutLeg b a q) h q .orders)) 32) (t .live) its refl x y in
     let same = ap (λ (es : List Entry). sumN (alive es) 32) (cutLeg-entries (cutLeg b a q) h q ∙ cutLeg-entries b a q) in
@@ -220,25 +184,24 @@ trade-pays b six a h t =
     by-gone x y z w h k = omega arith
 
 -- CANCELS
+-- a record is paid where a live row is finished
+finish-pays : (b c : State) (r : Record) (n : ℕ) → Shrinks b c → 0 < n →
+    sumN (alive (c .entries)) 32 + sumN (aliveOrder (c .orders)) 32 + min n 1 ≡ sumN (alive (b .entries)) 32 + sumN (aliveOrder (b .orders)) 32 + min (n - n) 1 → Pays 0 b (record { state = c; records = r ∷ [] })
+finish-pays b c r n h some gone = record { shrinks = h; paid = omega (arith, gone) }
+
 pub cancel-pays : (b : State) → Six b → (i : ℕ) → Pays 0 b (cancelEntry i b)
 unfolding cancelEntry
 cancel-pays b six i =
     if-pays _ (λ e. pays-nothing 0 b)
-    (λ e.
-    let some : 0 < entryAt b i .units = (let z : ¬ (entryAt b i .units ≡ 0) = eqb-false _ _ e in omega arith) in
-    let gone = cut-alive b i (entryAt b i .units) (live-slot b (six .entries) i some) in
-    let same = ap (λ (os : List LegOrder). sumN (aliveOrder os) 32) (cut-orders b i (entryAt b i .units)) in
-    record { shrinks = cut-shrinks b i _; paid = omega (arith, gone, same) })
+    (λ e. let some : 0 < entryAt b i .units = positive _ e in
+    finish-pays b _ _ (entryAt b i .units) (cut-shrinks b i _) some (rw (cut-orders b i (entryAt b i .units)) (omega (arith, cut-alive b i (entryAt b i .units) (live-slot b (six .entries) i some)))))
 
 pub cancelOrder-pays : (b : State) → Six b → (i : ℕ) → Pays 0 b (cancelOrder i b)
 unfolding cancelOrder
 cancelOrder-pays b six i =
     if-pays _ (λ e. pays-nothing 0 b)
-    (λ e.
-    let some : 0 < orderAt b i .contracts = (let z : ¬ (orderAt b i .contracts ≡ 0) = eqb-false _ _ e in omega arith) in
-    let gone = cutLeg-alive b i (orderAt b i .contracts) (live-order b (six .orders) i some) in
-    let same = ap (λ (es : List Entry). sumN (alive es) 32) (cutLeg-entries b i (orderAt b i .contracts)) in
-    record { shrinks = cutLeg-shrinks b i _; paid = omega (arith, gone, same) })
+    (λ e. let some : 0 < orderAt b i .contracts = positive _ e in
+    finish-pays b _ _ (orderAt b i .contracts) (cutLeg-shrinks b i _) some (rw (cutLeg-entries b i (orderAt b i .contracts)) (omega (arith, cutLeg-alive b i (orderAt b i .contracts) (order-slot b (six .orders) i some)))))
 
 -- AUCTIONS: a record 4 or 5, and the tables stay
 put-load : (b : State) (k n t : ℕ) (a : Bool) → load (putAuction b k n t a) ≡ load b

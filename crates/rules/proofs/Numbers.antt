@@ -21,7 +21,7 @@ use Rattle.rules.specs.declared.LegOrder.{LegOrder}
 use Rattle.rules.specs.declared.State.{State}
 use Rattle.rules.specs.State.{noOrder, noStrategy, fresh, strategyAt, withEntries, withOrders, withStrategies, withOpened, withClock, withLast}
 use Rattle.rules.specs.Moves.{Moved, and-then}
-use Rattle.rules.specs.Strategies.{held, define}
+use Rattle.rules.specs.Strategies.{held, added as strategyAdded, define}
 use Rattle.rules.specs.Fills.{cancelEntry}
 use Rattle.rules.specs.Auctions.{answer}
 use Rattle.rules.specs.Events.{live, liveOrder, enter, enterOrder, onOrder, oldSweep, enterSweep, onSweep, onLegOrder, cancelNumber, onClock, shut, reopen, onSeries}
@@ -32,10 +32,10 @@ use Rattle.rules.specs.Records.{cents}
 use Rattle.rules.specs.Valid.{Valid}
 use Rattle.rules.specs.Totals.{Sent, outcome, after, logOf, run, Terms, Brought, complex, leg, brought, Came, Unknown, isDayEnd, endsDay, OneDay}
 use Rattle.rules.proofs.Shrinks.{SameStrategy, Shrinks, same-strategy, strategy-trans, cancel-shrinks, answer-shrinks}
-use Rattle.rules.proofs.Tables.{behind-length}
+use Rattle.rules.proofs.Tables.{behind-length, tally}
 use Rattle.rules.proofs.Control.{shrinks-kept, onOrder-kept, onLegOrder-kept, cancelNumber-kept, onClock-kept, shut-kept, reopen-kept}
 use Rattle.rules.proofs.Validity.{clear, known}
-use Rattle.rules.proofs.Laws.{tally, Law, ofUnits, ofContracts, noEntries, noOrders, ofRatio, ofLimit, ofPrice, size, come, gone, when-no}
+use Rattle.rules.proofs.Laws.{Law, ofUnits, ofContracts, noEntries, noOrders, ofRatio, ofLimit, ofPrice, size, come, gone, when-no}
 use Rattle.rules.proofs.Steps.{Row, entryRow, legRow, noRow, added, FitsRow, rowOf, sweep-units, size-fresh, good-fresh}
 use Rattle.rules.proofs.Lists.{done, Went, refusedAs, acceptedAs, went, rowIn, next, row-refused, row-accepted, refused-moved, accepted-moved, termsOf, brought-row, next-valid, recordsOf, enteredOf, Fitting, run-law, entered-append, fitting-append, after-valid}
 
@@ -133,7 +133,7 @@ accept-kin b (E.Clock e) n p = kin-clock b (e .time) n
 accept-kin b (E.DayEnd e) n p = absurd p
 
 goes-define : (b : State) (t : Strategy) → Goes b (define t b) noRow
-unfolding define withStrategies
+unfolding define strategyAdded withStrategies
 goes-define b t =
     pick-all (λ (c : State). Goes b c noRow) (held b t) (goes-still b)
     (record {
@@ -202,11 +202,6 @@ next-rises b x v d = last-rises b (next b x) (rowIn b x) (outcome-numbered b x) 
 abbrev pub Open : State → List Sent → Type 0
 Open b [] = Unit {0}
 Open b (x ∷ xs) = (endsDay (logOf x (outcome b x)) ≡ false) × Open (next b x) xs
-
-pub one-day-tail : (b : State) (x : Sent) (xs : List Sent) → OneDay (run b (x ∷ xs)) → OneDay (run (next b x) xs)
-unfolding run
-one-day-tail b x [] d = tt
-one-day-tail b x (y ∷ ys) d = d .1
 
 pub one-day-split : (b : State) (xs : List Sent) (y : Sent) (ys : List Sent) → OneDay (run b (xs ++ (y ∷ ys))) → Open b xs × OneDay (run (after b xs) (y ∷ ys))
 unfolding run after
@@ -416,32 +411,13 @@ pub record CameOrder (timer : ℕ) (xs : List Sent) (w : Terms) : Type 0 where
   pub entered : Entered timer xs (legRow order)
 
 entry-terms : (timer : ℕ) (xs : List Sent) (w : Terms) (k : ℕ) (r : Row) → termsOf r ≡ complex w k → Entered timer xs r → CameEntry timer xs w k
-entry-terms timer xs w k (entryRow e) p i =
-    let q : record { number = e .number; quantity = e .units; side = e .side; limit = cents (e .level) } ≡ w = cc in
-    record {
-      entry = e;
-      number = ap (λ (t : Terms). t .number) q;
-      units = ap (λ (t : Terms). t .quantity) q;
-      side = ap (λ (t : Terms). t .side) q;
-      limit = ap (λ (t : Terms). t .limit) q;
-      strategy = cc;
-      entered = i;
-    }
+entry-terms timer xs w k (entryRow e) p i = record { entry = e; number = cc; units = cc; side = cc; limit = cc; strategy = cc; entered = i }
 entry-terms timer xs w k (legRow o) p i = absurd (let z : _≡_ {A = ℕ} 0 1 = cc in omega arith)
 entry-terms timer xs w k noRow p i = absurd (let z : _≡_ {A = ℕ} 0 1 = cc in omega arith)
 
 order-terms : (timer : ℕ) (xs : List Sent) (w : Terms) (r : Row) → termsOf r ≡ leg w → Entered timer xs r → CameOrder timer xs w
 order-terms timer xs w (entryRow e) p i = absurd (let z : _≡_ {A = ℕ} 0 1 = cc in omega arith)
-order-terms timer xs w (legRow o) p i =
-    let q : record { number = o .number; quantity = o .contracts; side = o .side; limit = pos (o .price) } ≡ w = cc in
-    record {
-      order = o;
-      number = ap (λ (t : Terms). t .number) q;
-      contracts = ap (λ (t : Terms). t .quantity) q;
-      side = ap (λ (t : Terms). t .side) q;
-      limit = ap (λ (t : Terms). t .limit) q;
-      entered = i;
-    }
+order-terms timer xs w (legRow o) p i = record { order = o; number = cc; contracts = cc; side = cc; limit = cc; entered = i }
 order-terms timer xs w noRow p i = absurd (let z : _≡_ {A = ℕ} 0 1 = cc in omega arith)
 
 module _ (timer : ℕ) (xs : List Sent) (v : Valid (fresh timer)) (day : OneDay (run (fresh timer) xs)) where

@@ -6,7 +6,7 @@ use mathlib.Core.List.{List}
 use Prim.Native.Nat.{ℕ, zero, suc, _+_, _-_, _/_, _≤_, _<_}
 use native.Mathlib.Nat.{mul-zero, zero-div}
 use native.Mathlib.Omega.{arith}
-use borrow.Author.Tests.{eqb-true, eqb-false, ltb-true}
+use borrow.Author.Tests.{eqb-true, ltb-true}
 use lib.Dec.{eqb, ltb, leb}
 use lib.ListN.{length, getD, List·getD-eq-default}
 use Rattle.base.specs.Pick.{pick, pick-by, pick-all, pick-yes, pick-no}
@@ -24,6 +24,7 @@ use Rattle.rules.specs.Fills.{cut, cutLeg, wholeFill, takeLegs, legFill,
 use Rattle.rules.specs.Passes.{opposes, holding, sizeAt, sizes, giveAt, give, giveInTurn, giveGroup, giveShared, meetLimit, turnOf, take, turn, pass}
 use Rattle.rules.specs.Auctions.{liveIn, isNumber, starterSlot, lapses, cancelLapsed, starterPass, later, laterPass, dayOrder, legPass, ahead, bestStep, bestSlot, crossed, matchOnce, matchAll}
 use Rattle.rules.specs.Events.{tradeOnce, tradeAll, cancelOrderOf}
+use Rattle.rules.proofs.Tables.{positive}
 use Rattle.rules.proofs.Shrinks.{Shrinks, shrinks-refl, shrinks-trans, set-by, cut-shrinks, cutLeg-shrinks, legs-shrinks, trade-shrinks}
 
 pub record Only (k : ℕ) (b c : State) : Type 0 where
@@ -70,8 +71,7 @@ module _ (k : ℕ) where
       pick-by (λ (m : Moved). Only k b (m .state)) (eqb q 0)
       (λ _. only-refl k b)
       (λ z.
-      let p : ¬ (q ≡ 0) = eqb-false q 0 z in
-      only-trans (cut-only b a q e) (cut-only (cut b a q) h q (cut-shrinks b a q .entry h .strategy ∙ f (omega arith))))
+      only-trans (cut-only b a q e) (cut-only (cut b a q) h q (cut-shrinks b a q .entry h .strategy ∙ f (positive q z))))
 
   pub legs-only : (b : State) (a : ℕ) → length (b .orders) ≡ 32 → entryAt b a .strategy ≡ k → Only k b (legFill a b .state)
   unfolding legFill takeLegs withOrders
@@ -162,8 +162,7 @@ module _ (k : ℕ) where
   unfolding liveIn
   live-in e h =
       let p = pick-no (eqb (e .units) 0) h in
-      let z : ¬ (e .units ≡ 0) = eqb-false _ _ (p .0) in
-      (omega arith, eqb-true _ _ (p .1))
+      (positive _ (p .0), eqb-true _ _ (p .1))
 
   pub lapsed-only : (i : ℕ) (b : State) → Only k b (cancelLapsed k i b .state)
   unfolding cancelLapsed lapses

@@ -19,7 +19,7 @@ use Rattle.rules.specs.declared.Strategy.{Strategy}
 use Rattle.rules.specs.declared.State.{State}
 use Rattle.rules.specs.State.{noStrategy, fresh, strategyAt, withStrategies}
 use Rattle.rules.specs.Moves.{Moved}
-use Rattle.rules.specs.Strategies.{sameLegs, sameAt, numberOf, held, define}
+use Rattle.rules.specs.Strategies.{sameLegs, sameAt, numberOf, held, added, define}
 use Rattle.rules.specs.Given.{legsGiven, strategyGiven}
 use Rattle.rules.specs.Refusals.{first, causes, illFormed, strategiesFull}
 use Rattle.rules.specs.Step.{Outcome, valueOf, accept, refused}
@@ -71,7 +71,7 @@ unfolding define
 define-held t b h = pick-true _ _ _ h
 
 define-new : (t : Strategy) (b : State) → held b t ≡ false → define t b ≡ withStrategies b (set (b .strategies) (b .defined) t) (b .defined + 1)
-unfolding define
+unfolding define added
 define-new t b h = pick-false _ _ _ h
 
 define-count : (t : Strategy) (b : State) → held b t ≡ false → define t b .defined ≡ b .defined + 1

@@ -14,7 +14,8 @@ use Rattle.rules.specs.declared.Kind.{Kind}
 use Rattle.rules.specs.declared.Kind.the-variants.{WholeFill, LegFill, LegOrderFill, Cancelled, LegOrderCancelled, AuctionBegun, AuctionEnded}
 use Rattle.rules.specs.Records.{kindNumber, cents, Line, lineOf}
 use Rattle.rules.specs.Totals.{Logged, total, when, ofKind, wholeFilled, legFilled, cancelled, onLeg, contractsOn, inSeries, bought, sold, mentions, isFill, cashOf, cash}
-use Rattle.rules.proofs.Laws.{tally, ofUnits, ofContracts, noEntries, noOrders, ofSeries, ofCash, ofRatio, come, gone, onWhole, onUnits, onComplex, onLegOrder, onPart, onLegs, onFill, pick-none}
+use Rattle.rules.proofs.Tables.{tally, tally-plus}
+use Rattle.rules.proofs.Laws.{ofUnits, ofContracts, noEntries, noOrders, ofSeries, ofCash, ofRatio, come, gone, onWhole, onUnits, onComplex, onLegOrder, onPart, onLegs, onFill, pick-none}
 use Rattle.rules.proofs.Levels.{sub-same, sub-pos, sub-plus, sub-times, cents-is}
 
 -- SUMS
@@ -27,11 +28,6 @@ pub tally-none : (rs : List Record) → tally (λ (r : Record). 0) rs ≡ 0
 unfolding tally
 tally-none [] = refl
 tally-none (r ∷ rs) = omega (arith, tally-none rs)
-
-tally-plus : (u v : Record → ℕ) (rs : List Record) → tally (λ (r : Record). u r + v r) rs ≡ tally u rs + tally v rs
-unfolding tally
-tally-plus u v [] = refl
-tally-plus u v (r ∷ rs) = omega (arith, tally-plus u v rs)
 
 tally-times : (x : ℕ) (u : Record → ℕ) (rs : List Record) → tally (λ (r : Record). x * u r) rs ≡ x * tally u rs
 unfolding tally
@@ -160,29 +156,27 @@ legs-kind AuctionBegun q = refl
 legs-kind AuctionEnded q = refl
 
 -- THE TOTALS
+-- the records of a kind and the cancels of a number, where no record weighs in w
+kind-lines : (k n : ℕ) (w u : Record → ℕ) → ((r : Record) → w r ≡ 0 → ofKind k n (lineOf r) + ofKind 3 n (lineOf r) ≡ u r) → (rs : List Record) → tally w rs ≡ 0 →
+    total (ofKind k n) (map lineOf rs) + total (ofKind 3 n) (map lineOf rs) ≡ tally u rs
+kind-lines k n w u h rs z =
+    omega (
+      arith,
+      total-lines (ofKind k n) rs,
+      total-lines (ofKind 3 n) rs,
+      tally-plus (λ (r : Record). ofKind k n (lineOf r)) (λ (r : Record). ofKind 3 n (lineOf r)) rs,
+      tally-where w (λ (r : Record). ofKind k n (lineOf r) + ofKind 3 n (lineOf r)) u h rs z,
+    )
+
 -- of a number with no record of a leg order
 pub units-lines : (n : ℕ) (rs : List Record) → tally (come (noOrders n)) rs ≡ 0 → wholeFilled n (map lineOf rs) + cancelled n (map lineOf rs) ≡ tally (gone (ofUnits n)) rs
 unfolding wholeFilled cancelled lineOf
-units-lines n rs z =
-    omega (
-      arith,
-      total-lines (ofKind 1 n) rs,
-      total-lines (ofKind 3 n) rs,
-      tally-plus (λ (r : Record). ofKind 1 n (lineOf r)) (λ (r : Record). ofKind 3 n (lineOf r)) rs,
-      tally-where (come (noOrders n)) (λ (r : Record). ofKind 1 n (lineOf r) + ofKind 3 n (lineOf r)) (gone (ofUnits n)) (λ r h. units-kind (r .kind) (r .number) n (r .quantity) h) rs z,
-    )
+units-lines n = kind-lines 1 n (come (noOrders n)) (gone (ofUnits n)) (λ r. units-kind (r .kind) (r .number) n (r .quantity))
 
 -- of a number with no record of a complex order or sweep
 pub contracts-lines : (n : ℕ) (rs : List Record) → tally (come (noEntries n)) rs ≡ 0 → legFilled n (map lineOf rs) + cancelled n (map lineOf rs) ≡ tally (gone (ofContracts n)) rs
 unfolding legFilled cancelled lineOf
-contracts-lines n rs z =
-    omega (
-      arith,
-      total-lines (ofKind 2 n) rs,
-      total-lines (ofKind 3 n) rs,
-      tally-plus (λ (r : Record). ofKind 2 n (lineOf r)) (λ (r : Record). ofKind 3 n (lineOf r)) rs,
-      tally-where (come (noEntries n)) (λ (r : Record). ofKind 2 n (lineOf r) + ofKind 3 n (lineOf r)) (gone (ofContracts n)) (λ r h. contracts-kind (r .kind) (r .number) n (r .quantity) h) rs z,
-    )
+contracts-lines n = kind-lines 2 n (come (noEntries n)) (gone (ofContracts n)) (λ r. contracts-kind (r .kind) (r .number) n (r .quantity))
 
 -- records 1 to 3 of a number
 pub mentions-lines : (n : ℕ) (rs : List Record) → total (mentions n) (map lineOf rs) ≡ tally (come (noEntries n)) rs + tally (come (noOrders n)) rs
@@ -206,17 +200,19 @@ ratio-lines n s x rs =
     ∙ tally-times x (λ (r : Record). ofKind 1 n (lineOf r)) rs
     ∙ ap (λ (y : ℕ). x * y) (sym (total-lines (ofKind 1 n) rs))
 
+series-lines : (s side : ℕ) (rs : List Record) → total (inSeries s side) (map lineOf rs) ≡ tally (λ (r : Record). onLegs (r .kind) (when (r .place) s (when (r .side) side (r .quantity)))) rs
+unfolding lineOf
+series-lines s side rs =
+    total-lines (inSeries s side) rs
+    ∙ tally-same (λ (r : Record). inSeries s side (lineOf r)) _ (λ r. legs-kind (r .kind) (when (r .place) s (when (r .side) side (r .quantity)))) rs
+
 pub bought-lines : (s : ℕ) (rs : List Record) → bought s (map lineOf rs) ≡ tally (come (ofSeries s)) rs
-unfolding bought lineOf
-bought-lines s rs =
-    total-lines (inSeries s 0) rs
-    ∙ tally-same (λ (r : Record). inSeries s 0 (lineOf r)) (come (ofSeries s)) (λ r. legs-kind (r .kind) (when (r .place) s (when (r .side) 0 (r .quantity)))) rs
+unfolding bought
+bought-lines s = series-lines s 0
 
 pub sold-lines : (s : ℕ) (rs : List Record) → sold s (map lineOf rs) ≡ tally (gone (ofSeries s)) rs
-unfolding sold lineOf
-sold-lines s rs =
-    total-lines (inSeries s 1) rs
-    ∙ tally-same (λ (r : Record). inSeries s 1 (lineOf r)) (gone (ofSeries s)) (λ r. legs-kind (r .kind) (when (r .place) s (when (r .side) 1 (r .quantity)))) rs
+unfolding sold
+sold-lines s = series-lines s 1
 
 -- CASH
 -- "A fill is a record 1, or a leg order's record 2"

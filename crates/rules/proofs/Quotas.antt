@@ -5,12 +5,13 @@ use mathlib.Core.List.{List}
 use Prim.Native.Nat.{ℕ, zero, suc, _+_, _*_, _-_, _/_, _≤_, _<_, min}
 use native.Mathlib.Nat.{mul-add, add-mul, mul-comm, div-mul-le-self, lt-div-mul-add, div-lt-iff-lt-mul, le-of-mul-le-mul-right, lt-of-mul-lt-mul-right, mul-lt-mul-of-pos-right}
 use native.Mathlib.Omega.{arith}
-use borrow.Author.Tests.{eqb-true, eqb-false, le-leb, lt-leb, leb-false}
+use borrow.Author.Tests.{eqb-true, le-leb, lt-leb, leb-false}
 use lib.Dec.{eqb, leb}
 use lib.ListN.{List·getD-eq-default}
 use Rattle.base.specs.Pick.{pick, pick-by, pick-both, pick-true, pick-false}
 use Rattle.base.specs.Walks.{sumN, slot, table, table-slot, length-table, lt-or-le}
 use Rattle.rules.specs.Quotas.{inTurnAt, inTurn, portion, portionAt, oneOf, holderAt, sharedAt, share}
+use Rattle.rules.proofs.Tables.{positive}
 
 -- a table of quotas: its sum, and a bound of each
 pub sum-table : (f : ℕ → ℕ) (n k : ℕ) → k ≤ n → sumN (slot (table f n)) k ≡ sumN f k
@@ -107,7 +108,7 @@ shared-under r t n x h =
     pick-by (λ (u : ℕ). r * x / t + u ≤ x) (eqb x 0)
     (λ e. let z : r * x ≡ r * 0 = ap (λ (y : ℕ). r * y) (eqb-true x 0 e) in
     omega (arith, le-of-mul-le-mul-right {m = r * x / t} {n = 0} {k = t} (omega (arith, div-mul-le-self (r * x) t)) (omega arith)))
-    (λ e. let some : 0 < x = (let ne : ¬ (x ≡ 0) = eqb-false x 0 e in omega arith) in omega (arith, portion-less r t x h some))
+    (λ e. let some : 0 < x = positive x e in omega (arith, portion-less r t x h some))
 
 pub share-all : (r : ℕ) (xs : List ℕ) → sumN (slot xs) 32 ≤ r → share r xs ≡ xs
 unfolding share
@@ -135,3 +136,14 @@ share-under r xs i =
     pick-by (λ (qs : List ℕ). slot qs i ≤ slot xs i) (leb t r)
     (λ e. omega arith)
     (λ e. table-under _ xs (λ j. shared-under r t _ (slot xs j) (leb-false t r e)) i)
+
+-- a way to divide r over sizes: no quota above its size, and all of r or of the sizes
+pub record Divides (quotas : ℕ → List ℕ → List ℕ) : Type 0 where
+  pub under : (r : ℕ) (xs : List ℕ) (i : ℕ) → slot (quotas r xs) i ≤ slot xs i
+  pub sum : (r : ℕ) (xs : List ℕ) → sumN (slot (quotas r xs)) 32 ≡ min r (sumN (slot xs) 32)
+
+pub inTurn-divides : Divides inTurn
+inTurn-divides = record { under = inTurn-under; sum = inTurn-sum }
+
+pub share-divides : Divides share
+share-divides = record { under = share-under; sum = share-total }

@@ -9,7 +9,7 @@ use borrow.Author.Tests.{eqb-true, eq-eqb, ltb-true, ltb-false, lt-ltb}
 use lib.Dec.{eqb, ltb}
 use lib.ListN.{length, getD, take, replicate}
 use Rattle.base.specs.Pick.{pick, pick-by, pick-true, pick-false, pick-yes}
-use Rattle.base.specs.Walks.{sumN, joinN, firstN, all-holds, first-holds, first-is, any-holds, any-where, sum-zero, sum-same, sum-rest, sum-first, below, clash}
+use Rattle.base.specs.Walks.{sumN, firstN, all-holds, first-holds, first-is, any-holds, any-where, sum-zero, sum-same, sum-rest, below, clash}
 use Rattle.base.specs.All.{all-at, all-replicate}
 use Rattle.events.specs.declared.Strategy.{Strategy as GivenStrategy}
 use Rattle.rules.specs.declared.Leg.{Leg}
@@ -18,7 +18,7 @@ use Rattle.rules.specs.State.{noLeg, legAt}
 use Rattle.rules.specs.Strategies.{ratioOf, seriesOf, divisor, dividedAt, inSeries, placeOf, legsOf, bySeries, padded, defined, repeats, twice, sameLeg, sameLegAt, sameLegs}
 use Rattle.rules.specs.Given.{legsGiven, strategyGiven}
 use Rattle.rules.specs.Totals.{when, ratioIn, ratioAt as ratioGivenAt}
-use Rattle.rules.proofs.Tables.{all-take}
+use Rattle.rules.proofs.Tables.{all-take, tally, sum-tally, tally-join}
 use Rattle.rules.proofs.Strategies.{Definition, lowest, lowest-at, place-same, rows, length-is, padded-at, rows-le}
 use Rattle.rules.proofs.Laws.{ratioAt, ratioFor, pick-none, when-no}
 
@@ -56,27 +56,6 @@ sum-diag g s k =
     pick-by (λ (x : ℕ). sumN (λ (i : ℕ). when i s (g i)) k ≡ x) (ltb s k)
     (λ t. sum-only (λ (i : ℕ). when i s (g i)) k s (ltb-true s k t) (λ j l z. when-no j s (g j) z) ∙ pick-true _ _ _ (eq-eqb s s refl))
     (λ t. sum-zero _ k (λ i l. when-no i s (g i) (λ (z : i ≡ s). omega (arith, ltb-false s k t))))
-
--- the sum of a weight over a list
-total : {A : Type 0} → (A → ℕ) → List A → ℕ
-total w [] = 0
-total w (x ∷ xs) = w x + total w xs
-
-sum-total : {A : Type 0} (w : A → ℕ) (d : A) → w d ≡ 0 → (l : List A) (k : ℕ) → length l ≤ k → sumN (λ (i : ℕ). w (getD l i d)) k ≡ total w l
-unfolding total
-sum-total w d z [] k h = sum-zero _ k (λ i l. z)
-sum-total w d z (x ∷ xs) zero h = absurd (omega arith)
-sum-total w d z (x ∷ xs) (suc k) h = omega (arith, sum-first (λ (i : ℕ). w (getD (x ∷ xs) i d)) k, sum-total w d z xs k (omega arith))
-
-total-append : {A : Type 0} (w : A → ℕ) (xs ys : List A) → total w (xs ++ ys) ≡ total w xs + total w ys
-unfolding total
-total-append w [] ys = omega arith
-total-append w (x ∷ xs) ys = omega (arith, total-append w xs ys)
-
-total-join : {A : Type 0} (w : A → ℕ) (f : ℕ → List A) (k : ℕ) → total w (joinN f k) ≡ sumN (λ (i : ℕ). total w (f i)) k
-unfolding joinN sumN total
-total-join w f zero = refl
-total-join w f (suc k) = rw (total-append w (joinN f k) (f k), total-join w f k)
 
 -- THE RATIO OF A SERIES in a strategy's legs
 abbrev share : ℕ → Leg → ℕ
@@ -118,11 +97,11 @@ module _ (legs : List Leg) (count : ℕ) (def : Definition legs count) (s : ℕ)
   unfolding placeOf
   in-place x h = eqb-true _ _ (first-holds (inSeries legs x) count h)
 
-  one-series : (x : ℕ) → total (share s) (legsOf low count x) ≡ when x s (pick (ltb (place x) count) (ratioOf legs (place x) / divisor legs count) 0)
-  unfolding total
+  one-series : (x : ℕ) → tally (share s) (legsOf low count x) ≡ when x s (pick (ltb (place x) count) (ratioOf legs (place x) / divisor legs count) 0)
+  unfolding tally
   one-series x =
       rw (place-low x)
-      (pick-by (λ (ls : List Leg). total (share s) ls ≡ when x s (pick (ltb (place x) count) (ratioOf legs (place x) / divisor legs count) 0)) (ltb (place x) count)
+      (pick-by (λ (ls : List Leg). tally (share s) ls ≡ when x s (pick (ltb (place x) count) (ratioOf legs (place x) / divisor legs count) 0)) (ltb (place x) count)
       (λ t.
       let h : place x < count = ltb-true _ _ t in
       let p : share s (getD low (place x) noLeg) ≡ when x s (ratioOf legs (place x) / divisor legs count) =
@@ -139,10 +118,10 @@ module _ (legs : List Leg) (count : ℕ) (def : Definition legs count) (s : ℕ)
       pick-true _ _ _ (lt-ltb s 32 (let k : seriesOf legs (place s) < 32 = def .series (place s) h in omega (arith, in-place s h))))
       (λ t. pick-none (ltb s 32))
 
-  rows-ratio : total (share s) (rows legs count def) ≡ sumN (ratioGivenAt legs (divisor legs count) s) count
+  rows-ratio : tally (share s) (rows legs count def) ≡ sumN (ratioGivenAt legs (divisor legs count) s) count
   unfolding bySeries
   rows-ratio =
-      total-join (share s) (legsOf low count) 32
+      tally-join (share s) (legsOf low count) 32
       ∙ sum-same _ (λ (x : ℕ). when x s (pick (ltb (place x) count) (ratioOf legs (place x) / divisor legs count) 0)) 32 (λ x l. one-series x)
       ∙ sum-diag (λ (x : ℕ). pick (ltb (place x) count) (ratioOf legs (place x) / divisor legs count) 0) s 32
       ∙ small
@@ -154,7 +133,7 @@ module _ (legs : List Leg) (count : ℕ) (def : Definition legs count) (s : ℕ)
       let n : length (rows legs count def) ≡ defined legs count .count = length-is legs count def in
       sum-same (ratioAt (defined legs count) s) (λ (i : ℕ). share s (getD (rows legs count def) i noLeg)) (defined legs count .count)
       (λ i l. ap (share s) (padded-at legs count def i (omega arith)))
-      ∙ sum-total (share s) noLeg (pick-none (eqb 0 s)) (rows legs count def) (defined legs count .count) (omega arith)
+      ∙ sum-tally (share s) noLeg (pick-none (eqb 0 s)) (rows legs count def) (defined legs count .count) (omega arith)
       ∙ rows-ratio
 
 -- "The ratio is that of the accepted kind 1 event that answered its strategy"

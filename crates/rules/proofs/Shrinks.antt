@@ -91,21 +91,6 @@ order-trans h k = record {
 pub strategy-trans : {s t u : Strategy} → SameStrategy s t → SameStrategy t u → SameStrategy s u
 strategy-trans h k = record { legs = k .legs ∙ h .legs; count = k .count ∙ h .count; series = k .series ∙ h .series }
 
-pub shrinks-refl : (b : State) → Shrinks b b
-shrinks-refl b = record {
-  entry = λ i. same-entry _;
-  order = λ i. same-order _;
-  strategy = λ k. same-strategy _;
-  entryRows = refl;
-  orderRows = refl;
-  strategyRows = refl;
-  defined = refl;
-  opened = refl;
-  clock = refl;
-  timer = refl;
-  last = refl;
-}
-
 pub shrinks-trans : {b c d : State} → Shrinks b c → Shrinks c d → Shrinks b d
 shrinks-trans h k = record {
   entry = λ i. entry-trans (h .entry i) (k .entry i);
@@ -129,47 +114,27 @@ set-by P d x (y ∷ l) zero (suc j) p q = p
 set-by P d x (y ∷ l) (suc i) zero p q = p
 set-by P d x (y ∷ l) (suc i) (suc j) p q = set-by P d x l i j p (λ e. q (ap suc e))
 
+-- a row changed in its place; past the end an empty row stays as it is
+pub set-own : {A : Type 0} (f : A → A) (d : A) → f d ≡ d → (l : List A) (i : ℕ) → getD (set l i (f (getD l i d))) i d ≡ f (getD l i d)
+set-own f d e [] i = sym e
+set-own f d e (y ∷ l) zero = refl
+set-own f d e (y ∷ l) (suc i) = set-own f d e l i
+
+-- a table of which one row was changed, to one that is the same but for what R allows
+set-same : {A : Type 0} (R : A → A → Type 0) → ((x : A) → R x x) → (d : A) (f : A → A) → ((x : A) → R x (f x)) → (l : List A) (i j : ℕ) → R (getD l j d) (getD (set l i (f (getD l i d))) j d)
+set-same R own d f changed l i j = set-by (R (getD l j d)) d _ l i j (own _) (λ e. rw e (changed _))
+
 -- the three tables
-pub entries-shrink : (b : State) (es : List Entry) → ((i : ℕ) → SameEntry (entryAt b i) (getD es i noEntry)) → length es ≡ length (b .entries) → Shrinks b (withEntries b es)
-unfolding withEntries
-entries-shrink b es h n = record {
-  entry = h;
-  order = λ i. same-order _;
-  strategy = λ k. same-strategy _;
-  entryRows = n;
-  orderRows = refl;
-  strategyRows = refl;
-  defined = refl;
-  opened = refl;
-  clock = refl;
-  timer = refl;
-  last = refl;
-}
-
-pub orders-shrink : (b : State) (os : List LegOrder) → ((i : ℕ) → SameOrder (orderAt b i) (getD os i noOrder)) → length os ≡ length (b .orders) → Shrinks b (withOrders b os)
-unfolding withOrders
-orders-shrink b os h n = record {
-  entry = λ i. same-entry _;
-  order = h;
-  strategy = λ k. same-strategy _;
-  entryRows = refl;
-  orderRows = n;
-  strategyRows = refl;
-  defined = refl;
-  opened = refl;
-  clock = refl;
-  timer = refl;
-  last = refl;
-}
-
-pub strategies-shrink : (b : State) (ss : List Strategy) → ((k : ℕ) → SameStrategy (strategyAt b k) (getD ss k noStrategy)) → length ss ≡ length (b .strategies) → Shrinks b (withStrategies b ss (b .defined))
-unfolding withStrategies
-strategies-shrink b ss h n = record {
-  entry = λ i. same-entry _;
-  order = λ i. same-order _;
+tables-shrink : (b : State) (es : List Entry) (os : List LegOrder) (ss : List Strategy) →
+    ((i : ℕ) → SameEntry (entryAt b i) (getD es i noEntry)) → ((i : ℕ) → SameOrder (orderAt b i) (getD os i noOrder)) → ((k : ℕ) → SameStrategy (strategyAt b k) (getD ss k noStrategy)) →
+    length es ≡ length (b .entries) → length os ≡ length (b .orders) → length ss ≡ length (b .strategies) → Shrinks b (withStrategies (withOrders (withEntries b es) os) ss (b .defined))
+unfolding withEntries withOrders withStrategies
+tables-shrink b es os ss f g h l m n = record {
+  entry = f;
+  order = g;
   strategy = h;
-  entryRows = refl;
-  orderRows = refl;
+  entryRows = l;
+  orderRows = m;
   strategyRows = n;
   defined = refl;
   opened = refl;
@@ -177,6 +142,22 @@ strategies-shrink b ss h n = record {
   timer = refl;
   last = refl;
 }
+
+pub shrinks-refl : (b : State) → Shrinks b b
+unfolding withEntries withOrders withStrategies
+shrinks-refl b = tables-shrink b (b .entries) (b .orders) (b .strategies) (λ i. same-entry _) (λ i. same-order _) (λ k. same-strategy _) refl refl refl
+
+pub entries-shrink : (b : State) (es : List Entry) → ((i : ℕ) → SameEntry (entryAt b i) (getD es i noEntry)) → length es ≡ length (b .entries) → Shrinks b (withEntries b es)
+unfolding withEntries withOrders withStrategies
+entries-shrink b es h n = tables-shrink b es (b .orders) (b .strategies) h (λ i. same-order _) (λ k. same-strategy _) n refl refl
+
+pub orders-shrink : (b : State) (os : List LegOrder) → ((i : ℕ) → SameOrder (orderAt b i) (getD os i noOrder)) → length os ≡ length (b .orders) → Shrinks b (withOrders b os)
+unfolding withEntries withOrders withStrategies
+orders-shrink b os h n = tables-shrink b (b .entries) os (b .strategies) (λ i. same-entry _) h (λ k. same-strategy _) refl n refl
+
+pub strategies-shrink : (b : State) (ss : List Strategy) → ((k : ℕ) → SameStrategy (strategyAt b k) (getD ss k noStrategy)) → length ss ≡ length (b .strategies) → Shrinks b (withStrategies b ss (b .defined))
+unfolding withEntries withOrders withStrategies
+strategies-shrink b ss h n = tables-shrink b (b .entries) (b .orders) ss (λ i. same-entry _) (λ i. same-order _) h refl refl n
 
 -- cuts
 pub cut-entry : (e : Entry) (q : ℕ) → SameEntry e (cutEntry e q)
@@ -187,27 +168,17 @@ cut-order o q = record { number = refl; member = refl; series = refl; side = ref
 
 pub cut-shrinks : (b : State) (i q : ℕ) → Shrinks b (cut b i q)
 unfolding cut
-cut-shrinks b i q =
-    let x : Entry = cutEntry (entryAt b i) q in
-    entries-shrink b (set (b .entries) i x)
-    (λ j. set-by (SameEntry (entryAt b j)) noEntry x (b .entries) i j (same-entry _) (λ e. rw e (cut-entry _ q)))
-    (length-set (b .entries) i x)
+cut-shrinks b i q = entries-shrink b _ (set-same SameEntry same-entry noEntry (λ (e : Entry). cutEntry e q) (λ e. cut-entry e q) (b .entries) i) (length-set (b .entries) i _)
 
 pub cutLeg-shrinks : (b : State) (i q : ℕ) → Shrinks b (cutLeg b i q)
 unfolding cutLeg
-cutLeg-shrinks b i q =
-    let x : LegOrder = cutOrder (orderAt b i) q in
-    orders-shrink b (set (b .orders) i x)
-    (λ j. set-by (SameOrder (orderAt b j)) noOrder x (b .orders) i j (same-order _) (λ e. rw e (cut-order _ q)))
-    (length-set (b .orders) i x)
+cutLeg-shrinks b i q = orders-shrink b _ (set-same SameOrder same-order noOrder (λ (o : LegOrder). cutOrder o q) (λ o. cut-order o q) (b .orders) i) (length-set (b .orders) i _)
 
 pub auction-shrinks : (b : State) (k n t : ℕ) (a : Bool) → Shrinks b (putAuction b k n t a)
 unfolding putAuction
 auction-shrinks b k n t a =
-    let x : Strategy = withAuction (strategyAt b k) n t a in
-    strategies-shrink b (set (b .strategies) k x)
-    (λ j. set-by (SameStrategy (strategyAt b j)) noStrategy x (b .strategies) k j (same-strategy _) (λ e. rw e (record { legs = refl; count = refl; series = refl })))
-    (length-set (b .strategies) k x)
+    strategies-shrink b _ (set-same SameStrategy same-strategy noStrategy (λ (s : Strategy). withAuction s n t a) (λ s. record { legs = refl; count = refl; series = refl }) (b .strategies) k)
+    (length-set (b .strategies) k _)
 
 -- the table of leg orders is 32 rows, and a cut of it makes a table of 32
 cutOrders-same : (os : List LegOrder) (qs : List ℕ) → length os ≡ 32 → (i : ℕ) → SameOrder (getD os i noOrder) (getD (cutOrders os qs) i noOrder)

@@ -1,15 +1,15 @@
 -- Every accepted event keeps the accounts: what it brought in and what came by its records, went by them or is there afterwards.
 use mathlib.Core.Path.{_≡_, refl, sym, _∙_, ap, subst}
-use mathlib.Core.Bool.{true, false, not}
+use mathlib.Core.Bool.{true, false, not, Bool}
 use mathlib.Core.List.{List}
 use Prim.Native.Nat.{ℕ, _+_, _-_, _^_, _<_}
 use native.Mathlib.Omega.{arith}
-use borrow.Author.Tests.{eqb-true, eqb-false, not-false}
+use borrow.Author.Tests.{eqb-true, not-false}
 use lib.Dec.{eqb}
 use lib.ListN.{length, getD, set}
 use lib.Seq.{getD-set-other}
 use Rattle.base.specs.Pick.{pick, pick-all, pick-by}
-use Rattle.base.specs.Walks.{sum-zero}
+use Rattle.base.specs.Walks.{sum-zero, sumN}
 use Rattle.base.specs.All.{all-at, all-replicate}
 use Rattle.events.specs.declared.Event.{Event}
 use Rattle.events.specs.declared.Event.the-variants as E
@@ -20,24 +20,24 @@ use Rattle.rules.specs.declared.LegOrder.{LegOrder}
 use Rattle.rules.specs.declared.State.{State}
 use Rattle.rules.specs.State.{noLeg, noEntry, noOrder, noStrategy, fresh, entryAt, orderAt, strategyAt, withEntries, withOrders, withStrategies, withOpened, withClock, withLast}
 use Rattle.rules.specs.Moves.{Moved, still, and-then, each}
-use Rattle.rules.specs.Strategies.{held, define}
+use Rattle.rules.specs.Strategies.{held, added as strategyAdded, define}
 use Rattle.rules.specs.Fills.{cancelEntry}
-use Rattle.rules.specs.Auctions.{answer, running}
-use Rattle.rules.specs.Events.{live, liveOrder, keep, enter, enterOrder, onOrder, oldSweep, enterSweep, onSweep, onLegOrder, cancelNumber, onClock, shut, reopen, onSeries, closeRunning, cancelLowest, restart, onDayEnd}
+use Rattle.rules.specs.Auctions.{answer}
+use Rattle.rules.specs.Events.{live, liveOrder, keep, enter, enterOrder, onOrder, oldSweep, enterSweep, onSweep, onLegOrder, cancelNumber, onClock, shut, reopen, onSeries, closeRunning, cancelLowest, restart, onDayEnd, behind}
 use Rattle.rules.specs.Given.{strategyGiven, orderGiven, sweepGiven, legOrderGiven}
-use Rattle.rules.specs.Refusals.{first, causes, undefined, notOpen, unanswerable, removesNone, ordersFull, legOrdersFull, noRoom, numbersOut, sweepNumbersOut}
+use Rattle.rules.specs.Refusals.{first, causes}
 use Rattle.rules.specs.Step.{accept}
 use Rattle.rules.specs.Valid.{FitLeg, Sound, Valid}
 use Rattle.rules.specs.Totals.{when}
-use Rattle.rules.proofs.Tables.{all-of, sum-total, behind-all, behind-total}
+use Rattle.rules.proofs.Tables.{sum-tally, behind-tally, behind-live, tally, tally-append, positive}
 use Rattle.rules.proofs.Control.{Kept, each-kept, onOrder-kept, onLegOrder-kept, cancelNumber-kept, onClock-kept, shut-kept, reopen-kept, closeRunning-kept, cancelLowest-kept}
-use Rattle.rules.proofs.Entering.{dead-zero, fit-at, fit-entry-at, fit-order-at, fresh-dead, Entering, enter-room, sound-enter, EnteringOrder, enterOrder-room, sound-enterOrder}
+use Rattle.rules.proofs.Entering.{dead-zero, fit-at, fit-entry-at, fit-order-at, fresh-dead, Entering, enter-room, sound-enter, EnteringOrder, enterOrder-room, sound-enterOrder, none-live, none-order}
 use Rattle.rules.proofs.Settled.{strategy-same, cancel-strategies}
 use Rattle.rules.proofs.Arrivals.{Sweeping, swept-valid, swept-entering}
 use Rattle.rules.specs.Fits.{FitEvent}
-use Rattle.rules.proofs.Validity.{clear, order-entering, sweep-given, order-given}
+use Rattle.rules.proofs.Validity.{order-clear, sweep-clear, legOrder-clear}
 use Rattle.rules.proofs.DayEnd.{Finished, day-end-clears}
-use Rattle.rules.proofs.Laws.{tally, Law, ofUnits, ofContracts, noEntries, noOrders, ofSeries, ofCash, ofRatio, ofLimit, ofPrice, size, come, gone, FitsEntry, FitsOrder, Good, Steady, Acct, ratioFor, steady-shrinks, good-shrinks, tally-append, acct-nothing, acct-both, pick-none}
+use Rattle.rules.proofs.Laws.{Law, ofUnits, ofContracts, noEntries, noOrders, ofSeries, ofCash, ofRatio, ofLimit, ofPrice, size, come, gone, FitsEntry, FitsOrder, Good, Steady, Acct, ratioFor, steady-shrinks, good-shrinks, acct-nothing, acct-both, pick-none, measure, measure-by}
 use Rattle.rules.proofs.Accounts.{acct-whole, acct-trade, acct-cancel, acct-cancelOrder, acct-begins, acct-closes, acct-answers, size-same}
 use Rattle.rules.proofs.LegAccounts.{acct-legs}
 
@@ -74,26 +74,10 @@ pub data Row : Type 0 where
   noRow : Row
 
 abbrev pub addEntry : Law → Entry → ℕ
-addEntry (ofUnits n) e = when (e .number) n (e .units)
-addEntry (ofContracts n) e = 0
-addEntry (noEntries n) e = 0
-addEntry (noOrders n) e = 0
-addEntry (ofSeries s) e = 0
-addEntry ofCash e = 0
-addEntry (ofRatio n s x) e = 0
-addEntry (ofLimit n side limit) e = 0
-addEntry (ofPrice n side price) e = 0
+addEntry l e = measure l (λ (n : ℕ). when (e .number) n (e .units)) (λ (n : ℕ). 0)
 
 abbrev pub addOrder : Law → LegOrder → ℕ
-addOrder (ofUnits n) o = 0
-addOrder (ofContracts n) o = when (o .number) n (o .contracts)
-addOrder (noEntries n) o = 0
-addOrder (noOrders n) o = 0
-addOrder (ofSeries s) o = 0
-addOrder ofCash o = 0
-addOrder (ofRatio n s x) o = 0
-addOrder (ofLimit n side limit) o = 0
-addOrder (ofPrice n side price) o = 0
+addOrder l o = measure l (λ (n : ℕ). 0) (λ (n : ℕ). when (o .number) n (o .contracts))
 
 abbrev pub added : Law → Row → ℕ
 added l (entryRow e) = addEntry l e
@@ -105,14 +89,6 @@ FitsRow l b (entryRow e) = FitsEntry l b e
 FitsRow l b (legRow o) = FitsOrder l o
 FitsRow l b noRow = Unit {0}
 
-none-live : live noEntry ≡ false
-unfolding live
-none-live = refl
-
-none-order : liveOrder noOrder ≡ false
-unfolding liveOrder
-none-order = refl
-
 dead-order : (o : LegOrder) → liveOrder o ≡ false → o .contracts ≡ 0
 unfolding liveOrder
 dead-order o h = eqb-true _ 0 (not-false _ h)
@@ -120,35 +96,27 @@ dead-order o h = eqb-true _ 0 (not-false _ h)
 when-nil : (x n q : ℕ) → q ≡ 0 → when x n q ≡ 0
 when-nil x n q e = rw e (pick-none (eqb x n))
 
+-- the quantity of a number in a table in which x stands behind the live rows
+behind-number : {A : Type 0} (test : A → Bool) (none : A) (number quantity : A → ℕ) → test none ≡ false → ((y : A) → test y ≡ false → quantity y ≡ 0) →
+    (x : A) (l : List A) → length l ≡ 32 → length (keep test l) < 32 → (n : ℕ) →
+    sumN (λ (i : ℕ). when (number (getD (behind test none x l) i none)) n (quantity (getD (behind test none x l) i none))) 32
+    ≡ sumN (λ (i : ℕ). when (number (getD l i none)) n (quantity (getD l i none))) 32 + when (number x) n (quantity x)
+behind-number {A} test none number quantity dead zero x l r h n =
+    let w : A → ℕ = λ (y : A). when (number y) n (quantity y) in
+    let z : (y : A) → test y ≡ false → w y ≡ 0 = λ y t. when-nil (number y) n (quantity y) (zero y t) in
+    behind-tally test none x l w dead z h ∙ ap (λ (k : ℕ). k + w x) (sym (sum-tally w none (z none dead) l 32 (omega arith)))
+
 pub enter-size : (l : Law) (b : State) (e : Entry) → length (b .entries) ≡ 32 → length (keep live (b .entries)) < 32 → size l (enter e b) ≡ size l b + addEntry l e
 unfolding enter withLast withEntries
-enter-size (ofUnits n) b e r h =
-    let w : Entry → ℕ = λ (y : Entry). when (y .number) n (y .units) in
-    behind-total live noEntry e (b .entries) w none-live (λ y z. when-nil (y .number) n (y .units) (dead-zero y z)) h
-    ∙ ap (λ (x : ℕ). x + w e) (sym (sum-total w noEntry (pick-none (eqb 0 n)) (b .entries) 32 (omega arith)))
-enter-size (ofContracts n) b e r h = omega arith
-enter-size (noEntries n) b e r h = refl
-enter-size (noOrders n) b e r h = refl
-enter-size (ofSeries s) b e r h = refl
-enter-size ofCash b e r h = refl
-enter-size (ofRatio n s x) b e r h = refl
-enter-size (ofLimit n side limit) b e r h = refl
-enter-size (ofPrice n side price) b e r h = refl
+enter-size l b e r h =
+    measure-by (λ (x y z : ℕ). x ≡ y + z) refl l
+    (behind-number live noEntry (λ (y : Entry). y .number) (λ (y : Entry). y .units) none-live dead-zero e (b .entries) r h) (λ n. omega arith)
 
 pub enterOrder-size : (l : Law) (b : State) (o : LegOrder) → length (b .orders) ≡ 32 → length (keep liveOrder (b .orders)) < 32 → size l (enterOrder o b) ≡ size l b + addOrder l o
 unfolding enterOrder withLast withOrders
-enterOrder-size (ofUnits n) b o r h = omega arith
-enterOrder-size (ofContracts n) b o r h =
-    let w : LegOrder → ℕ = λ (y : LegOrder). when (y .number) n (y .contracts) in
-    behind-total liveOrder noOrder o (b .orders) w none-order (λ y z. when-nil (y .number) n (y .contracts) (dead-order y z)) h
-    ∙ ap (λ (x : ℕ). x + w o) (sym (sum-total w noOrder (pick-none (eqb 0 n)) (b .orders) 32 (omega arith)))
-enterOrder-size (noEntries n) b o r h = refl
-enterOrder-size (noOrders n) b o r h = refl
-enterOrder-size (ofSeries s) b o r h = refl
-enterOrder-size ofCash b o r h = refl
-enterOrder-size (ofRatio n s x) b o r h = refl
-enterOrder-size (ofLimit n side limit) b o r h = refl
-enterOrder-size (ofPrice n side price) b o r h = refl
+enterOrder-size l b o r h =
+    measure-by (λ (x y z : ℕ). x ≡ y + z) refl l (λ n. omega arith)
+    (behind-number liveOrder noOrder (λ (y : LegOrder). y .number) (λ (y : LegOrder). y .contracts) none-order dead-order o (b .orders) r h)
 
 -- what a law asks of an entry depends on the strategies' legs alone
 pub fits-strategies : (l : Law) (b c : State) (e : Entry) → strategyAt c (e .strategy) ≡ strategyAt b (e .strategy) → FitsEntry l b e → FitsEntry l c e
@@ -168,18 +136,11 @@ good-same l b c p q s g = record {
   order = λ i. rw q (g .order i);
 }
 
-abbrev Fit : Law → State → Entry → Type 0
-Fit l b y = 0 < y .units → FitsEntry l b y
-
-abbrev FitLegOrder : Law → LegOrder → Type 0
-FitLegOrder l y = 0 < y .contracts → FitsOrder l y
-
 pub enter-good : (l : Law) (b : State) (e : Entry) → FitsEntry l b e → Good l b → Good l (enter e b)
 unfolding enter withLast withEntries
 enter-good l b e f g = record {
   entry = λ i alive. fits-strategies l b (enter e b) (entryAt (enter e b) i) refl
-      (all-at {P = Fit l b} noEntry (λ z. absurd (omega arith))
-      (behind-all live noEntry e (b .entries) {P = Fit l b} (λ z. absurd (omega arith)) (λ z. f) (all-of (Fit l b) noEntry (b .entries) (g .entry))) i alive);
+      (behind-live live noEntry (λ (y : Entry). y .units) refl e (b .entries) (FitsEntry l b) f (g .entry) i alive);
   order = g .order;
 }
 
@@ -187,9 +148,7 @@ pub enterOrder-good : (l : Law) (b : State) (o : LegOrder) → FitsOrder l o →
 unfolding enterOrder withLast withOrders
 enterOrder-good l b o f g = record {
   entry = λ i alive. fits-strategies l b (enterOrder o b) (entryAt b i) refl (g .entry i alive);
-  order = λ i alive.
-      all-at {P = FitLegOrder l} noOrder (λ z. absurd (omega arith))
-      (behind-all liveOrder noOrder o (b .orders) {P = FitLegOrder l} (λ z. absurd (omega arith)) (λ z. f) (all-of (FitLegOrder l) noOrder (b .orders) (g .order))) i alive;
+  order = behind-live liveOrder noOrder (λ (y : LegOrder). y .contracts) refl o (b .orders) (FitsOrder l) f (g .order);
 }
 
 -- AN EVENT'S EFFECT on a law: what it added, what its records say, and that the law can go on
@@ -281,7 +240,7 @@ left-fits l b e f h = fits-strategies l b (cancelEntry (oldSweep b e) b .state) 
 
 -- A DEFINITION: no live entry is of the strategy that it gives
 books-define : (l : Law) (b : State) (t : Strategy) → Sound b → Good l b → Books l b 0 (still (define t b))
-unfolding define withStrategies tally
+unfolding define strategyAdded withStrategies tally
 books-define l b t s g =
     pick-all (λ (c : State). Books l b 0 (still c)) (held b t) (books-still l b g)
     (record {
@@ -297,15 +256,10 @@ fresh-order timer i = all-at {P = λ (o : LegOrder). o .contracts ≡ 0} noOrder
 
 -- where nothing is live there is nothing to measure
 size-none : (l : Law) (b : State) → ((i : ℕ) → Finished b i) → size l b ≡ 0
-size-none (ofUnits n) b h = sum-zero _ 32 (λ i k. when-nil (entryAt b i .number) n (entryAt b i .units) (h i .entry))
-size-none (ofContracts n) b h = sum-zero _ 32 (λ i k. when-nil (orderAt b i .number) n (orderAt b i .contracts) (h i .order))
-size-none (noEntries n) b h = refl
-size-none (noOrders n) b h = refl
-size-none (ofSeries s) b h = refl
-size-none ofCash b h = refl
-size-none (ofRatio n s x) b h = refl
-size-none (ofLimit n side limit) b h = refl
-size-none (ofPrice n side price) b h = refl
+size-none l b h =
+    measure-by (λ (x y z : ℕ). x ≡ 0) refl l {v = λ (n : ℕ). 0} {w = λ (n : ℕ). 0} {d = λ (n : ℕ). 0} {e = λ (n : ℕ). 0}
+    (λ n. sum-zero _ 32 (λ i k. when-nil (entryAt b i .number) n (entryAt b i .units) (h i .entry)))
+    (λ n. sum-zero _ 32 (λ i k. when-nil (orderAt b i .number) n (orderAt b i .contracts) (h i .order)))
 
 fresh-finished : (timer i : ℕ) → Finished (fresh timer) i
 fresh-finished timer i = record { entry = fresh-dead timer i; order = fresh-order timer i }
@@ -352,30 +306,15 @@ sweep-units b e = refl
 pub accept-books : (l : Law) (b : State) (e : Event) → Valid b → FitEvent e → first (causes b e) ≡ 0 → FitsRow l b (rowOf b e) → Good l b → Books l b (added l (rowOf b e)) (accept b e)
 unfolding accept causes
 accept-books l b (E.Strategy e) v f c h g = books-define l b (strategyGiven e) (v .sound) g
-accept-books l b (E.Order e) v f c h g =
-    let x = clear 4 (undefined b (e .strategy)) _ (omega arith) c in
-    let y = clear 9 (unanswerable b (e .life) (e .strategy)) _ (omega arith) (x .1) in
-    let z = clear 12 (ordersFull b) _ (omega arith) (y .1) in
-    let w = clear 13 (numbersOut b) _ (omega arith) (z .1) in
-    books-order l b (v .sound) g (orderGiven b e) (order-entering b e (v .sound) f (x .0) (z .0) (w .0)) h
+accept-books l b (E.Order e) v f c h g = books-order l b (v .sound) g (orderGiven b e) (order-clear b e (v .sound) f c) h
 accept-books l b (E.Sweep e) v f c h g =
-    let x = clear 4 (undefined b (e .strategy)) _ (omega arith) c in
-    let y = clear 9 (not (running b (e .strategy))) _ (omega arith) (x .1) in
-    let z = clear 10 (removesNone b e) _ (omega arith) (y .1) in
-    let w = clear 12 (noRoom b e) _ (omega arith) (z .1) in
-    let u = clear 13 (sweepNumbersOut b e) _ (omega arith) (w .1) in
     let k : Entry = sweepGiven b e in
     pick-by (λ (r : Row). FitsRow l b r → Books l b (added l r) (onSweep k b)) (eqb (e .units) 0)
     (λ t _. books-remove l b v g k (sweep-life b e) (sweep-units b e ∙ ap not t))
     (λ t fits.
-    let some : ¬ (e .units ≡ 0) = eqb-false (e .units) 0 t in
-    books-sweep l b v g k (sweep-life b e) (sweep-units b e ∙ ap not t) (sweep-given b e f (x .0) (w .0) (u .0) (omega arith)) (left-fits l b k k fits))
+    books-sweep l b v g k (sweep-life b e) (sweep-units b e ∙ ap not t) (sweep-clear b e f c .1 (positive (e .units) t)) (left-fits l b k k fits))
     h
-accept-books l b (E.LegOrder e) v f c h g =
-    let x = clear 6 (notOpen b (e .series)) _ (omega arith) c in
-    let y = clear 12 (legOrdersFull b) _ (omega arith) (x .1) in
-    let z = clear 13 (numbersOut b) _ (omega arith) (y .1) in
-    books-leg l b (v .sound) g (legOrderGiven b e) (order-given b e f (y .0) (z .0)) h
+accept-books l b (E.LegOrder e) v f c h g = books-leg l b (v .sound) g (legOrderGiven b e) (legOrder-clear b e f c) h
 accept-books l b (E.Cancel e) v f c h g = books-cancel l b (v .sound) g (e .number)
 accept-books l b (E.Series e) v f c h g = books-series l b (v .sound) g (e .series) (e .state)
 accept-books l b (E.Clock e) v f c h g = books-clock l b (v .sound) g (e .time)

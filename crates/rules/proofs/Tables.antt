@@ -1,15 +1,22 @@
 -- Tables: what holds of all rows, of every two in order and of sums, where the live rows are kept and one more stands behind them.
 use mathlib.Core.Path.{_≡_, refl, _∙_, ap}
 use mathlib.Core.Bool.{Bool, true, false}
+use mathlib.Core.Logic.{⊎-elim}
 use mathlib.Core.List.{List, [], _∷_, _++_}
 use Prim.Native.Nat.{ℕ, zero, suc, _+_, _≤_, _<_}
 use native.Mathlib.Omega.{arith}
-use lib.ListN.{length, getD, take, replicate, length-append, length-take, List·getD-append}
+use borrow.Author.Tests.{eqb-false}
+use lib.Dec.{eqb}
+use lib.ListN.{length, getD, take, replicate, length-append, length-take, List·getD-append, List·getD-eq-default}
 use lib.Seq.{getD-take, getD-append-seam}
 use Rattle.base.specs.Pick.{pick, pick-all, pick-by}
-use Rattle.base.specs.Walks.{sumN, sum-zero, sum-first, clash}
+use Rattle.base.specs.Walks.{sumN, sum-zero, sum-first, clash, lt-or-le, joinN}
 use Rattle.base.specs.All.{All, all-nil, all-cons, Sorted, sort-nil, sort-cons, all-at, all-append, all-replicate, sorted-append}
 use Rattle.rules.specs.Events.{keep, behind}
+
+-- a number that is not 0
+pub positive : (n : ℕ) → eqb n 0 ≡ false → 0 < n
+positive n e = let z : ¬ (n ≡ 0) = eqb-false n 0 e in omega arith
 
 pub all-within : {A : Type 0} {P : A → Type 0} {l : List A} → All P l → (d : A) (i : ℕ) → i < length l → P (getD l i d)
 all-within all-nil d i h = absurd (omega arith)
@@ -54,35 +61,52 @@ pub sorted-replicate : {A : Type 0} {R : A → A → Type 0} (d : A) → R d d �
 sorted-replicate d h zero = sort-nil
 sorted-replicate d h (suc n) = sort-cons (all-replicate d h n) (sorted-replicate d h n)
 
+-- a live row is one of the table's
+pub live-row : {A : Type 0} (quantity : A → ℕ) (none : A) → quantity none ≡ 0 → (l : List A) {n : ℕ} → length l ≡ n → (i : ℕ) → 0 < quantity (getD l i none) → i < n
+live-row quantity none empty l {n} rows i h =
+    ⊎-elim (λ m. m)
+    (λ m. let z : getD l i none ≡ none = List·getD-eq-default l none {n = i} (omega arith) in absurd (omega (arith, empty, ap quantity z)))
+    (lt-or-le i n)
+
 -- the sum of a weight over a list
-pub total : {A : Type 0} → (A → ℕ) → List A → ℕ
-total w [] = 0
-total w (x ∷ xs) = w x + total w xs
+unfoldable pub tally : {A : Type 0} → (A → ℕ) → List A → ℕ
+tally w [] = 0
+tally w (x ∷ xs) = w x + tally w xs
 
 -- the sum over the slots is that over the rows
-pub sum-total : {A : Type 0} (w : A → ℕ) (d : A) → w d ≡ 0 → (l : List A) (k : ℕ) → length l ≤ k → sumN (λ (i : ℕ). w (getD l i d)) k ≡ total w l
-unfolding total
-sum-total w d z [] k h = sum-zero _ k (λ i l. z)
-sum-total w d z (x ∷ xs) zero h = absurd (omega arith)
-sum-total w d z (x ∷ xs) (suc k) h = omega (arith, sum-first (λ (i : ℕ). w (getD (x ∷ xs) i d)) k, sum-total w d z xs k (omega arith))
+pub sum-tally : {A : Type 0} (w : A → ℕ) (d : A) → w d ≡ 0 → (l : List A) (k : ℕ) → length l ≤ k → sumN (λ (i : ℕ). w (getD l i d)) k ≡ tally w l
+unfolding tally
+sum-tally w d z [] k h = sum-zero _ k (λ i l. z)
+sum-tally w d z (x ∷ xs) zero h = absurd (omega arith)
+sum-tally w d z (x ∷ xs) (suc k) h = omega (arith, sum-first (λ (i : ℕ). w (getD (x ∷ xs) i d)) k, sum-tally w d z xs k (omega arith))
 
-pub total-add : {A : Type 0} (v w : A → ℕ) (l : List A) → total (λ (x : A). v x + w x) l ≡ total v l + total w l
-unfolding total
-total-add v w [] = refl
-total-add v w (x ∷ xs) = omega (arith, total-add v w xs)
+pub tally-plus : {A : Type 0} (v w : A → ℕ) (l : List A) → tally (λ (x : A). v x + w x) l ≡ tally v l + tally w l
+unfolding tally
+tally-plus v w [] = refl
+tally-plus v w (x ∷ xs) = omega (arith, tally-plus v w xs)
 
-total-none : {A : Type 0} (w : A → ℕ) (d : A) → w d ≡ 0 → (n m : ℕ) → total w (take n (replicate m d)) ≡ 0
-unfolding total
-total-none w d z zero m = refl
-total-none w d z (suc n) zero = refl
-total-none w d z (suc n) (suc m) = omega (arith, total-none w d z n m)
+pub tally-append : {A : Type 0} (w : A → ℕ) (xs ys : List A) → tally w (xs ++ ys) ≡ tally w xs + tally w ys
+unfolding tally
+tally-append w [] ys = omega arith
+tally-append w (x ∷ xs) ys = omega (arith, tally-append w xs ys)
 
-total-row : {A : Type 0} (w : A → ℕ) (d x : A) → w d ≡ 0 → (m : ℕ) (ks : List A) (n : ℕ) → length ks < n → total w (take n (ks ++ (x ∷ replicate m d))) ≡ total w ks + w x
-unfolding total
-total-row w d x z m [] zero h = absurd (omega arith)
-total-row w d x z m [] (suc n) h = omega (arith, total-none w d z n m)
-total-row w d x z m (y ∷ ys) zero h = absurd (omega arith)
-total-row w d x z m (y ∷ ys) (suc n) h = omega (arith, total-row w d x z m ys n (omega arith))
+pub tally-join : {A : Type 0} (w : A → ℕ) (f : ℕ → List A) (k : ℕ) → tally w (joinN f k) ≡ sumN (λ (i : ℕ). tally w (f i)) k
+unfolding joinN sumN tally
+tally-join w f zero = refl
+tally-join w f (suc k) = rw tally-append (omega (arith, tally-join w f k))
+
+tally-empty : {A : Type 0} (w : A → ℕ) (d : A) → w d ≡ 0 → (n m : ℕ) → tally w (take n (replicate m d)) ≡ 0
+unfolding tally
+tally-empty w d z zero m = refl
+tally-empty w d z (suc n) zero = refl
+tally-empty w d z (suc n) (suc m) = omega (arith, tally-empty w d z n m)
+
+tally-row : {A : Type 0} (w : A → ℕ) (d x : A) → w d ≡ 0 → (m : ℕ) (ks : List A) (n : ℕ) → length ks < n → tally w (take n (ks ++ (x ∷ replicate m d))) ≡ tally w ks + w x
+unfolding tally
+tally-row w d x z m [] zero h = absurd (omega arith)
+tally-row w d x z m [] (suc n) h = omega (arith, tally-empty w d z n m)
+tally-row w d x z m (y ∷ ys) zero h = absurd (omega arith)
+tally-row w d x z m (y ∷ ys) (suc n) h = omega (arith, tally-row w d x z m ys n (omega arith))
 
 -- all rows but the one behind
 other-row : {A : Type 0} (P : A → Type 0) (d x : A) → P d → (m : ℕ) {ks : List A} → All P ks → (n j : ℕ) → (j ≡ length ks → ⊥) → P (getD (take n (ks ++ (x ∷ replicate m d))) j d)
@@ -113,20 +137,20 @@ module _ {A : Type 0} (test : A → Bool) (none : A) where
   keep-sorted sort-nil = sort-nil
   keep-sorted {R} (sort-cons {a = a} p s) = pick-all (Sorted R) (test a) (sort-cons (keep-all p) (keep-sorted s)) (keep-sorted s)
 
-  pub keep-total : (w : A → ℕ) → ((y : A) → test y ≡ false → w y ≡ 0) → (l : List A) → total w (keep test l) ≡ total w l
-  unfolding keep total
-  keep-total w z [] = refl
-  keep-total w z (x ∷ xs) =
-      pick-by (λ (m : List A). total w m ≡ w x + total w xs) (test x)
-      (λ e. omega (arith, keep-total w z xs)) (λ e. omega (arith, keep-total w z xs, z x e))
+  pub keep-tally : (w : A → ℕ) → ((y : A) → test y ≡ false → w y ≡ 0) → (l : List A) → tally w (keep test l) ≡ tally w l
+  unfolding keep tally
+  keep-tally w z [] = refl
+  keep-tally w z (x ∷ xs) =
+      pick-by (λ (m : List A). tally w m ≡ w x + tally w xs) (test x)
+      (λ e. omega (arith, keep-tally w z xs)) (λ e. omega (arith, keep-tally w z xs, z x e))
 
   -- as many as a weight of 1 for each says
-  pub keep-length : (w : A → ℕ) → ((y : A) → w y ≡ pick (test y) 1 0) → (l : List A) → length (keep test l) ≡ total w l
-  unfolding keep total pick
+  pub keep-length : (w : A → ℕ) → ((y : A) → w y ≡ pick (test y) 1 0) → (l : List A) → length (keep test l) ≡ tally w l
+  unfolding keep tally pick
   keep-length w h [] = refl
   keep-length w h (x ∷ xs) = go (test x) (h x) (keep-length w h xs)
     where
-      go : (t : Bool) → w x ≡ pick t 1 0 → length (keep test xs) ≡ total w xs → length (pick t (x ∷ keep test xs) (keep test xs)) ≡ w x + total w xs
+      go : (t : Bool) → w x ≡ pick t 1 0 → length (keep test xs) ≡ tally w xs → length (pick t (x ∷ keep test xs) (keep test xs)) ≡ w x + tally w xs
       go true e r = omega arith
       go false e r = omega arith
 
@@ -168,12 +192,12 @@ module _ {A : Type 0} (test : A → Bool) (none : A) where
         ends all-nil = all-nil
         ends (all-cons {a = a} p q) = all-cons (all-cons p (all-replicate none (z a) 32)) (ends q)
 
-    pub behind-total : (w : A → ℕ) → test none ≡ false → ((y : A) → test y ≡ false → w y ≡ 0) → length (keep test l) < 32 →
-        sumN (λ (i : ℕ). w (getD (behind test none x l) i none)) 32 ≡ total w l + w x
+    pub behind-tally : (w : A → ℕ) → test none ≡ false → ((y : A) → test y ≡ false → w y ≡ 0) → length (keep test l) < 32 →
+        sumN (λ (i : ℕ). w (getD (behind test none x l) i none)) 32 ≡ tally w l + w x
     unfolding behind
-    behind-total w t z h =
-        sum-total w none (z none t) (behind test none x l) 32 (omega (arith, behind-length))
-        ∙ omega (arith, total-row w none x (z none t) 32 (keep test l) 32 h, keep-total w z l)
+    behind-tally w t z h =
+        sum-tally w none (z none t) (behind test none x l) 32 (omega (arith, behind-length))
+        ∙ omega (arith, tally-row w none x (z none t) 32 (keep test l) 32 h, keep-tally w z l)
 
     -- what was live stands
     pub behind-stands : length (keep test l) < 32 → (i : ℕ) → i < length l → test (getD l i none) ≡ true → Stands none (behind test none x l) (getD l i none)
@@ -186,3 +210,24 @@ module _ {A : Type 0} (test : A → Bool) (none : A) where
           is = getD-take 32 (keep test l ++ (x ∷ replicate 32 none)) (s .at) none (omega (arith, s .slot))
               ∙ List·getD-append (keep test l) (x ∷ replicate 32 none) none (s .at) (s .slot) ∙ s .is;
         }
+
+-- .. where rows have a quantity, and an empty one none: what holds of live rows
+module _ {A : Type 0} (test : A → Bool) (none : A) (quantity : A → ℕ) (empty : quantity none ≡ 0) (x : A) (l : List A) where
+  abbrev after : ℕ → A
+  after i = getD (behind test none x l) i none
+
+  pub behind-live : (P : A → Type 0) → P x → ((i : ℕ) → 0 < quantity (getD l i none) → P (getD l i none)) → (i : ℕ) → 0 < quantity (after i) → P (after i)
+  behind-live P p h =
+      let Q : A → Type 0 = λ (y : A). 0 < quantity y → P y in
+      let z : Q none = λ k. absurd (omega arith) in
+      all-at {P = Q} none z (behind-all test none x l {P = Q} z (λ k. p) (all-of Q none l h))
+
+  -- .. of two in order, where it holds of each of the rows and x
+  pub behind-ordered : (R : A → A → Type 0) → ((i : ℕ) → 0 < quantity (getD l i none) → R (getD l i none) x) →
+      ((i j : ℕ) → i < j → 0 < quantity (getD l i none) → 0 < quantity (getD l j none) → R (getD l i none) (getD l j none)) →
+      (i j : ℕ) → i < j → 0 < quantity (after i) → 0 < quantity (after j) → R (after i) (after j)
+  behind-ordered R h s =
+      let S : A → A → Type 0 = λ (y w : A). 0 < quantity y → 0 < quantity w → R y w in
+      let z : (y : A) → S y none = λ y k m. absurd (omega arith) in
+      sorted-any {R = S} none z
+      (behind-sorted test none x l {R = S} z (keep-all test none (all-of (λ (y : A). S y x) none l (λ i k m. h i k))) (sorted-of S none l s))

@@ -22,7 +22,8 @@ use Rattle.rules.specs.Valid.{Valid}
 use Rattle.rules.specs.Totals.{Sent, Logged, outcome, after, logOf, run, linesOf, total, when, wholeFilled, legFilled, cancelled, contractsOn, bought, sold, Terms, Brought, complex, leg, nothing, brought, Came, Unknown, mentions, ratioIn, Answered, Defined, NotWorse, isLeg, isLegNumber, isFill, cash, OneDay, Totals}
 use Rattle.rules.proofs.Endings.{or-no}
 use Rattle.rules.proofs.Validity.{valid-fresh}
-use Rattle.rules.proofs.Laws.{tally, Law, noEntries, noOrders, ofSeries, ofCash, ofRatio, ofLimit, ofPrice, size, come, gone, ratioFor, onComplex, onLegOrder, onWhole, onTraded, when-yes}
+use Rattle.rules.proofs.Tables.{tally}
+use Rattle.rules.proofs.Laws.{Law, noEntries, noOrders, ofSeries, ofCash, ofRatio, ofLimit, ofPrice, size, come, gone, ratioFor, onComplex, onLegOrder, onWhole, onTraded, when-yes}
 use Rattle.rules.proofs.Steps.{Row, entryRow, legRow, noRow, added, FitsRow}
 use Rattle.rules.proofs.Lists.{rowIn, next, termsOf, brought-row, recordsOf, enteredOf, lines-records}
 use Rattle.rules.proofs.Numbers.{About, a-units, a-contracts, a-noEntries, a-noOrders, a-ratio, a-limit, a-price, Quiet, quiet, apart-unknown, law-quiet, Entered, CameEntry, CameOrder, came-entry, came-order}
@@ -117,6 +118,14 @@ within-sell : (side limit level : ℕ) → side ≡ 1 → meets side limit level
 unfolding meets
 within-sell side limit level e h = cents-le limit level (leb-true limit level (sym (pick-false _ _ _ (ne-eqb side 0 (λ z. omega arith))) ∙ h))
 
+-- the line of a record at a level within the limit
+line-within : (w : Terms) (l : Line) (r : Record) → l ≡ lineOf r → (side limit : ℕ) → side ≡ w .side → cents limit ≡ w .limit → meets side limit (r .level) ≡ true → NotWorse w l
+unfolding lineOf
+line-within w l r is side limit s p ok = record {
+  buy = λ t. rw (ap (λ (y : Line). y .price) is, ← p) (within-buy side limit (r .level) (s ∙ t) ok);
+  sell = λ t. rw (ap (λ (y : Line). y .price) is, ← p) (within-sell side limit (r .level) (s ∙ t) ok);
+}
+
 module _ (timer : ℕ) (low : 1 ≤ timer) (high : timer ≤ 5000) (xs : List Sent) (day : OneDay (run (fresh timer) xs)) where
   abbrev log : List Logged
   log = run (fresh timer) xs
@@ -189,13 +198,8 @@ module _ (timer : ℕ) (low : 1 ≤ timer) (high : timer ≤ 5000) (xs : List Se
     unfolding lineOf
     limit-of l there kind number =
         let x : Written l rs = written l rs (rw lines at there) in
-        let r : Record = x .of in
-        let ok : meets (c .entry .side) (c .entry .level) (r .level) ≡ true =
-        whole-met r (x .there) (sym (ap (λ (y : Line). y .kind) (x .is)) ∙ kind) (sym (ap (λ (y : Line). y .number) (x .is)) ∙ number) in
-        record {
-          buy = λ side. rw (ap (λ (y : Line). y .price) (x .is), ← (c .limit)) (within-buy (c .entry .side) (c .entry .level) (r .level) (c .side ∙ side) ok);
-          sell = λ side. rw (ap (λ (y : Line). y .price) (x .is), ← (c .limit)) (within-sell (c .entry .side) (c .entry .level) (r .level) (c .side ∙ side) ok);
-        }
+        line-within w l (x .of) (x .is) (c .entry .side) (c .entry .level) (c .side) (c .limit)
+        (whole-met (x .of) (x .there) (sym (ap (λ (y : Line). y .kind) (x .is)) ∙ kind) (sym (ap (λ (y : Line). y .number) (x .is)) ∙ number))
 
   -- the laws of a leg order that came
   module _ (w : Terms) (m : Came (leg w) log) where
@@ -231,14 +235,8 @@ module _ (timer : ℕ) (low : 1 ≤ timer) (high : timer ≤ 5000) (xs : List Se
     unfolding lineOf
     price-of l there kind number =
         let x : Written l rs = written l rs (rw lines at there) in
-        let r : Record = x .of in
-        let ok : meets (o .order .side) (10_000_000 + o .order .price) (r .level) ≡ true =
-        traded-met r (x .there) (sym (ap (λ (y : Line). y .kind) (x .is)) ∙ kind) (sym (ap (λ (y : Line). y .number) (x .is)) ∙ number) in
-        let p : cents (10_000_000 + o .order .price) ≡ w .limit = cents-price (o .order .price) ∙ o .limit in
-        record {
-          buy = λ side. rw (ap (λ (y : Line). y .price) (x .is), ← p) (within-buy (o .order .side) (10_000_000 + o .order .price) (r .level) (o .side ∙ side) ok);
-          sell = λ side. rw (ap (λ (y : Line). y .price) (x .is), ← p) (within-sell (o .order .side) (10_000_000 + o .order .price) (r .level) (o .side ∙ side) ok);
-        }
+        line-within w l (x .of) (x .is) (o .order .side) (10_000_000 + o .order .price) (o .side) (cents-price (o .order .price) ∙ o .limit)
+        (traded-met (x .of) (x .there) (sym (ap (λ (y : Line). y .kind) (x .is)) ∙ kind) (sym (ap (λ (y : Line). y .number) (x .is)) ∙ number))
 
   -- no other number
   other-law : (n : ℕ) → Unknown n log → {l : Law} → About n l → tally (come l) rs ≡ tally (gone l) rs + size l end

@@ -25,7 +25,7 @@ use Rattle.rules.specs.declared.Strategy.{Strategy}
 use Rattle.rules.specs.declared.Entry.{Entry}
 use Rattle.rules.specs.declared.State.{State}
 use Rattle.rules.specs.State.{noStrategy, fresh, entryAt, strategyAt, withStrategies}
-use Rattle.rules.specs.Strategies.{twice, held, define, shutSet}
+use Rattle.rules.specs.Strategies.{twice, held, added, define, shutSet}
 use Rattle.rules.specs.Auctions.{liveIn, running, isNumber, starterSlot}
 use Rattle.rules.specs.Events.{live, oldSweep}
 use Rattle.rules.specs.Given.{legsGiven, strategyGiven, orderGiven, sweepGiven, legOrderGiven}
@@ -107,11 +107,11 @@ module _ (b : State) (t : Strategy) (v : Valid b) (fit : FitStrategy t) (two : 2
       (λ q. rw (more-other k q) (v .settled k .openLegs))
 
   define-near : (k : ℕ) → Nearly (define t b) k 32
-  unfolding define
+  unfolding define added
   define-near k = pick-by (λ (c : State). Nearly c k 32) (held b t) (λ _. settled-nearly 32 (v .settled k)) (λ h. more-near (room h) k)
 
   define-legs : (k : ℕ) → OpenLegs (define t b) k
-  unfolding define
+  unfolding define added
   define-legs k = pick-by (λ (c : State). OpenLegs c k) (held b t) (λ _. v .settled k .openLegs) (λ h. more-legs (room h) k)
 
   define-valid : Valid (define t b)
@@ -200,10 +200,6 @@ sweep-given b e f u r n l =
     place true t h = inl (ltb-true _ _ t)
     place false t h = inr (sweeps-left b (then-no (replaces b e) h t))
 
-sweep-accept : (b : State) (e : GivenSweep) → Valid b → FitSweepGiven e → undefined b (e .strategy) ≡ false → running b (e .strategy) ≡ true → noRoom b e ≡ false → sweepNumbersOut b e ≡ false → Valid (accept b (E.Sweep e) .state)
-unfolding accept sweepGiven
-sweep-accept b e v f u r o n = sweep-valid b (sweepGiven b e) v refl r (sweep-given b e f u o n)
-
 pub order-given : (b : State) (e : GivenLegOrder) → FitLegOrderGiven e → legOrdersFull b ≡ false → numbersOut b ≡ false → EnteringOrder b (legOrderGiven b e)
 unfolding legOrderGiven
 order-given b e f o n = record {
@@ -221,32 +217,46 @@ order-given b e f o n = record {
   room = legOrders-left b o;
 }
 
--- An event that is accepted.
+-- What an event brings where nothing refuses it: an order that may enter, a sweep of a running auction that may enter if it has units, a leg order that may enter.
 
-pub accept-valid : (b : State) (e : Event) → Valid b → FitEvent e → first (causes b e) ≡ 0 → Valid (accept b e .state)
-unfolding accept causes
-accept-valid b (E.Strategy e) v f c =
-    let x = clear 5 (illFormed e) _ (omega arith) c in
-    let y = clear 12 (strategiesFull b e) _ (omega arith) (x .1) in
-    strategy-valid b e v f (x .0) (y .0)
-accept-valid b (E.Order e) v f c =
+pub order-clear : (b : State) (e : GivenOrder) → Sound b → FitOrderGiven e → first (causes b (E.Order e)) ≡ 0 → Entering b (orderGiven b e)
+unfolding causes
+order-clear b e s f c =
     let x = clear 4 (undefined b (e .strategy)) _ (omega arith) c in
     let y = clear 9 (unanswerable b (e .life) (e .strategy)) _ (omega arith) (x .1) in
     let z = clear 12 (ordersFull b) _ (omega arith) (y .1) in
     let w = clear 13 (numbersOut b) _ (omega arith) (z .1) in
-    order-valid b (orderGiven b e) v (order-entering b e (v .sound) f (x .0) (z .0) (w .0))
-accept-valid b (E.Sweep e) v f c =
+    order-entering b e s f (x .0) (z .0) (w .0)
+
+pub sweep-clear : (b : State) (e : GivenSweep) → FitSweepGiven e → first (causes b (E.Sweep e)) ≡ 0 → (running b (e .strategy) ≡ true) × (0 < e .units → Sweeping b (sweepGiven b e))
+unfolding causes
+sweep-clear b e f c =
     let x = clear 4 (undefined b (e .strategy)) _ (omega arith) c in
     let y = clear 9 (not (running b (e .strategy))) _ (omega arith) (x .1) in
     let z = clear 10 (removesNone b e) _ (omega arith) (y .1) in
     let w = clear 12 (noRoom b e) _ (omega arith) (z .1) in
     let u = clear 13 (sweepNumbersOut b e) _ (omega arith) (w .1) in
-    sweep-accept b e v f (x .0) (not-false _ (y .0)) (w .0) (u .0)
-accept-valid b (E.LegOrder e) v f c =
+    (not-false _ (y .0), sweep-given b e f (x .0) (w .0) (u .0))
+
+pub legOrder-clear : (b : State) (e : GivenLegOrder) → FitLegOrderGiven e → first (causes b (E.LegOrder e)) ≡ 0 → EnteringOrder b (legOrderGiven b e)
+unfolding causes
+legOrder-clear b e f c =
     let x = clear 6 (notOpen b (e .series)) _ (omega arith) c in
     let y = clear 12 (legOrdersFull b) _ (omega arith) (x .1) in
     let z = clear 13 (numbersOut b) _ (omega arith) (y .1) in
-    legOrder-valid b (legOrderGiven b e) v (order-given b e f (y .0) (z .0))
+    order-given b e f (y .0) (z .0)
+
+-- An event that is accepted.
+
+pub accept-valid : (b : State) (e : Event) → Valid b → FitEvent e → first (causes b e) ≡ 0 → Valid (accept b e .state)
+unfolding accept causes sweepGiven
+accept-valid b (E.Strategy e) v f c =
+    let x = clear 5 (illFormed e) _ (omega arith) c in
+    let y = clear 12 (strategiesFull b e) _ (omega arith) (x .1) in
+    strategy-valid b e v f (x .0) (y .0)
+accept-valid b (E.Order e) v f c = order-valid b (orderGiven b e) v (order-clear b e (v .sound) f c)
+accept-valid b (E.Sweep e) v f c = let x = sweep-clear b e f c in sweep-valid b (sweepGiven b e) v refl (x .0) (x .1)
+accept-valid b (E.LegOrder e) v f c = legOrder-valid b (legOrderGiven b e) v (legOrder-clear b e f c)
 accept-valid b (E.Cancel e) v f c =
     let x = clear 7 (notFound b (e .member) (e .number)) _ (omega arith) c in
     let y = clear 8 (isStarter b (e .number)) _ (omega arith) (x .1) in

@@ -1,7 +1,7 @@
 -- What each event does where it is accepted.
 use mathlib.Core.Bool.{Bool, true, false, not}
 use mathlib.Core.List.{List, [], _∷_, _++_}
-use Prim.Native.Nat.{ℕ, _+_, _-_, _^_}
+use Prim.Native.Nat.{ℕ, _+_, _-_, _^_, min}
 use lib.Dec.{eqb, ltb}
 use lib.ListN.{length, take, replicate}
 use Rattle.base.specs.Pick.{pick}
@@ -188,9 +188,9 @@ onSeries s state b =
 unfoldable pub closeRunning : ℕ → State → Moved
 closeRunning k b = pick (running b k) (close k b) (still b)
 
--- the lowest number that is live, 0 where none is
+-- the lowest number that is live: the lower of two numbers, of which 0 is none
 unfoldable pub lower : ℕ → ℕ → ℕ
-lower n m = pick (eqb n 0) m (pick (ltb m n) m n)
+lower n m = pick (eqb n 0) m (pick (eqb m 0) n (min n m))
 
 -- .. looking at the entry at slot i
 abbrev pub lowerEntry : State → ℕ → ℕ → ℕ

@@ -120,9 +120,13 @@ numberOf b s = firstN (sameAt b s) (b .defined)
 abbrev pub held : State → Strategy → Bool
 held b s = ltb (numberOf b s) (b .defined)
 
+-- the next number is the strategy's
+unfoldable pub added : Strategy → State → State
+added s b = withStrategies b (set (b .strategies) (b .defined) s) (b .defined + 1)
+
 -- the state with the strategy among those held
 unfoldable pub define : Strategy → State → State
-define s b = pick (held b s) b (withStrategies b (set (b .strategies) (b .defined) s) (b .defined + 1))
+define s b = pick (held b s) b (added s b)
 
 -- the shut legs of a strategy, whether all are open, and whether it holds a series
 unfoldable pub shutSet : State → ℕ → ℕ

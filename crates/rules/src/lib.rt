@@ -22,7 +22,7 @@ pub struct Strategy {
 // A complex order, or a sweep (life 4). An entry of 0 units is empty. Its level is the limit in cents and 10,000,000 more.
 pub struct Entry {
     pub number: u32,
-    pub member: u16,
+    pub member: u32,
     pub strategy: u8,
     pub side: u8,
     pub class: u8,

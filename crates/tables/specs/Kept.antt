@@ -6,10 +6,10 @@ use Prim.Native.Nat.{ℕ, suc, _+_, _≤_, _<_}
 use native.Mathlib.Numerals.{add-one}
 use native.Mathlib.Omega.{arith}
 use lib.ListN.{length, getD, take, replicate, length-append, length-take}
-use lib.Seq.{take-suc, take-all, append-snoc}
+use lib.Seq.{take-suc, take-all, take-at, append-snoc}
 use Rattle.base.specs.Pick.{pick-all, pick-ap, pick-true, pick-false}
 use Rattle.rules.specs.Events.{keep, behind}
-use Rattle.tables.specs.Padded.{padTo, pad-take}
+use Rattle.tables.specs.Padded.{padTo, pad-take, pad-full}
 
 module _ {A : Type 0} (test : A → Bool) where
   pub keep-append : (xs ys : List A) → keep test (xs ++ ys) ≡ keep test xs ++ keep test ys
@@ -47,3 +47,8 @@ module _ {A : Type 0} (test : A → Bool) where
   behind-is d x xs h =
       ap (take 32) (sym (append-snoc (keep test xs) x (replicate 32 d)))
       ∙ pad-take d (keep test xs ++ (x ∷ [])) 32 32 (rw length-append (omega arith)) (omega arith)
+
+  -- a full table has no place for it
+  pub behind-full : (d x : A) (xs : List A) → length (keep test xs) ≡ 32 → behind test d x xs ≡ padTo 32 d (keep test xs)
+  unfolding behind
+  behind-full d x xs h = take-at (keep test xs) _ 32 h ∙ sym (pad-full d 32 (keep test xs) h)

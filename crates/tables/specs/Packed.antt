@@ -7,7 +7,7 @@ use native.Mathlib.Omega.{arith}
 use lib.ListN.{length, getD, set, take, replicate, length-append}
 use Rattle.rules.specs.Events.{keep, behind}
 use Rattle.tables.specs.Padded.{padTo, pad-set, pad-none}
-use Rattle.tables.specs.Kept.{keep-skip, keep-more, keep-room, keep-all, behind-is}
+use Rattle.tables.specs.Kept.{keep-skip, keep-more, keep-room, keep-length, keep-all, behind-is, behind-full}
 
 -- n of the first i rows are live
 pub record Counted {A : Type 0} (test : A → Bool) (xs : List A) (i n : ℕ) : Type 0 where
@@ -57,5 +57,13 @@ module _ {A : Type 0} (test : A → Bool) (d : A) (xs : List A) where
     counted-all g = rw all at (g .count)
 
     -- a store behind them
-    pub inserted : {ys : List A} {n : ℕ} (x : A) → length (keep test xs) < 32 → Packing test d xs i ys n → set ys n x ≡ behind test d x xs
-    inserted x r g = rw (g .rows, g .counted .count, all) (pad-set d 32 (keep test xs) x r ∙ sym (behind-is test d x xs r))
+    pub inserted : {ys : List A} {n : ℕ} (x : A) → n < 32 → Packing test d xs i ys n → set ys n x ≡ behind test d x xs
+    inserted x r g =
+        let f : length (keep test xs) < 32 = omega (arith, counted-all (g .counted)) in
+        rw (g .rows, g .counted .count, all) (pad-set d 32 (keep test xs) x f ∙ sym (behind-is test d x xs f))
+
+    -- none in a full table
+    pub inserted-none : {ys : List A} {n : ℕ} (x : A) → 32 ≤ n → Packing test d xs i ys n → ys ≡ behind test d x xs
+    inserted-none x r g =
+        let f : length (keep test xs) ≡ 32 = omega (arith, counted-all (g .counted), keep-length test xs) in
+        rw (g .rows, all) (sym (behind-full test d x xs f))

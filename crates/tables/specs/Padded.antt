@@ -1,6 +1,6 @@
 -- A table of n rows: some in front, empty ones behind them.
 use mathlib.Core.Path.{_≡_, refl, sym, _∙_, ap}
-use mathlib.Core.List.{List, [], _∷_, _++_}
+use mathlib.Core.List.{List, [], _∷_, _++_, append-nil}
 use Prim.Native.Nat.{ℕ, zero, suc, _-_, _≤_, _<_}
 use native.Mathlib.Omega.{arith}
 use lib.ListN.{length, set, take, replicate, length-append}
@@ -36,3 +36,8 @@ module _ {A : Type 0} (d : A) where
   pub pad-none : (n : ℕ) → padTo n d [] ≡ replicate n d
   unfolding padTo
   pad-none n = let e : n - 0 ≡ n = omega arith in rw e
+
+  -- no place is left
+  pub pad-full : (n : ℕ) (xs : List A) → length xs ≡ n → padTo n d xs ≡ xs
+  unfolding padTo
+  pad-full n xs h = let e : n - length xs ≡ 0 = omega arith in rw e (append-nil xs)

@@ -9,16 +9,10 @@ use borrow.Author.Tests.{ne-eqb}
 use lib.ListN.{length, set}
 use Rattle.base.specs.Pick.{pick-false, tests}
 use Rattle.base.specs.Walks.{walk, seam, seam-next, seam-last, below}
-use Rattle.base.specs.Gcd.{gcd, gcd-step, gcd-pos}
+use Rattle.base.specs.Gcd.{gcd, gcd-step}
 use Rattle.rules.specs.declared.Leg.{Leg}
 use Rattle.rules.specs.State.{noLeg}
-use Rattle.rules.specs.Strategies.{ratioOf, divisor, dividedAt, lowestTerms, smallestStep}
-
--- the legs of a definition: one or more of six rows in use, each with a ratio
-pub record Given (legs : List Leg) (count : ℕ) : Type 0 where
-  pub some : 1 ≤ count
-  pub few : count ≤ 6
-  pub used : (i : ℕ) → i < count → 0 < ratioOf legs i
+use Rattle.rules.specs.Strategies.{divisor, dividedAt, lowestTerms, smallestStep}
 
 -- laws
 
@@ -28,11 +22,6 @@ gcd-end a b e = rw (gcd-step a b) (search tests)
 
 pub gcd-next : (a b : ℕ) → ¬ (b ≡ 0) → gcd b (a % b) ≡ gcd a b
 gcd-next a b e = sym (gcd-step a b ∙ pick-false _ _ _ (ne-eqb _ _ e))
-
-pub divisor-pos : (legs : List Leg) (count : ℕ) → Given legs count → 0 < divisor legs count
-unfolding divisor walk
-divisor-pos legs zero g = absurd (omega (arith, g .some))
-divisor-pos legs (suc k) g = gcd-pos (ratioOf legs k) (divisor legs k) (g .used k (omega arith))
 
 -- the smallest ratio is at most 12
 pub smallest-most : (legs : List Leg) (k : ℕ) → walk (smallestStep legs) 12 k ≤ 12

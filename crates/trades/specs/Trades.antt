@@ -1,6 +1,7 @@
 -- Laws of the trade of a leg order, and of its cancel.
 use mathlib.Core.Path.{_≡_, refl, sym, _∙_, ap}
 use mathlib.Core.Bool.{Bool, true, false}
+use mathlib.Core.Logic.{⊎-elim}
 use mathlib.Core.List.{List, [], _∷_, append-nil}
 use Prim.Native.Nat.{ℕ, zero, suc, _+_, _-_, _≤_, _<_, min}
 use native.Mathlib.Nat.{zero-add, suc-add}
@@ -8,12 +9,14 @@ use native.Mathlib.Omega.{arith}
 use borrow.Author.Tests.{eq-eqb, ne-eqb, lt-ltb, le-ltb}
 use lib.Dec.{eqb, ltb}
 use lib.IntN.{ℤ}
+use lib.ListN.{length, getD, set, length-set, List·getD-eq-default}
 use Rattle.base.specs.Pick.{pick, pick-all, pick-true, pick-false}
 use Rattle.base.specs.All.{All, all-set}
+use Rattle.base.specs.Walks.{lt-or-le}
 use Rattle.rules.specs.declared.LegOrder.{LegOrder}
 use Rattle.rules.specs.declared.Record.{Record}
 use Rattle.rules.specs.declared.State.{State}
-use Rattle.rules.specs.State.{orderAt, withOrders}
+use Rattle.rules.specs.State.{noOrder, orderAt, withOrders}
 use Rattle.rules.specs.Moves.{Moved, still, and-then, each}
 use Rattle.rules.specs.Fills.{orderRecord, cutOrder, cutLeg, legTrade, cancelLegRecord, cancelOrder}
 use Rattle.rules.specs.Events.{bestOrder, tradeOnce, tradeAll}
@@ -43,24 +46,36 @@ cancel-small o f = record { number = f .number; quantity = omega (arith, f .cont
 cut-order-fits : (o : LegOrder) (q : ℕ) → FitOrder o → FitOrder (cutOrder o q)
 cut-order-fits o q f = record { number = f .number; member = f .member; series = f .series; side = f .side; contracts = omega (arith, f .contracts); price = f .price }
 
-cut-fits : (b : State) (i q : ℕ) → All FitOrder (b .orders) → All FitOrder (cutLeg b i q .orders)
-unfolding cutLeg withOrders
-cut-fits b i q a = all-set _ (cut-order-fits (orderAt b i) q (fit-order a i)) a i
+-- what cuts keep, the trades keep
+module _ (P : List LegOrder → Type 0) (kept : (os : List LegOrder) (i q : ℕ) → P os → P (set os i (cutOrder (getD os i noOrder) q))) where
+  cut-keeps : (b : State) (i q : ℕ) → P (b .orders) → P (cutLeg b i q .orders)
+  unfolding cutLeg withOrders
+  cut-keeps b i q h = kept (b .orders) i q h
 
-trade-fits : (b : State) (a h : ℕ) → All FitOrder (b .orders) → All FitOrder (legTrade b a h .state .orders)
-unfolding legTrade
-trade-fits b a h f = cut-fits _ h _ (cut-fits b a _ f)
+  trade-keeps : (b : State) (a h : ℕ) → P (b .orders) → P (legTrade b a h .state .orders)
+  unfolding legTrade
+  trade-keeps b a h p = cut-keeps _ h _ (cut-keeps b a _ p)
 
-once-fits : (a i : ℕ) (b : State) → All FitOrder (b .orders) → All FitOrder (tradeOnce a i b .state .orders)
-unfolding tradeOnce
-once-fits a i b f =
-    let P : Moved → Type 0 = λ (m : Moved). All FitOrder (m .state .orders) in
-    pick-all P _ f (pick-all P _ (trade-fits b a _ f) f)
+  once-keeps : (a i : ℕ) (b : State) → P (b .orders) → P (tradeOnce a i b .state .orders)
+  unfolding tradeOnce
+  once-keeps a i b p =
+      let Q : Moved → Type 0 = λ (m : Moved). P (m .state .orders) in
+      pick-all Q _ p (pick-all Q _ (trade-keeps b a _ p) p)
 
-pub trades-fit : (a i : ℕ) (b : State) → All FitOrder (b .orders) → All FitOrder (each (tradeOnce a) i b .state .orders)
-unfolding each and-then
-trades-fit a zero b f = f
-trades-fit a (suc i) b f = once-fits a i _ (trades-fit a i b f)
+  trades-keep : (a i : ℕ) (b : State) → P (b .orders) → P (each (tradeOnce a) i b .state .orders)
+  unfolding each and-then
+  trades-keep a zero b p = p
+  trades-keep a (suc i) b p = once-keeps a i _ (trades-keep a i b p)
+
+trades-fit : (a i : ℕ) (b : State) → All FitOrder (b .orders) → All FitOrder (each (tradeOnce a) i b .state .orders)
+trades-fit = trades-keep (All FitOrder) (λ os i q f. all-set _ (cut-order-fits (getD os i noOrder) q (fit-order f i)) f i)
+
+trades-rows : (a i : ℕ) (b : State) → length (b .orders) ≡ 32 → length (each (tradeOnce a) i b .state .orders) ≡ 32
+trades-rows = trades-keep (λ (os : List LegOrder). length os ≡ 32) (λ os i q n. length-set os i _ ∙ n)
+
+-- past the table stands no order
+order-past : (b : State) (i : ℕ) → length (b .orders) ≡ 32 → 32 ≤ i → orderAt b i .contracts ≡ 0
+order-past b i n h = ap (λ (o : LegOrder). o .contracts) (List·getD-eq-default (b .orders) noOrder {n = i} (omega arith))
 
 -- ONE TRADE
 module _ (b : State) (a h : ℕ) {q : ℕ} (e : q ≡ min (orderAt b a .contracts) (orderAt b h .contracts)) where
@@ -81,6 +96,9 @@ pub next-none : (a : ℕ) (b : State) → orderAt b a .contracts ≡ 0 → 32 �
 unfolding nextTrade
 next-none a b e = sym (pick-true _ _ _ (eq-eqb _ _ e))
 
+pub next-past : (a : ℕ) (b : State) → length (b .orders) ≡ 32 → 32 ≤ a → 32 ≡ nextTrade a b
+next-past a b n h = next-none a b (order-past b a n h)
+
 pub next-some : (a : ℕ) (b : State) {h : ℕ} → ¬ (orderAt b a .contracts ≡ 0) → h ≡ bestOrder b (orderAt b a) → h ≡ nextTrade a b
 unfolding nextTrade
 next-some a b e g = g ∙ sym (pick-false _ _ _ (ne-eqb _ _ e))
@@ -88,6 +106,10 @@ next-some a b e g = g ∙ sym (pick-false _ _ _ (ne-eqb _ _ e))
 pub next-most : (a : ℕ) (b : State) → nextTrade a b ≤ 32
 unfolding nextTrade
 next-most a b = pick-all (λ (x : ℕ). x ≤ 32) _ (omega arith) (best-order-most b (orderAt b a))
+
+-- an order that trades stands in the table
+pub next-within : (a : ℕ) (b : State) {h : ℕ} → length (b .orders) ≡ 32 → h ≡ nextTrade a b → ¬ (h ≡ 32) → a < 32
+next-within a b n e z = ⊎-elim (λ l. l) (λ l. absurd (z (e ∙ sym (next-past a b n l)))) (lt-or-le a 32)
 
 pub once-trades : (a i : ℕ) (b : State) → nextTrade a b < 32 → tradeOnce a i b ≡ legTrade b a (nextTrade a b)
 unfolding nextTrade tradeOnce pick
@@ -133,6 +155,9 @@ pub cancel-none : (i : ℕ) (b : State) → orderAt b i .contracts ≡ 0 → can
 unfolding cancelOrder
 cancel-none i b e = pick-true _ _ _ (eq-eqb _ _ e)
 
+pub cancel-past : (i : ℕ) (b : State) → length (b .orders) ≡ 32 → 32 ≤ i → cancelOrder i b ≡ still b
+cancel-past i b n h = cancel-none i b (order-past b i n h)
+
 pub cancel-is : (i : ℕ) (b : State) → ¬ (orderAt b i .contracts ≡ 0)
     → cancelOrder i b ≡ record { state = cutLeg b i (orderAt b i .contracts); records = cancelLegRecord (orderAt b i) ∷ [] }
 unfolding cancelOrder
@@ -148,3 +173,7 @@ cancel-done i b e w g = done-of (cancel-is i b e) (record { wrote = w; state = g
 -- the orders of a state that turns have led to fit
 pub fit-after : (a i : ℕ) (b : State) {sp sq : List ℤ} {n m : ℕ} {c : State} → All FitOrder (b .orders) → Done sp sq n m c (each (tradeOnce a) i b) → All FitOrder (c .orders)
 fit-after a i b f d = rw (d .state) (trades-fit a i b f)
+
+-- .. and are 32
+pub rows-after : (a i : ℕ) (b : State) {sp sq : List ℤ} {n m : ℕ} {c : State} → length (b .orders) ≡ 32 → Done sp sq n m c (each (tradeOnce a) i b) → length (c .orders) ≡ 32
+rows-after a i b l d = rw (d .state) (trades-rows a i b l)

@@ -81,9 +81,11 @@ fn leg_trade(b: State, a: usize, h: usize, space: &mut [i32], n: usize) -> After
 
 // The slot that the leg order at slot a trades with next, 32 where there is none.
 fn next_trade(b: State, a: usize) -> usize
-    requires { ⌜ a < 32 ⌝ }
     ensures { λ h. ⌜ h ≡ nextTrade a b ⌝ }
 {
+    if 32 <= a {
+        return 32;
+    }
     let o = b.orders[a];
     if o.contracts == 0 {
         return 32;
@@ -93,7 +95,7 @@ fn next_trade(b: State, a: usize) -> usize
 
 // The trades of the leg order at slot a, until none meets it or nothing of it is left.
 pub fn trade_all(b: State, a: usize, space: &mut [i32], n: usize) -> After
-    requires { ⌜ (a < 32) × All FitOrder (b .orders) ⌝ }
+    requires { ⌜ All FitOrder (b .orders) ⌝ }
     requires { ⌜ Room (now space) n (tradeAll a b .records) ⌝ }
     ensures { λ t. ⌜ Done (now (space .entry)) (now (space .exit)) n (t .count) (t .state) (tradeAll a b) ⌝ }
 {
@@ -126,12 +128,15 @@ fn cancel_leg_record(o: LegOrder) -> Record
     }
 }
 
-// The cancel of all that is live of the leg order at slot i.
+// The cancel of all that is live of the leg order at slot i; past the last slot there is none.
 pub fn cancel_order(b: State, i: usize, space: &mut [i32], n: usize) -> After
-    requires { ⌜ (i < 32) × All FitOrder (b .orders) ⌝ }
+    requires { ⌜ All FitOrder (b .orders) ⌝ }
     requires { ⌜ Room (now space) n (cancelOrder i b .records) ⌝ }
     ensures { λ t. ⌜ Done (now (space .entry)) (now (space .exit)) n (t .count) (t .state) (cancelOrder i b) ⌝ }
 {
+    if 32 <= i {
+        return After { state: b, count: n };
+    }
     let o = b.orders[i];
     if o.contracts == 0 {
         return After { state: b, count: n };

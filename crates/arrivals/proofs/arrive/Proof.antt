@@ -15,75 +15,57 @@ use Rattle.auctions.proofs.begin.Reads as begin-reads
 use Rattle.endings.proofs.running.Reads as running-reads
 use Rattle.matching.proofs.all_open.Reads as all-open-reads
 
--- src/lib.rt:114:13
 mul-e : tie.Need-mul-e
 mul-e c = search needs
 
--- src/lib.rt:114:13
 element-copy-out-e : tie.Need-element-copy-out-e
 element-copy-out-e c = search needs
 
--- src/lib.rt:115:13
 cast-k : tie.Need-cast-k
 cast-k c = search needs
 
--- src/lib.rt:116:8
 all-open-requires : tie.Need-all-open-requires
 all-open-requires c κs = fit-entry (c .before .before .pre .0 .1 .entries) (c .before .before .args .i) .strategy
 
--- src/lib.rt:117:12
 running-requires : tie.Need-running-requires
 running-requires c κs = fit-entry (c .before .before .before .before .pre .0 .1 .entries) (c .before .before .before .before .args .i) .strategy
 
--- src/lib.rt:118:13
 waits-requires : tie.Need-waits-requires
 waits-requires c κs = (c .before .before .before .before .before .before .before .pre .0, room-of (arrive-waits _ _ (told (c .before .before .before .before .all-open .ensures) (c .before .before .before .if1 .taken)) (told (c .before .before .running .ensures) (c .before .if2 .taken))) (c .before .before .before .before .before .before .before .pre .1))
 
--- src/lib.rt:118:13
 same-length : tie.Need-same-length
 same-length c = search needs
 
--- src/lib.rt:118:13
 returns : tie.Need-returns
 returns c = done-of (arrive-waits _ _ (told (c .before .before .before .before .before .before .all-open .ensures) (c .before .before .before .before .before .if1 .taken)) (told (c .before .before .before .before .running .ensures) (c .before .before .before .if2 .taken))) (c .before .waits .ensures)
 
--- src/lib.rt:120:12
 starts-requires : tie.Need-starts-requires
-starts-requires c κs = (fit-entry (c .before .before .before .before .before .before .pre .0 .1 .entries) (c .before .before .before .before .before .before .args .i) .strategy, c .before .before .before .before .before .before .pre .0 .1)
+starts-requires c κs = c .before .before .before .before .before .before .pre .0 .1
 
--- src/lib.rt:121:13
 begin-requires : tie.Need-begin-requires
 begin-requires c κs = (c .before .before .before .before .before .before .before .before .before .pre .0, room-of (arrive-begins _ _ (told (c .before .before .before .before .before .before .all-open .ensures) (c .before .before .before .before .before .if1 .taken)) (told (c .before .before .before .before .running .ensures) (c .before .before .before .if2 .left)) (told (c .before .before .starts .ensures) (c .before .if3 .taken))) (c .before .before .before .before .before .before .before .before .before .pre .1))
 
--- src/lib.rt:121:13
 same-length-2 : tie.Need-same-length-2
 same-length-2 c = search needs
 
--- src/lib.rt:121:13
 returns-2 : tie.Need-returns-2
 returns-2 c = done-of (arrive-begins _ _ (told (c .before .before .before .before .before .before .before .before .all-open .ensures) (c .before .before .before .before .before .before .before .if1 .taken)) (told (c .before .before .before .before .before .before .running .ensures) (c .before .before .before .before .before .if2 .left)) (told (c .before .before .before .before .starts .ensures) (c .before .before .before .if3 .taken))) (c .before .begin .ensures)
 
--- src/lib.rt:123:9
 trades-requires : tie.Need-trades-requires
 trades-requires c κs = (c .before .before .before .before .before .before .before .before .before .pre .0, room-of (arrive-trades _ _ (told (c .before .before .before .before .before .before .all-open .ensures) (c .before .before .before .before .before .if1 .taken)) (told (c .before .before .before .before .running .ensures) (c .before .before .before .if2 .left)) (told (c .before .before .starts .ensures) (c .before .if3 .left))) (c .before .before .before .before .before .before .before .before .before .pre .1))
 
--- src/lib.rt:123:9
 same-length-3 : tie.Need-same-length-3
 same-length-3 c = search needs
 
--- src/lib.rt:123:9
 returns-3 : tie.Need-returns-3
 returns-3 c = done-of (arrive-trades _ _ (told (c .before .before .before .before .before .before .before .before .all-open .ensures) (c .before .before .before .before .before .before .before .if1 .taken)) (told (c .before .before .before .before .before .before .running .ensures) (c .before .before .before .before .before .if2 .left)) (told (c .before .before .before .before .starts .ensures) (c .before .before .before .if3 .left))) (c .before .trades .ensures)
 
--- src/lib.rt:125:5
 rest-or-cancel-requires : tie.Need-rest-or-cancel-requires
 rest-or-cancel-requires c κs = (c .before .before .before .before .before .pre .0, room-of (arrive-shut _ _ (told (c .before .before .all-open .ensures) (c .before .if1 .left))) (c .before .before .before .before .before .pre .1))
 
--- src/lib.rt:109:1
 same-length-4 : tie.Need-same-length-4
 same-length-4 c = search needs
 
--- src/lib.rt:109:1
 returns-4 : tie.Need-returns-4
 returns-4 c = done-of (arrive-shut _ _ (told (c .before .before .before .before .all-open .ensures) (c .before .before .before .if1 .left))) (c .before .rest-or-cancel .ensures)
 

@@ -7,19 +7,15 @@ use Rattle.arrivals.proofs.cancel_at.Reads as reads
 use Rattle.arrivals.proofs.cancel_at.Lts as lts
 use Rattle.fills.proofs.cancel_entry.Reads as cancel-entry-reads
 
--- src/lib.rt:159:9
 cancel-entry-requires : tie.Need-cancel-entry-requires
 cancel-entry-requires c κs = search needs
 
--- src/lib.rt:159:9
 same-length : tie.Need-same-length
 same-length c = search needs
 
--- src/lib.rt:159:9
 returns : tie.Need-returns
 returns c = search needs
 
--- src/lib.rt:153:1
 returns-2 : tie.Need-returns-2
 returns-2 c = done-of (cancel-past _ _ (c .before .pre .0 .entryRows) (c .if1 .left)) (done-still _ _ _)
 

@@ -9,30 +9,24 @@ use Rattle.auctions.proofs.answer.Reads as answer-reads
 use Rattle.entries.proofs.enter.Reads as enter-reads
 use Rattle.entries.proofs.live.Reads as live-reads
 
--- src/lib.rt:144:8
 live-requires : tie.Need-live-requires
 live-requires c κs = search needs
 
--- src/lib.rt:145:13
 enter-requires : tie.Need-enter-requires
-enter-requires c κs = c .before .before .pre .0 .slot (told (c .before .live .ensures) (c .if1 .taken))
+enter-requires c κs = search needs
 
--- src/lib.rt:146:17
 cast-k : tie.Need-cast-k
 cast-k c = search needs
 
--- src/lib.rt:147:9
 answer-requires : tie.Need-answer-requires
 answer-requires c κs =
-    let k = c .before .before .before in
-    let f = k .before .pre .0 .fit (told (k .live .ensures) (c .before .before .if1 .taken)) in
-    (f .strategy, fit-enter _ _ (c .before .enter .ensures) f (k .before .pre .1))
+    let k = c .before .before .before .before in
+    let f = k .before .pre .0 .fit (told (k .live .ensures) (c .before .before .before .if1 .taken)) in
+    (f .strategy, fit-enter _ _ (c .before .before .enter .ensures .0) f (k .before .pre .1))
 
--- src/lib.rt:147:9
 returns : tie.Need-returns
-returns c = sweep-enters _ _ (told (c .before .before .before .before .live .ensures) (c .before .before .before .if1 .taken)) (c .before .before .enter .ensures) (c .answer .ensures)
+returns c = sweep-enters _ _ (told (c .before .before .before .before .before .live .ensures) (c .before .before .before .before .if1 .taken)) (c .before .before .before .enter .ensures .0) (c .answer .ensures)
 
--- src/lib.rt:140:1
 returns-2 : tie.Need-returns-2
 returns-2 c = sweep-none _ _ (told (c .before .live .ensures) (c .if1 .left))
 

@@ -4,11 +4,9 @@ use Rattle.arrivals.proofs.is_either.Tie as tie
 use Rattle.arrivals.proofs.is_either.Reads as reads
 use Rattle.arrivals.proofs.is_either.Lts as lts
 
--- src/lib.rt:50:9
 returns : tie.Need-returns
 returns c = search tests
 
--- src/lib.rt:46:1
 returns-2 : tie.Need-returns-2
 returns-2 c = search tests
 

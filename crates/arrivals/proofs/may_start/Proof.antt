@@ -8,20 +8,16 @@ use Rattle.arrivals.proofs.may_start.Reads as reads
 use Rattle.arrivals.proofs.may_start.Lts as lts
 use Rattle.arrivals.proofs.is_either.Reads as is-either-reads
 
--- src/lib.rt:59:8
 is-either-requires : tie.Need-is-either-requires
 is-either-requires c κs = search needs
 
--- src/lib.rt:60:9
 is-either-requires-2 : tie.Need-is-either-requires-2
 is-either-requires-2 c κs = search needs
 
--- src/lib.rt:60:9
 returns : tie.Need-returns
 unfolding mayStart
 returns c = c .is-either2 .ensures ∙ sym (pick-true _ _ _ (told (c .before .before .is-either .ensures) (c .before .if1 .taken)))
 
--- src/lib.rt:56:1
 returns-2 : tie.Need-returns-2
 unfolding mayStart
 returns-2 c = sym (pick-false _ _ _ (told (c .before .is-either .ensures) (c .if1 .left)))

@@ -1,6 +1,6 @@
 use mathlib.Core.Path.{sym}
 use Rattle.rules.specs.Events.{onSweep}
-use Rattle.arrivals.specs.Arrivals.{old-is, fit-cancel, slot-after}
+use Rattle.arrivals.specs.Arrivals.{old-is, fit-cancel}
 use Rattle.records.specs.Done.{done-still, done-of, done-then, room-of, room-then}
 use borrow.Author.Needs.{needs}
 use Rattle.arrivals.proofs.on_sweep.Statement.{statement}
@@ -11,24 +11,19 @@ use Rattle.arrivals.proofs.cancel_at.Reads as cancel-at-reads
 use Rattle.arrivals.proofs.enter_sweep.Reads as enter-sweep-reads
 use Rattle.entries.proofs.old_sweep.Reads as old-sweep-reads
 
--- src/lib.rt:170:9
 old-sweep-requires : tie.Need-old-sweep-requires
 old-sweep-requires c κs = search needs
 
--- src/lib.rt:171:9
 cancel-at-requires : tie.Need-cancel-at-requires
 unfolding onSweep
 cancel-at-requires c κs = (c .before .before .pre .0 .1, room-of (old-is _ _ (c .before .old-sweep .ensures)) (room-then _ _ (c .before .before .pre .1)))
 
--- src/lib.rt:173:9
 enter-sweep-requires : tie.Need-enter-sweep-requires
-enter-sweep-requires c κs = (slot-after _ _ _ (c .before .before .before .before .before .pre .0 .0) (done-of (old-is _ _ (c .before .before .before .before .old-sweep .ensures)) (c .before .before .cancel-at .ensures)), fit-cancel _ _ (c .before .before .before .before .before .pre .0 .1) (c .before .before .cancel-at .ensures))
+enter-sweep-requires c κs = (c .before .before .before .before .before .pre .0 .0, fit-cancel _ _ (c .before .before .before .before .before .pre .0 .1) (c .before .before .cancel-at .ensures))
 
--- src/lib.rt:165:1
 same-length : tie.Need-same-length
 same-length c = search needs
 
--- src/lib.rt:165:1
 returns : tie.Need-returns
 unfolding onSweep
 returns c = done-then _ _ (done-of (old-is _ _ (c .before .before .before .before .before .old-sweep .ensures)) (c .before .before .before .cancel-at .ensures)) (done-of (sym (c .enter-sweep .ensures)) (done-still _ _ _))

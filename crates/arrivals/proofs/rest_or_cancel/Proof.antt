@@ -7,27 +7,21 @@ use Rattle.arrivals.proofs.rest_or_cancel.Reads as reads
 use Rattle.arrivals.proofs.rest_or_cancel.Lts as lts
 use Rattle.fills.proofs.cancel_entry.Reads as cancel-entry-reads
 
--- src/lib.rt:39:13
 mul-e : tie.Need-mul-e
 mul-e c = search needs
 
--- src/lib.rt:39:13
 element-copy-out-e : tie.Need-element-copy-out-e
 element-copy-out-e c = search needs
 
--- src/lib.rt:41:9
 returns : tie.Need-returns
 returns c = done-of (rest-day _ _ (c .if1 .taken)) (done-still _ _ _)
 
--- src/lib.rt:43:5
 cancel-entry-requires : tie.Need-cancel-entry-requires
 cancel-entry-requires c κs = (c .before .before .before .before .pre .0, room-of (rest-not _ _ (c .before .if1 .left)) (c .before .before .before .before .pre .1))
 
--- src/lib.rt:34:1
 same-length : tie.Need-same-length
 same-length c = search needs
 
--- src/lib.rt:34:1
 returns-2 : tie.Need-returns-2
 returns-2 c = done-of (rest-not _ _ (c .before .before .before .if1 .left)) (c .before .cancel-entry .ensures)
 

@@ -10,35 +10,27 @@ use Rattle.nets.proofs.leg_net.Reads as leg-net-reads
 use Rattle.sides.proofs.better.Reads as better-reads
 use Rattle.sides.proofs.other.Reads as other-reads
 
--- src/lib.rt:70:8
 may-start-requires : tie.Need-may-start-requires
 may-start-requires c κs = search needs
 
--- src/lib.rt:71:13
 other-requires : tie.Need-other-requires
 other-requires c κs = search needs
 
--- src/lib.rt:72:17
 cast-k : tie.Need-cast-k
 cast-k c = search needs
 
--- src/lib.rt:73:13
 leg-net-requires : tie.Need-leg-net-requires
 leg-net-requires c κs = search needs
 
--- src/lib.rt:75:13
 returns : tie.Need-returns
 returns c = starts-unknown _ _ (told (c .before .before .before .before .before .may-start .ensures) (c .before .before .before .before .if1 .taken)) (c .before .before .before .other .ensures) (c .before .leg-net .ensures) (c .if2 .taken)
 
--- src/lib.rt:77:9
 better-requires : tie.Need-better-requires
 better-requires c κs = search needs
 
--- src/lib.rt:77:9
 returns-2 : tie.Need-returns-2
 returns-2 c = starts-better _ _ (told (c .before .before .before .before .before .before .may-start .ensures) (c .before .before .before .before .before .if1 .taken)) (c .before .before .before .before .other .ensures) (c .before .before .leg-net .ensures) (c .before .if2 .left) (c .better .ensures)
 
--- src/lib.rt:66:1
 returns-3 : tie.Need-returns-3
 returns-3 c = starts-not _ _ (told (c .before .may-start .ensures) (c .if1 .left))
 

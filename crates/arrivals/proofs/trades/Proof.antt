@@ -9,21 +9,17 @@ use Rattle.arrivals.proofs.trades.Lts as lts
 use Rattle.arrivals.proofs.rest_or_cancel.Reads as rest-or-cancel-reads
 use Rattle.passes.proofs.pass.Reads as pass-reads
 
--- src/lib.rt:103:9
 pass-requires : tie.Need-pass-requires
 unfolding trades
 pass-requires c κs = (c .before .pre .0, room-then _ _ (c .before .pre .1))
 
--- src/lib.rt:105:5
 rest-or-cancel-requires : tie.Need-rest-or-cancel-requires
 unfolding trades
 rest-or-cancel-requires c κs = ((c .before .before .before .before .before .pre .0 .0, fit-pass _ _ _ (c .before .before .before .before .before .pre .0 .1) (c .before .before .before .pass .ensures)), room-after _ _ (c .before .before .before .before .before .pre .1) (c .before .before .before .pass .ensures))
 
--- src/lib.rt:98:1
 same-length : tie.Need-same-length
 same-length c = search needs
 
--- src/lib.rt:98:1
 returns : tie.Need-returns
 unfolding trades
 returns c = done-then _ _ (c .before .before .before .before .before .pass .ensures) (c .before .rest-or-cancel .ensures)

@@ -9,35 +9,27 @@ use Rattle.arrivals.proofs.waits.Lts as lts
 use Rattle.auctions.proofs.answer.Reads as answer-reads
 use Rattle.fills.proofs.cancel_entry.Reads as cancel-entry-reads
 
--- src/lib.rt:88:13
 mul-e : tie.Need-mul-e
 mul-e c = search needs
 
--- src/lib.rt:88:13
 element-copy-out-e : tie.Need-element-copy-out-e
 element-copy-out-e c = search needs
 
--- src/lib.rt:90:9
 cancel-entry-requires : tie.Need-cancel-entry-requires
 cancel-entry-requires c κs = (c .before .before .before .before .pre .0, room-of (waits-not _ _ (c .before .if1 .taken)) (c .before .before .before .before .pre .1))
 
--- src/lib.rt:90:9
 same-length : tie.Need-same-length
 same-length c = search needs
 
--- src/lib.rt:90:9
 returns : tie.Need-returns
 returns c = done-of (waits-not _ _ (c .before .before .before .if1 .taken)) (c .before .cancel-entry .ensures)
 
--- src/lib.rt:92:13
 cast-k : tie.Need-cast-k
 cast-k c = search needs
 
--- src/lib.rt:93:9
 answer-requires : tie.Need-answer-requires
 answer-requires c κs = (fit-entry (c .before .before .before .before .pre .0 .1 .entries) (c .before .before .before .before .args .i) .strategy, c .before .before .before .before .pre .0 .1)
 
--- src/lib.rt:83:1
 returns-2 : tie.Need-returns-2
 returns-2 c = done-of (waits-answers _ _ (c .before .before .if1 .left) (c .answer .ensures)) (done-still _ _ _)
 

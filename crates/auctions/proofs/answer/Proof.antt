@@ -10,35 +10,27 @@ use Rattle.auctions.proofs.side_at.Reads as side-at-reads
 use Rattle.auctions.proofs.starter_slot.Reads as starter-slot-reads
 use Rattle.sides.proofs.other.Reads as other-reads
 
--- src/lib.rt:148:9
 starter-slot-requires : tie.Need-starter-slot-requires
 starter-slot-requires c κs = search needs
 
--- src/lib.rt:149:9
 side-at-requires : tie.Need-side-at-requires
 side-at-requires c κs = search needs
 
--- src/lib.rt:150:9
 other-requires : tie.Need-other-requires
 other-requires c κs = search needs
 
--- src/lib.rt:152:17
 mul-s : tie.Need-mul-s
 mul-s c = search needs
 
--- src/lib.rt:152:17
 element-copy-out-s : tie.Need-element-copy-out-s
 element-copy-out-s c = search needs
 
--- src/lib.rt:153:9
 put-auction-requires : tie.Need-put-auction-requires
 put-auction-requires c κs = search needs
 
--- src/lib.rt:153:9
 returns : tie.Need-returns
 returns c = c .put-auction .ensures ∙ answer-yes _ _ _ (c .before .before .before .before .before .starter-slot .ensures) (c .before .before .before .before .side-at .ensures) (c .before .before .before .other .ensures) (c .before .before .if1 .taken)
 
--- src/lib.rt:144:1
 returns-2 : tie.Need-returns-2
 returns-2 c = answer-no _ _ _ (c .before .before .before .starter-slot .ensures) (c .before .before .side-at .ensures) (c .before .other .ensures) (c .if1 .left)
 

@@ -10,36 +10,28 @@ use Rattle.auctions.proofs.begun_record.Reads as begun-record-reads
 use Rattle.auctions.proofs.put_auction.Reads as put-auction-reads
 use Rattle.records.proofs.push.Reads as push-reads
 
--- src/lib.rt:96:13
 mul-e : tie.Need-mul-e
 mul-e c = search needs
 
--- src/lib.rt:96:13
 element-copy-out-e : tie.Need-element-copy-out-e
 element-copy-out-e c = search needs
 
--- src/lib.rt:97:9
 begun-record-requires : tie.Need-begun-record-requires
 begun-record-requires c κs = search needs
 
--- src/lib.rt:98:9
 push-requires : tie.Need-push-requires
 unfolding begin
 push-requires c κs = rw (c .before .begun-record .ensures) (c .before .before .before .pre .1, begun-small _ (fit-entry (c .before .before .before .pre .0 .1 .entries) _))
 
--- src/lib.rt:99:13
 cast-k : tie.Need-cast-k
 cast-k c = search needs
 
--- src/lib.rt:100:9
 put-auction-requires : tie.Need-put-auction-requires
 put-auction-requires c κs = fit-entry (c .before .before .before .before .before .before .pre .0 .1 .entries) (c .before .before .before .before .before .before .args .i) .strategy
 
--- src/lib.rt:91:1
 same-length : tie.Need-same-length
 same-length c = search needs
 
--- src/lib.rt:91:1
 returns : tie.Need-returns
 unfolding begin
 returns c = record { wrote = rw (c .before .before .before .before .before .begun-record .ensures) at (c .before .before .before .push .ensures); state = c .put-auction .ensures }

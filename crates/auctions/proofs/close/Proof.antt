@@ -9,36 +9,28 @@ use Rattle.auctions.proofs.ended_record.Reads as ended-record-reads
 use Rattle.auctions.proofs.put_auction.Reads as put-auction-reads
 use Rattle.records.proofs.push.Reads as push-reads
 
--- src/lib.rt:123:13
 mul-s : tie.Need-mul-s
 mul-s c = search needs
 
--- src/lib.rt:123:13
 element-copy-out-s : tie.Need-element-copy-out-s
 element-copy-out-s c = search needs
 
--- src/lib.rt:124:37
 cast-ended-record : tie.Need-cast-ended-record
 cast-ended-record c = search needs
 
--- src/lib.rt:124:9
 ended-record-requires : tie.Need-ended-record-requires
 ended-record-requires c κs = search needs
 
--- src/lib.rt:125:9
 push-requires : tie.Need-push-requires
 unfolding close
 push-requires c κs = rw (c .before .ended-record .ensures) (c .before .before .before .pre .1, ended-small _ _ (c .before .before .before .pre .0 .1))
 
--- src/lib.rt:126:9
 put-auction-requires : tie.Need-put-auction-requires
 put-auction-requires c κs = search needs
 
--- src/lib.rt:118:1
 same-length : tie.Need-same-length
 same-length c = search needs
 
--- src/lib.rt:118:1
 returns : tie.Need-returns
 unfolding close
 returns c = record { wrote = rw (c .before .before .before .before .ended-record .ensures) at (c .before .before .push .ensures); state = c .put-auction .ensures }

@@ -7,26 +7,21 @@ use Rattle.auctions.proofs.lapses.Reads as reads
 use Rattle.auctions.proofs.lapses.Lts as lts
 use Rattle.auctions.proofs.live_in.Reads as live-in-reads
 
--- src/lib.rt:160:8
 live-in-requires : tie.Need-live-in-requires
 live-in-requires c κs = search needs
 
--- src/lib.rt:162:13
 returns : tie.Need-returns
 unfolding lapses
 returns c = search (tests, told (c .before .before .before .live-in .ensures) (c .before .before .if1 .taken))
 
--- src/lib.rt:165:13
 returns-2 : tie.Need-returns-2
 unfolding lapses
 returns-2 c = search (tests, told (c .before .before .before .before .before .live-in .ensures) (c .before .before .before .before .if1 .taken))
 
--- src/lib.rt:167:9
 returns-3 : tie.Need-returns-3
 unfolding lapses
 returns-3 c = search (tests, told (c .before .before .before .before .before .before .live-in .ensures) (c .before .before .before .before .before .if1 .taken))
 
--- src/lib.rt:157:1
 returns-4 : tie.Need-returns-4
 unfolding lapses
 returns-4 c = search (tests, told (c .before .live-in .ensures) (c .if1 .left))

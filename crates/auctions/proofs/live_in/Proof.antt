@@ -6,16 +6,13 @@ use Rattle.auctions.proofs.live_in.Tie as tie
 use Rattle.auctions.proofs.live_in.Reads as reads
 use Rattle.auctions.proofs.live_in.Lts as lts
 
--- src/lib.rt:29:9
 returns : tie.Need-returns
 unfolding liveIn
 returns c = search tests
 
--- src/lib.rt:31:13
 cast-s : tie.Need-cast-s
 cast-s c = search needs
 
--- src/lib.rt:25:1
 returns-2 : tie.Need-returns-2
 unfolding liveIn
 returns-2 c = search tests

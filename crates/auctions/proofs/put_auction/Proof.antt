@@ -7,23 +7,18 @@ use Rattle.auctions.proofs.put_auction.Tie as tie
 use Rattle.auctions.proofs.put_auction.Reads as reads
 use Rattle.auctions.proofs.put_auction.Lts as lts
 
--- src/lib.rt:68:17
 mul-s : tie.Need-mul-s
 mul-s c = search needs
 
--- src/lib.rt:68:17
 element-copy-out-s : tie.Need-element-copy-out-s
 element-copy-out-s c = search needs
 
--- src/lib.rt:73:5
 mul-s-2 : tie.Need-mul-s-2
 mul-s-2 c = search needs
 
--- src/lib.rt:73:5
 element-set-from-s : tie.Need-element-set-from-s
 element-set-from-s c = search needs
 
--- src/lib.rt:64:1
 returns : tie.Need-returns
 unfolding putAuction withStrategies
 returns c = refl

@@ -5,19 +5,15 @@ use Rattle.auctions.proofs.side_at.Tie as tie
 use Rattle.auctions.proofs.side_at.Reads as reads
 use Rattle.auctions.proofs.side_at.Lts as lts
 
--- src/lib.rt:135:17
 mul-e : tie.Need-mul-e
 mul-e c = search needs
 
--- src/lib.rt:135:17
 element-copy-out-e : tie.Need-element-copy-out-e
 element-copy-out-e c = search needs
 
--- src/lib.rt:136:9
 returns : tie.Need-returns
 returns c = search needs
 
--- src/lib.rt:131:1
 returns-2 : tie.Need-returns-2
 returns-2 c = side-past (c .before .args .t1 .entries) _ (c .before .pre .entryRows) (c .if1 .left)
 

@@ -16,48 +16,37 @@ Inv-loop k b n i₀ i = (i ≤ 32) × Passed (isNumber b k n) i
 abbrev μ-loop : tie.MeasureT-loop
 μ-loop k b n i₀ i = 32 - i
 
--- src/lib.rt:51:13
 mul-s : tie.Need-mul-s Inv-loop μ-loop
 mul-s c = omega arith
 
--- src/lib.rt:51:13
 element-copy-out-s : tie.Need-element-copy-out-s Inv-loop μ-loop
 element-copy-out-s c = omega arith
 
--- src/lib.rt:54:5
 loop-holds : tie.Need-loop-holds Inv-loop μ-loop
 loop-holds c = (omega arith, passed-first _)
 
--- src/lib.rt:55:17
 mul-e : tie.Need-mul-e Inv-loop μ-loop
 mul-e c = omega arith
 
--- src/lib.rt:55:17
 element-copy-out-e : tie.Need-element-copy-out-e Inv-loop μ-loop
 element-copy-out-e c = omega arith
 
--- src/lib.rt:56:12
 is-number-requires : tie.Need-is-number-requires Inv-loop μ-loop
 is-number-requires c κs = search needs
 
--- src/lib.rt:57:13
 returns : tie.Need-returns Inv-loop μ-loop
 unfolding starterSlot
 returns c = passed-here _ _ 32 (c .before .before .before .before .loop .inv .1) (c .before .before .before .loop-test .taken) (told (c .before .is-number .ensures) (c .if1 .taken))
 
--- src/lib.rt:59:9
 add-i : tie.Need-add-i Inv-loop μ-loop
 add-i c = omega arith
 
--- src/lib.rt:54:5
 loop-less : tie.Need-loop-less Inv-loop μ-loop
 loop-less c = omega arith
 
--- src/lib.rt:54:5
 loop-again : tie.Need-loop-again Inv-loop μ-loop
 loop-again c = (omega arith, passed-next _ _ (c .before .before .before .before .loop .inv .1) (told (c .before .is-number .ensures) (c .if1 .left)))
 
--- src/lib.rt:47:1
 returns-2 : tie.Need-returns-2 Inv-loop μ-loop
 unfolding starterSlot
 returns-2 c = passed-all _ (c .before .loop .i) 32 (c .before .loop .inv .1) (omega arith)

@@ -5,7 +5,6 @@ use Rattle.book.proofs.admit.Tie as tie
 use Rattle.book.proofs.admit.Reads as reads
 use Rattle.book.proofs.admit.Lts as lts
 
--- src/lib.rt:119:1
 returns : tie.Need-returns
 unfolding admit
 returns c = refl

@@ -6,11 +6,9 @@ use Rattle.book.proofs.number_taken.Tie as tie
 use Rattle.book.proofs.number_taken.Reads as reads
 use Rattle.book.proofs.number_taken.Lts as lts
 
--- src/lib.rt:133:9
 returns : tie.Need-returns
 returns c = sym (pick-true _ _ _ (eq-eqb _ 0 (c .if1 .taken)))
 
--- src/lib.rt:129:1
 returns-2 : tie.Need-returns-2
 returns-2 c = sym (pick-false _ _ _ (ne-eqb _ 0 (c .if1 .left)))
 

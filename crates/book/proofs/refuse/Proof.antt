@@ -5,7 +5,6 @@ use Rattle.book.proofs.refuse.Tie as tie
 use Rattle.book.proofs.refuse.Reads as reads
 use Rattle.book.proofs.refuse.Lts as lts
 
--- src/lib.rt:109:1
 returns : tie.Need-returns
 unfolding refuse
 returns c = refl

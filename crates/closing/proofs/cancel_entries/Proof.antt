@@ -22,43 +22,33 @@ Inv-loop number space₀ n c₀ m₀ i₀ space c m i = (i ≤ 32) × Done space
 abbrev μ-loop : tie.MeasureT-loop
 μ-loop number space₀ n c₀ m₀ i₀ space c m i = 32 - i
 
--- src/lib.rt:111:5
 loop-holds : tie.Need-loop-holds Inv-loop μ-loop
 loop-holds c = (omega arith, each-first _ _ _ _)
 
--- src/lib.rt:112:17
 mul-e : tie.Need-mul-e Inv-loop μ-loop
 mul-e c = search needs
 
--- src/lib.rt:112:17
 element-copy-out-e : tie.Need-element-copy-out-e Inv-loop μ-loop
 element-copy-out-e c = c .loop-test .taken
 
--- src/lib.rt:113:12
 has-live-requires : tie.Need-has-live-requires Inv-loop μ-loop
 has-live-requires c κs = search needs
 
--- src/lib.rt:114:17
 cancel-entry-requires : tie.Need-cancel-entry-requires Inv-loop μ-loop
 cancel-entry-requires c κs = ((c .before .before .before .before .loop-test .taken, fit-each (cancelEntryOf (c .before .before .before .before .before .before .args .number)) (cancelEntryOf-kept shrinks-kept (c .before .before .before .before .before .before .args .number)) _ _ (c .before .before .before .before .before .before .pre .0) (c .before .before .before .before .before .loop .inv .1)), room-of (entry-yes _ _ _ (told (c .before .before .has-live .ensures) (c .before .if1 .taken))) (room-each (cancelEntryOf (c .before .before .before .before .before .before .args .number)) 32 _ _ (c .before .before .before .before .before .before .pre .1) (c .before .before .before .before .loop-test .taken) (c .before .before .before .before .before .loop .inv .1)))
 
--- src/lib.rt:118:9
 add-i : tie.Need-add-i Inv-loop μ-loop
 add-i c = omega arith
 
--- src/lib.rt:111:5
 loop-less : tie.Need-loop-less Inv-loop μ-loop
 loop-less c = omega arith
 
--- src/lib.rt:111:5
 loop-again : tie.Need-loop-again Inv-loop μ-loop
 loop-again c = (omega arith, ⊎-elim (λ w. rw (w .5, w .6, w .7) (each-next (cancelEntryOf (c .before .before .before .before .before .args .number)) _ _ (c .before .before .before .before .loop .inv .1) (done-of (entry-yes _ _ _ (told (c .before .has-live .ensures) (w .0 .taken))) (w .2 .ensures)))) (λ w. rw (w .1, w .2, w .3) (each-next (cancelEntryOf (c .before .before .before .before .before .args .number)) _ _ (c .before .before .before .before .loop .inv .1) (done-of (entry-not _ _ _ (told (c .before .has-live .ensures) (w .0 .left))) (done-still _ _ _)))) (c .if1 .came))
 
--- src/lib.rt:103:1
 same-length : tie.Need-same-length Inv-loop μ-loop
 same-length c = done-length (c .before .loop .inv .1)
 
--- src/lib.rt:103:1
 returns : tie.Need-returns Inv-loop μ-loop
 returns c = let e : c .before .loop .i ≡ 32 = omega arith in rw e at (c .before .loop .inv .1)
 

@@ -22,43 +22,33 @@ Inv-loop number space₀ n c₀ m₀ i₀ space c m i = (i ≤ 32) × Done space
 abbrev μ-loop : tie.MeasureT-loop
 μ-loop number space₀ n c₀ m₀ i₀ space c m i = 32 - i
 
--- src/lib.rt:131:5
 loop-holds : tie.Need-loop-holds Inv-loop μ-loop
 loop-holds c = (omega arith, each-first _ _ _ _)
 
--- src/lib.rt:132:17
 mul-o : tie.Need-mul-o Inv-loop μ-loop
 mul-o c = search needs
 
--- src/lib.rt:132:17
 element-copy-out-o : tie.Need-element-copy-out-o Inv-loop μ-loop
 element-copy-out-o c = c .loop-test .taken
 
--- src/lib.rt:133:12
 has-live-requires : tie.Need-has-live-requires Inv-loop μ-loop
 has-live-requires c κs = search needs
 
--- src/lib.rt:134:17
 cancel-order-requires : tie.Need-cancel-order-requires Inv-loop μ-loop
-cancel-order-requires c κs = ((c .before .before .before .before .loop-test .taken, fit-each (cancelOrderOf (c .before .before .before .before .before .before .args .number)) (cancelOrderOf-kept shrinks-kept (c .before .before .before .before .before .before .args .number)) _ _ (c .before .before .before .before .before .before .pre .0) (c .before .before .before .before .before .loop .inv .1) .orders), room-of (order-yes _ _ _ (told (c .before .before .has-live .ensures) (c .before .if1 .taken))) (room-each (cancelOrderOf (c .before .before .before .before .before .before .args .number)) 32 _ _ (c .before .before .before .before .before .before .pre .1) (c .before .before .before .before .loop-test .taken) (c .before .before .before .before .before .loop .inv .1)))
+cancel-order-requires c κs = (fit-each (cancelOrderOf (c .before .before .before .before .before .before .args .number)) (cancelOrderOf-kept shrinks-kept (c .before .before .before .before .before .before .args .number)) _ _ (c .before .before .before .before .before .before .pre .0) (c .before .before .before .before .before .loop .inv .1) .orders, room-of (order-yes _ _ _ (told (c .before .before .has-live .ensures) (c .before .if1 .taken))) (room-each (cancelOrderOf (c .before .before .before .before .before .before .args .number)) 32 _ _ (c .before .before .before .before .before .before .pre .1) (c .before .before .before .before .loop-test .taken) (c .before .before .before .before .before .loop .inv .1)))
 
--- src/lib.rt:138:9
 add-i : tie.Need-add-i Inv-loop μ-loop
 add-i c = omega arith
 
--- src/lib.rt:131:5
 loop-less : tie.Need-loop-less Inv-loop μ-loop
 loop-less c = omega arith
 
--- src/lib.rt:131:5
 loop-again : tie.Need-loop-again Inv-loop μ-loop
 loop-again c = (omega arith, ⊎-elim (λ w. rw (w .5, w .6, w .7) (each-next (cancelOrderOf (c .before .before .before .before .before .args .number)) _ _ (c .before .before .before .before .loop .inv .1) (done-of (order-yes _ _ _ (told (c .before .has-live .ensures) (w .0 .taken))) (w .2 .ensures)))) (λ w. rw (w .1, w .2, w .3) (each-next (cancelOrderOf (c .before .before .before .before .before .args .number)) _ _ (c .before .before .before .before .loop .inv .1) (done-of (order-not _ _ _ (told (c .before .has-live .ensures) (w .0 .left))) (done-still _ _ _)))) (c .if1 .came))
 
--- src/lib.rt:123:1
 same-length : tie.Need-same-length Inv-loop μ-loop
 same-length c = done-length (c .before .loop .inv .1)
 
--- src/lib.rt:123:1
 returns : tie.Need-returns Inv-loop μ-loop
 returns c = let e : c .before .loop .i ≡ 32 = omega arith in rw e at (c .before .loop .inv .1)
 

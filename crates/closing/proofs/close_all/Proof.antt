@@ -21,39 +21,30 @@ Inv-loop space₀ n c₀ m₀ k₀ space c m k = (k ≤ 16) × Done space₀ spa
 abbrev μ-loop : tie.MeasureT-loop
 μ-loop space₀ n c₀ m₀ k₀ space c m k = 16 - k
 
--- src/lib.rt:236:5
 loop-holds : tie.Need-loop-holds Inv-loop μ-loop
 loop-holds c = (omega arith, each-first _ _ _ _)
 
--- src/lib.rt:237:17
 mul-s : tie.Need-mul-s Inv-loop μ-loop
 mul-s c = search needs
 
--- src/lib.rt:237:17
 element-copy-out-s : tie.Need-element-copy-out-s Inv-loop μ-loop
 element-copy-out-s c = c .loop-test .taken
 
--- src/lib.rt:239:17
 close-requires : tie.Need-close-requires Inv-loop μ-loop
 close-requires c κs = ((c .before .before .before .before .loop-test .taken, ranged-each closeRunning (closeRunning-kept ranged-kept) _ _ (c .before .before .before .before .before .before .pre .0) (c .before .before .before .before .before .loop .inv .1) .auction _ .starter), room-of (close-yes _ _ (c .before .if1 .taken)) (room-each closeRunning 16 _ _ (c .before .before .before .before .before .before .pre .1) (c .before .before .before .before .loop-test .taken) (c .before .before .before .before .before .loop .inv .1)))
 
--- src/lib.rt:243:9
 add-k : tie.Need-add-k Inv-loop μ-loop
 add-k c = omega arith
 
--- src/lib.rt:236:5
 loop-less : tie.Need-loop-less Inv-loop μ-loop
 loop-less c = omega arith
 
--- src/lib.rt:236:5
 loop-again : tie.Need-loop-again Inv-loop μ-loop
 loop-again c = (omega arith, ⊎-elim (λ w. rw (w .5, w .6, w .7) (each-next closeRunning _ _ (c .before .before .before .before .loop .inv .1) (done-of (close-yes _ _ (w .0 .taken)) (w .2 .ensures)))) (λ w. rw (w .1, w .2, w .3) (each-next closeRunning _ _ (c .before .before .before .before .loop .inv .1) (done-of (close-not _ _ (w .0 .left)) (done-still _ _ _)))) (c .if1 .came))
 
--- src/lib.rt:228:1
 same-length : tie.Need-same-length Inv-loop μ-loop
 same-length c = done-length (c .before .loop .inv .1)
 
--- src/lib.rt:228:1
 returns : tie.Need-returns Inv-loop μ-loop
 returns c = let e : c .before .loop .k ≡ 16 = omega arith in rw e at (c .before .loop .inv .1)
 

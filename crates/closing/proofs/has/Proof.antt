@@ -5,11 +5,9 @@ use Rattle.closing.proofs.has.Tie as tie
 use Rattle.closing.proofs.has.Reads as reads
 use Rattle.closing.proofs.has.Lts as lts
 
--- src/lib.rt:317:14
 shr-y : tie.Need-shr-y
 shr-y c = search needs
 
--- src/lib.rt:313:1
 returns : tie.Need-returns
 unfolding has
 returns c = search needs

@@ -6,11 +6,9 @@ use Rattle.closing.proofs.has_live.Tie as tie
 use Rattle.closing.proofs.has_live.Reads as reads
 use Rattle.closing.proofs.has_live.Lts as lts
 
--- src/lib.rt:98:9
 returns : tie.Need-returns
 returns c = sym (pick-true _ _ _ (eq-eqb _ _ (c .if1 .taken)))
 
--- src/lib.rt:94:1
 returns-2 : tie.Need-returns-2
 returns-2 c = sym (pick-false _ _ _ (ne-eqb _ _ (c .if1 .left)))
 

@@ -7,27 +7,21 @@ use Rattle.closing.proofs.if_rests.Reads as reads
 use Rattle.closing.proofs.if_rests.Lts as lts
 use Rattle.matching.proofs.leg_passes.Reads as leg-passes-reads
 
--- src/lib.rt:374:13
 mul-o : tie.Need-mul-o
 mul-o c = search needs
 
--- src/lib.rt:374:13
 element-copy-out-o : tie.Need-element-copy-out-o
 element-copy-out-o c = search needs
 
--- src/lib.rt:376:9
 returns : tie.Need-returns
 returns c = done-of (rests-not _ _ _ (c .if1 .taken)) (done-still _ _ _)
 
--- src/lib.rt:378:5
 leg-passes-requires : tie.Need-leg-passes-requires
 leg-passes-requires c κs = ((c .before .before .before .before .pre .0 .0, c .before .before .before .before .pre .0 .2), room-of (rests-yes _ _ _ (c .before .if1 .left)) (c .before .before .before .before .pre .1))
 
--- src/lib.rt:369:1
 same-length : tie.Need-same-length
 same-length c = search needs
 
--- src/lib.rt:369:1
 returns-2 : tie.Need-returns-2
 returns-2 c = done-of (rests-yes _ _ _ (c .before .before .before .if1 .left)) (c .before .leg-passes .ensures)
 

@@ -22,43 +22,33 @@ Inv-loop s space₀ n c₀ m₀ k₀ space c m k = (k ≤ 16) × Done space₀ s
 abbrev μ-loop : tie.MeasureT-loop
 μ-loop s space₀ n c₀ m₀ k₀ space c m k = 16 - k
 
--- src/lib.rt:374:5
 loop-holds : tie.Need-loop-holds Inv-loop μ-loop
 loop-holds c = (omega arith, each-first _ _ _ _)
 
--- src/lib.rt:375:17
 mul-h : tie.Need-mul-h Inv-loop μ-loop
 mul-h c = search needs
 
--- src/lib.rt:375:17
 element-copy-out-h : tie.Need-element-copy-out-h Inv-loop μ-loop
 element-copy-out-h c = c .loop-test .taken
 
--- src/lib.rt:376:12
 matches-requires : tie.Need-matches-requires Inv-loop μ-loop
 matches-requires c κs = search needs
 
--- src/lib.rt:377:17
 match-in-requires : tie.Need-match-in-requires Inv-loop μ-loop
 match-in-requires c κs = ((c .before .before .before .before .before .before .pre .0 .0, c .before .before .before .before .loop-test .taken, fit-each (matchIn (c .before .before .before .before .before .before .args .s)) (matchIn-kept shrinks-kept (c .before .before .before .before .before .before .args .s)) _ _ (c .before .before .before .before .before .before .pre .0 .1) (c .before .before .before .before .before .loop .inv .1)), room-each (matchIn (c .before .before .before .before .before .before .args .s)) 16 _ _ (c .before .before .before .before .before .before .pre .1) (c .before .before .before .before .loop-test .taken) (c .before .before .before .before .before .loop .inv .1))
 
--- src/lib.rt:381:9
 add-k : tie.Need-add-k Inv-loop μ-loop
 add-k c = omega arith
 
--- src/lib.rt:374:5
 loop-less : tie.Need-loop-less Inv-loop μ-loop
 loop-less c = omega arith
 
--- src/lib.rt:374:5
 loop-again : tie.Need-loop-again Inv-loop μ-loop
 loop-again c = (omega arith, ⊎-elim (λ w. rw (w .5, w .6, w .7) (each-next (matchIn (c .before .before .before .before .before .args .s)) _ _ (c .before .before .before .before .loop .inv .1) (w .2 .ensures))) (λ w. rw (w .1, w .2, w .3) (each-next (matchIn (c .before .before .before .before .before .args .s)) _ _ (c .before .before .before .before .loop .inv .1) (done-of (match-not _ _ _ (told (c .before .matches .ensures) (w .0 .left))) (done-still _ _ _)))) (c .if1 .came))
 
--- src/lib.rt:366:1
 same-length : tie.Need-same-length Inv-loop μ-loop
 same-length c = done-length (c .before .loop .inv .1)
 
--- src/lib.rt:366:1
 returns : tie.Need-returns Inv-loop μ-loop
 returns c = let e : c .before .loop .k ≡ 16 = omega arith in rw e at (c .before .loop .inv .1)
 

@@ -8,19 +8,15 @@ use Rattle.closing.proofs.matches.Reads as reads
 use Rattle.closing.proofs.matches.Lts as lts
 use Rattle.closing.proofs.has.Reads as has-reads
 
--- src/lib.rt:359:8
 has-requires : tie.Need-has-requires
 has-requires c κs = search needs
 
--- src/lib.rt:360:32
 sub-shut : tie.Need-sub-shut
 sub-shut c = search needs
 
--- src/lib.rt:361:9
 returns : tie.Need-returns
 returns c = held-yes _ _ _ (told (c .before .before .has .ensures) (c .before .if1 .taken)) (omega arith) (omega arith)
 
--- src/lib.rt:355:1
 returns-2 : tie.Need-returns-2
 returns-2 c = held-not _ _ _ (told (c .before .has .ensures) (c .if1 .left))
 

@@ -24,47 +24,36 @@ Inv-loop t space₀ n c₀ m₀ k₀ space c m k = (k ≤ 16) × Done space₀ s
 abbrev μ-loop : tie.MeasureT-loop
 μ-loop t space₀ n c₀ m₀ k₀ space c m k = 16 - k
 
--- src/lib.rt:289:17
 with-clock-requires : tie.Need-with-clock-requires Inv-loop μ-loop
 with-clock-requires c κs = search needs
 
--- src/lib.rt:292:5
 loop-holds : tie.Need-loop-holds Inv-loop μ-loop
 loop-holds c = (omega arith, each-first _ _ _ _)
 
--- src/lib.rt:293:17
 mul-s : tie.Need-mul-s Inv-loop μ-loop
 mul-s c = search needs
 
--- src/lib.rt:293:17
 element-copy-out-s : tie.Need-element-copy-out-s Inv-loop μ-loop
 element-copy-out-s c = c .loop-test .taken
 
--- src/lib.rt:294:12
 due-requires : tie.Need-due-requires Inv-loop μ-loop
 due-requires c κs = due-fits _ _ (ranged-each endDue (endDue-kept ranged-kept) _ _ (ranged-clock _ _ (c .before .before .before .with-clock .ensures) (c .before .before .before .before .pre .0 .0) (c .before .before .before .before .pre .0 .1)) (c .before .before .loop .inv .1))
 
--- src/lib.rt:295:17
 end-auction-requires : tie.Need-end-auction-requires Inv-loop μ-loop
 end-auction-requires c κs = ((c .before .before .before .before .loop-test .taken, ranged-each endDue (endDue-kept ranged-kept) _ _ (ranged-clock _ _ (c .before .before .before .before .before .before .with-clock .ensures) (c .before .before .before .before .before .before .before .pre .0 .0) (c .before .before .before .before .before .before .before .pre .0 .1)) (c .before .before .before .before .before .loop .inv .1)), room-of (due-yes _ _ (told (c .before .before .due .ensures) (c .before .if1 .taken))) (room-each endDue 16 _ _ (room-of (clock-is _ _ (c .before .before .before .before .before .before .with-clock .ensures)) (c .before .before .before .before .before .before .before .pre .1)) (c .before .before .before .before .loop-test .taken) (c .before .before .before .before .before .loop .inv .1)))
 
--- src/lib.rt:299:9
 add-k : tie.Need-add-k Inv-loop μ-loop
 add-k c = omega arith
 
--- src/lib.rt:292:5
 loop-less : tie.Need-loop-less Inv-loop μ-loop
 loop-less c = omega arith
 
--- src/lib.rt:292:5
 loop-again : tie.Need-loop-again Inv-loop μ-loop
 loop-again c = (omega arith, ⊎-elim (λ w. rw (w .5, w .6, w .7) (each-next endDue _ _ (c .before .before .before .before .loop .inv .1) (done-of (due-yes _ _ (told (c .before .due .ensures) (w .0 .taken))) (w .2 .ensures)))) (λ w. rw (w .1, w .2, w .3) (each-next endDue _ _ (c .before .before .before .before .loop .inv .1) (done-of (due-not _ _ (told (c .before .due .ensures) (w .0 .left))) (done-still _ _ _)))) (c .if1 .came))
 
--- src/lib.rt:284:1
 same-length : tie.Need-same-length Inv-loop μ-loop
 same-length c = done-length (c .before .loop .inv .1)
 
--- src/lib.rt:284:1
 returns : tie.Need-returns Inv-loop μ-loop
 returns c = let e : c .before .loop .k ≡ 16 = omega arith in done-of (clock-is _ _ (c .before .before .with-clock .ensures)) (rw e at (c .before .loop .inv .1))
 

@@ -1,5 +1,6 @@
-use Rattle.closing.specs.Closing.{ranged-each, day-end}
-use Rattle.auctions.specs.Ranged.{ranged-kept}
+use Rattle.closing.specs.Closing.{ranged-each, numbered-each, day-end}
+use Rattle.auctions.specs.Ranged.{ranged-kept, ranged-sound}
+use Rattle.rules.proofs.DayEnd.{numbered-sound, running-shrinks}
 use Rattle.rules.proofs.Control.{closeRunning-kept}
 use Rattle.rules.specs.Events.{closeRunning, onDayEnd}
 use Rattle.records.specs.Done.{room-then, room-after}
@@ -12,25 +13,23 @@ use Rattle.closing.proofs.cancel_all.Reads as cancel-all-reads
 use Rattle.closing.proofs.close_all.Reads as close-all-reads
 use Rattle.closing.proofs.fresh.Reads as fresh-reads
 
--- src/lib.rt:280:9
 close-all-requires : tie.Need-close-all-requires
 unfolding onDayEnd
-close-all-requires c κs = (c .before .pre .0, room-then _ _ (c .before .pre .1))
+close-all-requires c κs = (ranged-sound (c .before .pre .0 .sound), room-then _ _ (c .before .pre .1))
 
--- src/lib.rt:282:9
 cancel-all-requires : tie.Need-cancel-all-requires
 unfolding onDayEnd
-cancel-all-requires c κs = let x = c .before .before .before .close-all .ensures in (ranged-each closeRunning (closeRunning-kept ranged-kept) 16 _ (c .before .before .before .before .before .pre .0) x .fit, room-then _ _ (room-after _ _ (c .before .before .before .before .before .pre .1) x))
+cancel-all-requires c κs =
+    let x = c .before .before .before .close-all .ensures in
+    let p = c .before .before .before .before .before .pre in
+    ((ranged-each closeRunning (closeRunning-kept ranged-kept) 16 _ (ranged-sound (p .0 .sound)) x .fit, numbered-each closeRunning running-shrinks 16 _ (numbered-sound (p .0 .sound)) x), room-then _ _ (room-after _ _ (p .1) x))
 
--- src/lib.rt:283:20
 fresh-requires : tie.Need-fresh-requires
 fresh-requires c κs = search needs
 
--- src/lib.rt:275:1
 same-length : tie.Need-same-length
 same-length c = search needs
 
--- src/lib.rt:275:1
 returns : tie.Need-returns
 returns c = day-end _ _ (c .before .before .before .before .before .before .close-all .ensures) (c .before .before .cancel-all .ensures) (c .fresh .ensures)
 

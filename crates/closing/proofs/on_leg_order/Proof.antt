@@ -10,27 +10,21 @@ use Rattle.legs.proofs.enter_order.Reads as enter-order-reads
 use Rattle.legs.proofs.free_order_slot.Reads as free-order-slot-reads
 use Rattle.trades.proofs.trade_all.Reads as trade-all-reads
 
--- src/lib.rt:387:9
 free-order-slot-requires : tie.Need-free-order-slot-requires
 free-order-slot-requires c κs = search needs
 
--- src/lib.rt:388:9
 enter-order-requires : tie.Need-enter-order-requires
 enter-order-requires c κs = search needs
 
--- src/lib.rt:389:9
 trade-all-requires : tie.Need-trade-all-requires
-trade-all-requires c κs = ((slot-is _ (c .before .before .free-order-slot .ensures) (c .before .before .before .pre .0 .0), fit-enter _ _ (c .before .enter-order .ensures) (c .before .before .before .pre .0 .1) (c .before .before .before .pre .0 .2) .orders), room-then _ _ (room-of (leg-is _ _ (c .before .before .free-order-slot .ensures) (c .before .enter-order .ensures)) (c .before .before .before .pre .1)))
+trade-all-requires c κs = (fit-enter _ _ (c .before .enter-order .ensures) (c .before .before .before .pre .0 .1) (c .before .before .before .pre .0 .2) .orders, room-then _ _ (room-of (leg-is _ _ (c .before .before .free-order-slot .ensures) (c .before .enter-order .ensures)) (c .before .before .before .pre .1)))
 
--- src/lib.rt:391:5
 if-rests-requires : tie.Need-if-rests-requires
 if-rests-requires c κs = ((c .before .before .before .before .before .before .before .pre .0 .1 .series, slot-is _ (c .before .before .before .before .before .before .free-order-slot .ensures) (c .before .before .before .before .before .before .before .pre .0 .0), fit-trades _ _ (fit-enter _ _ (c .before .before .before .before .before .enter-order .ensures) (c .before .before .before .before .before .before .before .pre .0 .1) (c .before .before .before .before .before .before .before .pre .0 .2)) (c .before .before .before .trade-all .ensures)), room-after _ _ (room-of (leg-is _ _ (c .before .before .before .before .before .before .free-order-slot .ensures) (c .before .before .before .before .before .enter-order .ensures)) (c .before .before .before .before .before .before .before .pre .1)) (c .before .before .before .trade-all .ensures))
 
--- src/lib.rt:382:1
 same-length : tie.Need-same-length
 same-length c = search needs
 
--- src/lib.rt:382:1
 returns : tie.Need-returns
 returns c = done-of (leg-is _ _ (c .before .before .before .before .before .before .before .before .free-order-slot .ensures) (c .before .before .before .before .before .before .before .enter-order .ensures)) (done-then _ _ (c .before .before .before .before .before .trade-all .ensures) (c .before .if-rests .ensures))
 

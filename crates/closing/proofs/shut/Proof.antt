@@ -26,55 +26,42 @@ Inv-loop s space₀ n left c₀ m₀ k₀ space c m k = (k ≤ 16) × Done space
 abbrev μ-loop : tie.MeasureT-loop
 μ-loop s space₀ n left c₀ m₀ k₀ space c m k = 16 - k
 
--- src/lib.rt:338:31
 shl-less : tie.Need-shl-less Inv-loop μ-loop
 shl-less c = search needs
 
--- src/lib.rt:338:9
 less-requires : tie.Need-less-requires Inv-loop μ-loop
 less-requires c κs = search needs
 
--- src/lib.rt:339:17
 with-opened-requires : tie.Need-with-opened-requires Inv-loop μ-loop
 with-opened-requires c κs = search needs
 
--- src/lib.rt:342:5
 loop-holds : tie.Need-loop-holds Inv-loop μ-loop
 loop-holds c = (omega arith, each-first _ _ _ _)
 
--- src/lib.rt:343:17
 mul-h : tie.Need-mul-h Inv-loop μ-loop
 mul-h c = search needs
 
--- src/lib.rt:343:17
 element-copy-out-h : tie.Need-element-copy-out-h Inv-loop μ-loop
 element-copy-out-h c = c .loop-test .taken
 
--- src/lib.rt:344:12
 ends-requires : tie.Need-ends-requires Inv-loop μ-loop
 ends-requires c κs = search needs
 
--- src/lib.rt:345:17
 end-unfilled-requires : tie.Need-end-unfilled-requires Inv-loop μ-loop
 end-unfilled-requires c κs = ((c .before .before .before .before .loop-test .taken, ranged-each (endHolding (c .before .before .before .before .before .before .before .before .args .s)) (endHolding-kept ranged-kept (c .before .before .before .before .before .before .before .before .args .s)) _ _ (ranged-opened _ _ (c .before .before .before .before .before .before .with-opened .ensures) (c .before .before .before .before .before .before .before .before .pre .0 .1)) (c .before .before .before .before .before .loop .inv .1)), room-of (holding-yes _ _ _ (told (c .before .before .ends .ensures) (c .before .if1 .taken))) (room-each (endHolding (c .before .before .before .before .before .before .before .before .args .s)) 16 _ _ (room-of (shut-is _ _ (shifted _ (c .before .before .before .before .before .before .before .before .pre .0 .0)) (c .before .before .before .before .before .before .before .less .ensures) (c .before .before .before .before .before .before .with-opened .ensures)) (c .before .before .before .before .before .before .before .before .pre .1)) (c .before .before .before .before .loop-test .taken) (c .before .before .before .before .before .loop .inv .1)))
 
--- src/lib.rt:349:9
 add-k : tie.Need-add-k Inv-loop μ-loop
 add-k c = omega arith
 
--- src/lib.rt:342:5
 loop-less : tie.Need-loop-less Inv-loop μ-loop
 loop-less c = omega arith
 
--- src/lib.rt:342:5
 loop-again : tie.Need-loop-again Inv-loop μ-loop
 loop-again c = (omega arith, ⊎-elim (λ w. rw (w .5, w .6, w .7) (each-next (endHolding (c .before .before .before .before .before .before .before .args .s)) _ _ (c .before .before .before .before .loop .inv .1) (done-of (holding-yes _ _ _ (told (c .before .ends .ensures) (w .0 .taken))) (w .2 .ensures)))) (λ w. rw (w .1, w .2, w .3) (each-next (endHolding (c .before .before .before .before .before .before .before .args .s)) _ _ (c .before .before .before .before .loop .inv .1) (done-of (holding-not _ _ _ (told (c .before .ends .ensures) (w .0 .left))) (done-still _ _ _)))) (c .if1 .came))
 
--- src/lib.rt:333:1
 same-length : tie.Need-same-length Inv-loop μ-loop
 same-length c = done-length (c .before .loop .inv .1)
 
--- src/lib.rt:333:1
 returns : tie.Need-returns Inv-loop μ-loop
 returns c = let e : c .before .loop .k ≡ 16 = omega arith in done-of (shut-is _ _ (shifted _ (c .before .before .before .before .pre .0 .0)) (c .before .before .before .less .ensures) (c .before .before .with-opened .ensures)) (rw e at (c .before .loop .inv .1))
 

@@ -5,7 +5,6 @@ use Rattle.closing.proofs.with_clock.Tie as tie
 use Rattle.closing.proofs.with_clock.Reads as reads
 use Rattle.closing.proofs.with_clock.Lts as lts
 
--- src/lib.rt:258:1
 returns : tie.Need-returns
 unfolding withClock
 returns c = refl

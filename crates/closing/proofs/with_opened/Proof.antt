@@ -5,7 +5,6 @@ use Rattle.closing.proofs.with_opened.Tie as tie
 use Rattle.closing.proofs.with_opened.Reads as reads
 use Rattle.closing.proofs.with_opened.Lts as lts
 
--- src/lib.rt:284:1
 returns : tie.Need-returns
 unfolding withOpened
 returns c = refl

@@ -5,7 +5,6 @@ use Rattle.depths.proofs.no_orders.Tie as tie
 use Rattle.depths.proofs.no_orders.Reads as reads
 use Rattle.depths.proofs.no_orders.Lts as lts
 
--- src/lib.rt:70:1
 returns : tie.Need-returns
 unfolding noOrders
 returns c = refl

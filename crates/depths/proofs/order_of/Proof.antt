@@ -7,20 +7,16 @@ use Rattle.depths.proofs.order_of.Tie as tie
 use Rattle.depths.proofs.order_of.Reads as reads
 use Rattle.depths.proofs.order_of.Lts as lts
 
--- src/lib.rt:51:9
 returns : tie.Need-returns
 unfolding orderOf
 returns c = search tests
 
--- src/lib.rt:63:17
 cast-t3 : tie.Need-cast-t3
 cast-t3 c = let f = formed _ (c .before .before .before .pre) (ne-eqb _ _ (c .before .if1 .left)) in record { fits = omega (arith, f .series) }
 
--- src/lib.rt:64:15
 cast-t4 : tie.Need-cast-t4
 cast-t4 c = let f = formed _ (c .before .before .before .before .pre) (ne-eqb _ _ (c .before .before .if1 .left)) in record { fits = omega (arith, f .side) }
 
--- src/lib.rt:46:1
 returns-2 : tie.Need-returns-2
 unfolding orderOf
 returns-2 c = search tests

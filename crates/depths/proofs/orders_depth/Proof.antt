@@ -6,15 +6,12 @@ use Rattle.depths.proofs.orders_depth.Reads as reads
 use Rattle.depths.proofs.orders_depth.Lts as lts
 use Rattle.lookups.proofs.depth.Reads as depth-reads
 
--- src/lib.rt:107:9
 depth-requires : tie.Need-depth-requires
 depth-requires c κs = search needs
 
--- src/lib.rt:107:9
 returns : tie.Need-returns
 returns c = depth-fine _ _ _ (c .before .before .if1 .taken) (c .depth .ensures)
 
--- src/lib.rt:101:1
 returns-2 : tie.Need-returns-2
 returns-2 c = depth-bad _ _ _ (c .if1 .left)
 

@@ -5,32 +5,26 @@ use Rattle.depths.proofs.well_formed.Tie as tie
 use Rattle.depths.proofs.well_formed.Reads as reads
 use Rattle.depths.proofs.well_formed.Lts as lts
 
--- src/lib.rt:28:9
 returns : tie.Need-returns
 unfolding wellFormed
 returns c = search tests
 
--- src/lib.rt:31:9
 returns-2 : tie.Need-returns-2
 unfolding wellFormed
 returns-2 c = search tests
 
--- src/lib.rt:34:9
 returns-3 : tie.Need-returns-3
 unfolding wellFormed
 returns-3 c = search tests
 
--- src/lib.rt:37:9
 returns-4 : tie.Need-returns-4
 unfolding wellFormed
 returns-4 c = search tests
 
--- src/lib.rt:40:9
 returns-5 : tie.Need-returns-5
 unfolding wellFormed
 returns-5 c = search tests
 
--- src/lib.rt:24:1
 returns-6 : tie.Need-returns-6
 unfolding wellFormed
 returns-6 c = search tests

@@ -8,27 +8,21 @@ use Rattle.depths.proofs.with_entry.Lts as lts
 use Rattle.depths.proofs.order_of.Reads as order-of-reads
 use Rattle.depths.proofs.well_formed.Reads as well-formed-reads
 
--- src/lib.rt:91:8
 well-formed-requires : tie.Need-well-formed-requires
 well-formed-requires c κs = search needs
 
--- src/lib.rt:92:13
 order-of-requires : tie.Need-order-of-requires
 order-of-requires c κs = told (c .before .well-formed .ensures) (c .if1 .taken)
 
--- src/lib.rt:93:9
 mul-o : tie.Need-mul-o
 mul-o c = search needs
 
--- src/lib.rt:93:9
 element-set-from-o : tie.Need-element-set-from-o
 element-set-from-o c = search needs
 
--- src/lib.rt:94:9
 returns : tie.Need-returns
 returns c = with-fine _ _ _ (told (c .before .before .well-formed .ensures) (c .before .if1 .taken)) (c .order-of .ensures)
 
--- src/lib.rt:86:1
 returns-2 : tie.Need-returns-2
 returns-2 c = with-bad _ _ _ (told (c .before .well-formed .ensures) (c .if1 .left))
 

@@ -10,34 +10,27 @@ use Rattle.auctions.proofs.end_unfilled.Reads as end-unfilled-reads
 use Rattle.endings.proofs.later_passes.Reads as later-passes-reads
 use Rattle.endings.proofs.starter_pass.Reads as starter-pass-reads
 
--- src/lib.rt:116:13
 mul-s : tie.Need-mul-s
 mul-s c = search needs
 
--- src/lib.rt:116:13
 element-copy-out-s : tie.Need-element-copy-out-s
 element-copy-out-s c = search needs
 
--- src/lib.rt:117:9
 starter-pass-requires : tie.Need-starter-pass-requires
 unfolding endAuction
 starter-pass-requires c κs = ((c .before .before .pre .0 .0, c .before .before .pre .0 .1 .fit), room-then _ _ (c .before .before .pre .1))
 
--- src/lib.rt:119:9
 later-passes-requires : tie.Need-later-passes-requires
 unfolding endAuction
 later-passes-requires c κs = (ranged-starter _ _ (c .before .before .before .before .before .before .pre .0 .1) (c .before .before .before .starter-pass .ensures) .fit, room-then _ _ (room-after _ _ (c .before .before .before .before .before .before .pre .1) (c .before .before .before .starter-pass .ensures)))
 
--- src/lib.rt:121:5
 end-unfilled-requires : tie.Need-end-unfilled-requires
 unfolding endAuction
 end-unfilled-requires c κs = ((c .before .before .before .before .before .before .before .before .before .before .pre .0 .0, ranged-later _ _ 32 _ (ranged-starter _ _ (c .before .before .before .before .before .before .before .before .before .before .pre .0 .1) (c .before .before .before .before .before .before .before .starter-pass .ensures)) (c .before .before .before .later-passes .ensures)), room-after _ _ (room-after _ _ (c .before .before .before .before .before .before .before .before .before .before .pre .1) (c .before .before .before .before .before .before .before .starter-pass .ensures)) (c .before .before .before .later-passes .ensures))
 
--- src/lib.rt:111:1
 same-length : tie.Need-same-length
 same-length c = search needs
 
--- src/lib.rt:111:1
 returns : tie.Need-returns
 unfolding endAuction
 returns c = done-then _ _ (c .before .before .before .before .before .before .before .before .before .starter-pass .ensures) (done-then _ _ (c .before .before .before .before .before .later-passes .ensures) (c .before .end-unfilled .ensures))

@@ -5,11 +5,9 @@ use Rattle.endings.proofs.holds.Tie as tie
 use Rattle.endings.proofs.holds.Reads as reads
 use Rattle.endings.proofs.holds.Lts as lts
 
--- src/lib.rt:58:14
 shr-x : tie.Need-shr-x
 shr-x c = search needs
 
--- src/lib.rt:54:1
 returns : tie.Need-returns
 unfolding has
 returns c = search needs

@@ -1,10 +1,10 @@
+use mathlib.Core.Path.{_≡_, refl}
 use Rattle.endings.specs.Endings.{later-not, later-yes, fit-later}
 use Rattle.records.specs.Done.{Done, each-first, each-next, room-each, done-length, done-still, done-of, room-of}
 use Rattle.rules.specs.Auctions.{laterPass}
 use Rattle.rules.specs.Moves.{each}
 use Rattle.base.specs.Pick.{told}
 use Prim.Native.Nat.{_≤_, _-_}
-use mathlib.Core.Path.{_≡_}
 use mathlib.Core.Logic.{⊎-elim}
 use borrow.Author.Needs.{needs}
 use native.Mathlib.Omega.{arith}
@@ -13,7 +13,6 @@ use Rattle.endings.proofs.later_passes.Tie as tie
 use Rattle.endings.proofs.later_passes.Reads as reads
 use Rattle.endings.proofs.later_passes.Lts as lts
 use Rattle.endings.proofs.later.Reads as later-reads
-use Rattle.endings.proofs.no.Reads as no-reads
 use Rattle.passes.proofs.pass.Reads as pass-reads
 
 abbrev Inv-loop : tie.InvT-loop
@@ -22,47 +21,33 @@ Inv-loop k n space₀ m c₀ o₀ i₀ space c o i = (i ≤ 32) × Done space₀
 abbrev μ-loop : tie.MeasureT-loop
 μ-loop k n space₀ m c₀ o₀ i₀ space c o i = 32 - i
 
--- src/lib.rt:96:5
 loop-holds : tie.Need-loop-holds Inv-loop μ-loop
 loop-holds c = (omega arith, each-first _ _ _ _)
 
--- src/lib.rt:97:17
 mul-e : tie.Need-mul-e Inv-loop μ-loop
 mul-e c = search needs
 
--- src/lib.rt:97:17
 element-copy-out-e : tie.Need-element-copy-out-e Inv-loop μ-loop
 element-copy-out-e c = c .loop-test .taken
 
--- src/lib.rt:98:12
 later-requires : tie.Need-later-requires Inv-loop μ-loop
 later-requires c κs = search needs
 
--- src/lib.rt:99:17
-no-requires : tie.Need-no-requires Inv-loop μ-loop
-no-requires c κs = search needs
-
--- src/lib.rt:100:17
 pass-requires : tie.Need-pass-requires Inv-loop μ-loop
-pass-requires c κs = ((c .before .before .before .before .before .before .loop-test .taken, fit-later _ _ _ _ (c .before .before .before .before .before .before .before .before .pre .0) (c .before .before .before .before .before .before .before .loop .inv .1)), room-of (later-yes _ _ _ _ (told (c .before .before .before .before .later .ensures) (c .before .before .before .if1 .taken)) (c .before .no .ensures)) (room-each (laterPass (c .before .before .before .before .before .before .before .before .args .k) (c .before .before .before .before .before .before .before .before .args .n)) 32 _ _ (c .before .before .before .before .before .before .before .before .pre .1) (c .before .before .before .before .before .before .loop-test .taken) (c .before .before .before .before .before .before .before .loop .inv .1)))
+pass-requires c κs = ((c .before .before .before .before .before .loop-test .taken, fit-later _ _ _ _ (c .before .before .before .before .before .before .before .pre .0) (c .before .before .before .before .before .before .loop .inv .1)), room-of (later-yes _ _ _ _ (told (c .before .before .before .later .ensures) (c .before .before .if1 .taken)) refl) (room-each (laterPass (c .before .before .before .before .before .before .before .args .k) (c .before .before .before .before .before .before .before .args .n)) 32 _ _ (c .before .before .before .before .before .before .before .pre .1) (c .before .before .before .before .before .loop-test .taken) (c .before .before .before .before .before .before .loop .inv .1)))
 
--- src/lib.rt:104:9
 add-i : tie.Need-add-i Inv-loop μ-loop
 add-i c = omega arith
 
--- src/lib.rt:96:5
 loop-less : tie.Need-loop-less Inv-loop μ-loop
 loop-less c = omega arith
 
--- src/lib.rt:96:5
 loop-again : tie.Need-loop-again Inv-loop μ-loop
-loop-again c = (omega arith, ⊎-elim (λ w. rw (w .7, w .8, w .9) (each-next (laterPass (c .before .before .before .before .before .args .k) (c .before .before .before .before .before .args .n)) _ _ (c .before .before .before .before .loop .inv .1) (done-of (later-yes _ _ _ _ (told (c .before .later .ensures) (w .0 .taken)) (w .2 .ensures)) (w .4 .ensures)))) (λ w. rw (w .1, w .2, w .3) (each-next (laterPass (c .before .before .before .before .before .args .k) (c .before .before .before .before .before .args .n)) _ _ (c .before .before .before .before .loop .inv .1) (done-of (later-not _ _ _ _ (told (c .before .later .ensures) (w .0 .left))) (done-still _ _ _)))) (c .if1 .came))
+loop-again c = (omega arith, ⊎-elim (λ w. rw (w .6, w .7, w .8) (each-next (laterPass (c .before .before .before .before .before .args .k) (c .before .before .before .before .before .args .n)) _ _ (c .before .before .before .before .loop .inv .1) (done-of (later-yes _ _ _ _ (told (c .before .later .ensures) (w .0 .taken)) refl) (w .3 .ensures)))) (λ w. rw (w .1, w .2, w .3) (each-next (laterPass (c .before .before .before .before .before .args .k) (c .before .before .before .before .before .args .n)) _ _ (c .before .before .before .before .loop .inv .1) (done-of (later-not _ _ _ _ (told (c .before .later .ensures) (w .0 .left))) (done-still _ _ _)))) (c .if1 .came))
 
--- src/lib.rt:88:1
 same-length : tie.Need-same-length Inv-loop μ-loop
 same-length c = done-length (c .before .loop .inv .1)
 
--- src/lib.rt:88:1
 returns : tie.Need-returns Inv-loop μ-loop
 returns c = let e : c .before .loop .i ≡ 32 = omega arith in rw e at (c .before .loop .inv .1)
 
@@ -76,7 +61,6 @@ later-passes-spec =
     mul-e
     element-copy-out-e
     later-requires
-    no-requires
     pass-requires
     add-i
     loop-less

@@ -1,4 +1,5 @@
 use Rattle.rules.specs.Events.{enter, freeSlot}
+use borrow.Author.Needs.{needs}
 use Rattle.rules.specs.State.{withEntries, withLast}
 use Rattle.entries.proofs.enter.Statement.{statement}
 use Rattle.entries.proofs.enter.Tie as tie
@@ -7,12 +8,11 @@ use Rattle.entries.proofs.enter.Lts as lts
 use Rattle.entries.proofs.insert.Reads as insert-reads
 
 insert-requires : tie.Need-insert-requires
-unfolding freeSlot
-insert-requires c κs = c .before .pre
+insert-requires c κs = search needs
 
 returns : tie.Need-returns
-unfolding enter withLast withEntries
-returns c = rw (c .insert .ensures)
+unfolding enter withLast withEntries freeSlot
+returns c = (rw (c .before .insert .ensures .0), c .before .insert .ensures .1)
 
 pub enter-spec : {M : Type 1} → statement M
 enter-spec = tie.close (tie.spec insert-requires returns)

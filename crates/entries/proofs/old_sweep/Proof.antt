@@ -16,40 +16,31 @@ Inv-loop e b i₀ i = (i ≤ 32) × Passed (sameSweepAt b e) i
 abbrev μ-loop : tie.MeasureT-loop
 μ-loop e b i₀ i = 32 - i
 
--- src/lib.rt:167:5
 loop-holds : tie.Need-loop-holds Inv-loop μ-loop
 loop-holds c = (omega arith, passed-first _)
 
--- src/lib.rt:168:26
 mul-same-sweep : tie.Need-mul-same-sweep Inv-loop μ-loop
 mul-same-sweep c = omega arith
 
--- src/lib.rt:168:26
 element-copy-out-same-sweep : tie.Need-element-copy-out-same-sweep Inv-loop μ-loop
 element-copy-out-same-sweep c = omega arith
 
--- src/lib.rt:168:12
 same-sweep-requires : tie.Need-same-sweep-requires Inv-loop μ-loop
 same-sweep-requires c κs = search needs
 
--- src/lib.rt:169:13
 returns : tie.Need-returns Inv-loop μ-loop
 unfolding oldSweep
 returns c = passed-here _ _ 32 (c .before .before .before .before .loop .inv .1) (c .before .before .before .loop-test .taken) (told (c .before .same-sweep .ensures) (c .if1 .taken))
 
--- src/lib.rt:171:9
 add-i : tie.Need-add-i Inv-loop μ-loop
 add-i c = omega arith
 
--- src/lib.rt:167:5
 loop-less : tie.Need-loop-less Inv-loop μ-loop
 loop-less c = omega arith
 
--- src/lib.rt:167:5
 loop-again : tie.Need-loop-again Inv-loop μ-loop
 loop-again c = (omega arith, passed-next _ _ (c .before .before .before .before .loop .inv .1) (told (c .before .same-sweep .ensures) (c .if1 .left)))
 
--- src/lib.rt:163:1
 returns-2 : tie.Need-returns-2 Inv-loop μ-loop
 unfolding oldSweep
 returns-2 c = passed-all _ (c .before .loop .i) 32 (c .before .loop .inv .1) (omega arith)

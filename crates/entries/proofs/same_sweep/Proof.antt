@@ -7,36 +7,29 @@ use Rattle.entries.proofs.same_sweep.Reads as reads
 use Rattle.entries.proofs.same_sweep.Lts as lts
 use Rattle.entries.proofs.live.Reads as live-reads
 
--- src/lib.rt:159:8
 live-requires : tie.Need-live-requires
 live-requires c κs = search needs
 
--- src/lib.rt:164:25
 returns : tie.Need-returns
 unfolding sameSweep
 returns c = search (tests, told (c .before .before .before .before .before .before .before .before .before .before .before .before .before .before .live .ensures) (c .before .before .before .before .before .before .before .before .before .before .before .before .before .if1 .taken))
 
--- src/lib.rt:166:21
 returns-2 : tie.Need-returns-2
 unfolding sameSweep
 returns-2 c = search (tests, told (c .before .before .before .before .before .before .before .before .before .before .before .before .live .ensures) (c .before .before .before .before .before .before .before .before .before .before .before .if1 .taken))
 
--- src/lib.rt:168:17
 returns-3 : tie.Need-returns-3
 unfolding sameSweep
 returns-3 c = search (tests, told (c .before .before .before .before .before .before .before .before .before .live .ensures) (c .before .before .before .before .before .before .before .before .if1 .taken))
 
--- src/lib.rt:170:13
 returns-4 : tie.Need-returns-4
 unfolding sameSweep
 returns-4 c = search (tests, told (c .before .before .before .before .before .before .live .ensures) (c .before .before .before .before .before .if1 .taken))
 
--- src/lib.rt:172:9
 returns-5 : tie.Need-returns-5
 unfolding sameSweep
 returns-5 c = search (tests, told (c .before .before .before .live .ensures) (c .before .before .if1 .taken))
 
--- src/lib.rt:156:1
 returns-6 : tie.Need-returns-6
 unfolding sameSweep
 returns-6 c = search (tests, told (c .before .live .ensures) (c .if1 .left))

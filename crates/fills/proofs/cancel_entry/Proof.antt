@@ -12,44 +12,34 @@ use Rattle.fills.proofs.cancel_record.Reads as cancel-record-reads
 use Rattle.fills.proofs.cut_entry.Reads as cut-entry-reads
 use Rattle.records.proofs.push.Reads as push-reads
 
--- src/lib.rt:253:13
 mul-e : tie.Need-mul-e
 mul-e c = search needs
 
--- src/lib.rt:253:13
 element-copy-out-e : tie.Need-element-copy-out-e
 element-copy-out-e c = search needs
 
--- src/lib.rt:255:9
 returns : tie.Need-returns
 returns c = done-of (cancel-none _ _ (c .if1 .taken)) (done-still _ _ _)
 
--- src/lib.rt:257:9
 cancel-record-requires : tie.Need-cancel-record-requires
 cancel-record-requires c κs = search needs
 
--- src/lib.rt:258:9
 push-requires : tie.Need-push-requires
 unfolding cancelled
 push-requires c κs = rw (c .before .cancel-record .ensures) (room-of (cancel-live _ _ (c .before .before .if1 .left)) (c .before .before .before .before .before .pre .1), cancel-small _ (fit-entry (c .before .before .before .before .before .pre .0 .1 .entries) _))
 
--- src/lib.rt:259:20
 cut-entry-requires : tie.Need-cut-entry-requires
 cut-entry-requires c κs = search needs
 
--- src/lib.rt:259:5
 mul-t9 : tie.Need-mul-t9
 mul-t9 c = search needs
 
--- src/lib.rt:259:5
 element-set-from-c : tie.Need-element-set-from-c
 element-set-from-c c = search needs
 
--- src/lib.rt:247:1
 same-length : tie.Need-same-length
 same-length c = search needs
 
--- src/lib.rt:247:1
 returns-2 : tie.Need-returns-2
 unfolding cancelled cut withEntries
 returns-2 c = let first = rw (c .before .before .before .before .cancel-record .ensures) at (c .before .before .push .ensures) in done-of (cancel-live _ _ (c .before .before .before .before .before .if1 .left)) (record { wrote = first; state = rw (c .cut-entry .ensures) })

@@ -7,27 +7,21 @@ use Rattle.fills.proofs.cut.Reads as reads
 use Rattle.fills.proofs.cut.Lts as lts
 use Rattle.fills.proofs.cut_entry.Reads as cut-entry-reads
 
--- src/lib.rt:115:13
 mul-e : tie.Need-mul-e
 mul-e c = search needs
 
--- src/lib.rt:115:13
 element-copy-out-e : tie.Need-element-copy-out-e
 element-copy-out-e c = search needs
 
--- src/lib.rt:116:20
 cut-entry-requires : tie.Need-cut-entry-requires
 cut-entry-requires c κs = search needs
 
--- src/lib.rt:116:5
 mul-t6 : tie.Need-mul-t6
 mul-t6 c = search needs
 
--- src/lib.rt:116:5
 element-set-from-c : tie.Need-element-set-from-c
 element-set-from-c c = search needs
 
--- src/lib.rt:110:1
 returns : tie.Need-returns
 unfolding cut withEntries
 returns c = rw (c .cut-entry .ensures)

@@ -7,19 +7,15 @@ use Rattle.fills.proofs.fill_records.Reads as reads
 use Rattle.fills.proofs.fill_records.Lts as lts
 use Rattle.fills.proofs.party_records.Reads as party-records-reads
 
--- src/lib.rt:136:9
 party-records-requires : tie.Need-party-records-requires
 party-records-requires c κs = ((c .before .pre .0 .0, c .before .pre .0 .2, c .before .pre .0 .3, c .before .pre .0 .4, zeros-most 99999 6), room-first _ _ (c .before .pre .1))
 
--- src/lib.rt:137:5
 party-records-requires-2 : tie.Need-party-records-requires-2
 party-records-requires-2 c κs = ((c .before .before .before .before .pre .0 .1, c .before .before .before .before .pre .0 .2, c .before .before .before .before .pre .0 .3, c .before .before .before .before .pre .0 .4, zeros-most 99999 6), room-next _ _ (c .before .before .before .before .pre .1) (c .before .before .party-records .ensures))
 
--- src/lib.rt:122:1
 same-length : tie.Need-same-length
 same-length c = search needs
 
--- src/lib.rt:122:1
 returns : tie.Need-returns
 returns c = wrote-append (c .before .before .before .before .party-records .ensures) (c .before .party-records2 .ensures)
 

@@ -25,47 +25,36 @@ Inv-loop a level space₀ n qs c₀ m₀ i₀ space c m i = (i ≤ 32) × Done s
 abbrev μ-loop : tie.MeasureT-loop
 μ-loop a level space₀ n qs c₀ m₀ i₀ space c m i = 32 - i
 
--- src/lib.rt:178:5
 loop-holds : tie.Need-loop-holds Inv-loop μ-loop
 loop-holds c = (omega arith, each-first _ _ _ _)
 
--- src/lib.rt:179:17
 mul-q : tie.Need-mul-q Inv-loop μ-loop
 mul-q c = search needs
 
--- src/lib.rt:179:17
 array-read-q : tie.Need-array-read-q Inv-loop μ-loop
 array-read-q c = omega arith
 
--- src/lib.rt:181:21
 mul-e : tie.Need-mul-e Inv-loop μ-loop
 mul-e c = search needs
 
--- src/lib.rt:181:21
 element-copy-out-e : tie.Need-element-copy-out-e Inv-loop μ-loop
 element-copy-out-e c = c .before .before .before .pre .0 .0
 
--- src/lib.rt:182:21
 mul-f : tie.Need-mul-f Inv-loop μ-loop
 mul-f c = search needs
 
--- src/lib.rt:182:21
 element-copy-out-f : tie.Need-element-copy-out-f Inv-loop μ-loop
 element-copy-out-f c = c .before .before .loop-test .taken
 
--- src/lib.rt:183:21
 cast-k : tie.Need-cast-k Inv-loop μ-loop
 cast-k c = search needs
 
--- src/lib.rt:184:21
 mul-s : tie.Need-mul-s Inv-loop μ-loop
 mul-s c = search needs
 
--- src/lib.rt:184:21
 element-copy-out-s : tie.Need-element-copy-out-s Inv-loop μ-loop
 element-copy-out-s c = fit-entry (fit-done (c .before .before .before .before .before .loop .inv .1) (slots-shrink (c .before .before .before .before .before .before .args .a) (c .before .before .before .before .before .before .args .level) (c .before .before .before .before .before .before .args .t4) (c .before .before .before .before .before .loop .i) _) (c .before .before .before .before .before .before .pre .0 .1) .entries) (c .before .before .before .before .before .before .args .a) .strategy
 
--- src/lib.rt:185:13
 fill-records-requires : tie.Need-fill-records-requires Inv-loop μ-loop
 unfolding filled give
 fill-records-requires c κs = let p = c .before .before .before .before .before .before .before .before .pre in
@@ -75,56 +64,43 @@ fill-records-requires c κs = let p = c .before .before .before .before .before 
     let fit = fit-done (l .inv .1) (slots-shrink (s .a) (s .level) (s .t4) (l .i) _) (p .0 .1) in
     ((fit-entry (fit .entries) _, fit-entry (fit .entries) _, fit-legs (fit .strategies) _, p .0 .3 .at _, p .0 .2), room-of (whole-some _ _ _ _ _ (c .before .before .before .before .before .if1 .taken)) (room-each _ 32 _ _ (p .1) t (l .inv .1)))
 
--- src/lib.rt:186:28
 cut-entry-requires : tie.Need-cut-entry-requires Inv-loop μ-loop
 cut-entry-requires c κs = search needs
 
--- src/lib.rt:186:13
 mul-g : tie.Need-mul-g Inv-loop μ-loop
 mul-g c = search needs
 
--- src/lib.rt:186:13
 element-set-from-g : tie.Need-element-set-from-g Inv-loop μ-loop
 element-set-from-g c = c .before .before .before .before .before .before .before .before .before .before .before .pre .0 .0
 
--- src/lib.rt:187:21
 mul-g-2 : tie.Need-mul-g-2 Inv-loop μ-loop
 mul-g-2 c = search needs
 
--- src/lib.rt:187:21
 element-copy-out-g : tie.Need-element-copy-out-g Inv-loop μ-loop
 element-copy-out-g c = c .before .before .before .before .before .before .before .before .before .loop-test .taken
 
--- src/lib.rt:188:28
 cut-entry-requires-2 : tie.Need-cut-entry-requires-2 Inv-loop μ-loop
 cut-entry-requires-2 c κs = search needs
 
--- src/lib.rt:188:13
 mul-t22 : tie.Need-mul-t22 Inv-loop μ-loop
 mul-t22 c = search needs
 
--- src/lib.rt:188:13
 element-set-from-c : tie.Need-element-set-from-c Inv-loop μ-loop
 element-set-from-c c = c .before .before .before .before .before .before .before .before .before .before .before .loop-test .taken
 
--- src/lib.rt:190:9
 add-i : tie.Need-add-i Inv-loop μ-loop
 add-i c = omega arith
 
--- src/lib.rt:178:5
 loop-less : tie.Need-loop-less Inv-loop μ-loop
 loop-less c = omega arith
 
--- src/lib.rt:178:5
 loop-again : tie.Need-loop-again Inv-loop μ-loop
 unfolding filled cut withEntries
 loop-again c = (omega arith, ⊎-elim (λ w. rw (w .11, w .12, w .13) (each-next (giveAt (c .before .before .before .args .a) (c .before .before .before .args .level) (c .before .before .before .args .t4)) _ _ (c .before .before .loop .inv .1) (done-of (whole-some _ _ _ _ _ (w .0 .taken)) (record { wrote = w .6 .ensures; state = rw (w .10 .ensures, w .8 .ensures) })))) (λ w. rw (w .1, w .2, w .3) (each-next (giveAt (c .before .before .before .args .a) (c .before .before .before .args .level) (c .before .before .before .args .t4)) _ _ (c .before .before .loop .inv .1) (done-of (whole-none _ _ _ _ _ (w .0 .left)) (done-still _ _ _)))) (c .if1 .came))
 
--- src/lib.rt:170:1
 same-length : tie.Need-same-length Inv-loop μ-loop
 same-length c = done-length (c .before .loop .inv .1)
 
--- src/lib.rt:170:1
 returns : tie.Need-returns Inv-loop μ-loop
 unfolding give
 returns c = let e : c .before .loop .i ≡ 32 = omega arith in rw e at (c .before .loop .inv .1)

@@ -12,80 +12,61 @@ use Rattle.fills.proofs.whole_fill.Lts as lts
 use Rattle.fills.proofs.cut_entry.Reads as cut-entry-reads
 use Rattle.fills.proofs.fill_records.Reads as fill-records-reads
 
--- src/lib.rt:154:9
 returns : tie.Need-returns
 returns c = done-of (whole-none _ _ _ _ _ (c .if1 .taken)) (done-still _ _ _)
 
--- src/lib.rt:157:13
 mul-e : tie.Need-mul-e
 mul-e c = search needs
 
--- src/lib.rt:157:13
 element-copy-out-e : tie.Need-element-copy-out-e
 element-copy-out-e c = search needs
 
--- src/lib.rt:158:13
 mul-f : tie.Need-mul-f
 mul-f c = search needs
 
--- src/lib.rt:158:13
 element-copy-out-f : tie.Need-element-copy-out-f
 element-copy-out-f c = search needs
 
--- src/lib.rt:159:13
 cast-k : tie.Need-cast-k
 cast-k c = search needs
 
--- src/lib.rt:160:13
 mul-s : tie.Need-mul-s
 mul-s c = search needs
 
--- src/lib.rt:160:13
 element-copy-out-s : tie.Need-element-copy-out-s
 element-copy-out-s c = fit-entry (c .before .before .before .before .pre .0 .2 .entries) (c .before .before .before .before .args .a) .strategy
 
--- src/lib.rt:161:9
 fill-records-requires : tie.Need-fill-records-requires
 unfolding filled
 fill-records-requires c κs = let p = c .before .before .before .before .before .before .pre in ((fit-entry (p .0 .2 .entries) _, fit-entry (p .0 .2 .entries) _, fit-legs (p .0 .2 .strategies) _, p .0 .4, p .0 .3), room-of (whole-some _ _ _ _ _ (c .before .before .before .before .before .if1 .left)) (p .1))
 
--- src/lib.rt:162:20
 cut-entry-requires : tie.Need-cut-entry-requires
 cut-entry-requires c κs = search needs
 
--- src/lib.rt:162:5
 mul-g : tie.Need-mul-g
 mul-g c = search needs
 
--- src/lib.rt:162:5
 element-set-from-g : tie.Need-element-set-from-g
 element-set-from-g c = search needs
 
--- src/lib.rt:163:13
 mul-g-2 : tie.Need-mul-g-2
 mul-g-2 c = search needs
 
--- src/lib.rt:163:13
 element-copy-out-g : tie.Need-element-copy-out-g
 element-copy-out-g c = search needs
 
--- src/lib.rt:164:20
 cut-entry-requires-2 : tie.Need-cut-entry-requires-2
 cut-entry-requires-2 c κs = search needs
 
--- src/lib.rt:164:5
 mul-t16 : tie.Need-mul-t16
 mul-t16 c = search needs
 
--- src/lib.rt:164:5
 element-set-from-c : tie.Need-element-set-from-c
 element-set-from-c c = search needs
 
--- src/lib.rt:140:1
 same-length : tie.Need-same-length
 same-length c = search needs
 
--- src/lib.rt:140:1
 returns-2 : tie.Need-returns-2
 unfolding filled cut withEntries
 returns-2 c = done-of (whole-some _ _ _ _ _ (c .before .before .before .before .before .before .before .before .before .before .if1 .left)) (record { wrote = c .before .before .before .before .fill-records .ensures; state = rw (c .cut-entry2 .ensures, c .before .before .cut-entry .ensures) })

@@ -9,27 +9,21 @@ use Rattle.given.proofs.legs_given.Reads as legs-given-reads
 use Rattle.terms.proofs.over_threefold.Reads as over-threefold-reads
 use Rattle.terms.proofs.twice.Reads as twice-reads
 
--- src/lib.rt:103:9
 legs-given-requires : tie.Need-legs-given-requires
 legs-given-requires c κs = search needs
 
--- src/lib.rt:104:17
 cast-count : tie.Need-cast-count
 cast-count c = search needs
 
--- src/lib.rt:105:8
 twice-requires : tie.Need-twice-requires
 twice-requires c κs = search needs
 
--- src/lib.rt:106:9
 returns : tie.Need-returns
 returns c = ill-twice _ (c .before .before .before .legs-given .ensures) (told (c .before .twice .ensures) (c .if1 .taken))
 
--- src/lib.rt:108:5
 over-threefold-requires : tie.Need-over-threefold-requires
 over-threefold-requires c κs = search needs
 
--- src/lib.rt:99:1
 returns-2 : tie.Need-returns-2
 returns-2 c = ill-ratios _ (c .before .before .before .before .legs-given .ensures) (told (c .before .before .twice .ensures) (c .before .if1 .left)) (c .over-threefold .ensures)
 

@@ -6,23 +6,18 @@ use Rattle.given.proofs.leg_order_given.Tie as tie
 use Rattle.given.proofs.leg_order_given.Reads as reads
 use Rattle.given.proofs.leg_order_given.Lts as lts
 
--- src/lib.rt:50:17
 add-t3 : tie.Need-add-t3
 add-t3 c = search needs
 
--- src/lib.rt:51:17
 cast-t4 : tie.Need-cast-t4
 cast-t4 c = search needs
 
--- src/lib.rt:52:17
 cast-t5 : tie.Need-cast-t5
 cast-t5 c = search needs
 
--- src/lib.rt:53:15
 cast-t6 : tie.Need-cast-t6
 cast-t6 c = search needs
 
--- src/lib.rt:45:1
 returns : tie.Need-returns
 unfolding legOrderGiven
 returns c = refl

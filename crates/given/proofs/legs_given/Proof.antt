@@ -5,31 +5,24 @@ use Rattle.given.proofs.legs_given.Reads as reads
 use Rattle.given.proofs.legs_given.Lts as lts
 use Rattle.given.proofs.leg_given.Reads as leg-given-reads
 
--- src/lib.rt:86:6
 leg-given-requires : tie.Need-leg-given-requires
 leg-given-requires c κs = fit-legs (c .before .pre .legs) .0
 
--- src/lib.rt:86:22
 leg-given-requires-2 : tie.Need-leg-given-requires-2
 leg-given-requires-2 c κs = fit-legs (c .before .before .pre .legs) .1
 
--- src/lib.rt:86:38
 leg-given-requires-3 : tie.Need-leg-given-requires-3
 leg-given-requires-3 c κs = fit-legs (c .before .before .before .pre .legs) .2
 
--- src/lib.rt:86:54
 leg-given-requires-4 : tie.Need-leg-given-requires-4
 leg-given-requires-4 c κs = fit-legs (c .before .before .before .before .pre .legs) .3
 
--- src/lib.rt:86:70
 leg-given-requires-5 : tie.Need-leg-given-requires-5
 leg-given-requires-5 c κs = fit-legs (c .before .before .before .before .before .pre .legs) .4
 
--- src/lib.rt:86:86
 leg-given-requires-6 : tie.Need-leg-given-requires-6
 leg-given-requires-6 c κs = fit-legs (c .before .before .before .before .before .before .pre .legs) .5
 
--- src/lib.rt:81:1
 returns : tie.Need-returns
 returns c = rw (c .before .before .before .before .before .leg-given .ensures, c .before .before .before .before .leg-given2 .ensures, c .before .before .before .leg-given3 .ensures, c .before .before .leg-given4 .ensures, c .before .leg-given5 .ensures, c .leg-given6 .ensures)
 

@@ -1,4 +1,4 @@
-use Rattle.given.specs.Definitions.{given-legs, strategy-is}
+use Rattle.given.specs.Definitions.{strategy-is}
 use borrow.Author.Needs.{needs}
 use Rattle.given.proofs.strategy_given.Statement.{statement}
 use Rattle.given.proofs.strategy_given.Tie as tie
@@ -7,19 +7,15 @@ use Rattle.given.proofs.strategy_given.Lts as lts
 use Rattle.given.proofs.legs_given.Reads as legs-given-reads
 use Rattle.strategies.proofs.defined.Reads as defined-reads
 
--- src/lib.rt:94:9
 legs-given-requires : tie.Need-legs-given-requires
 legs-given-requires c κs = search needs
 
--- src/lib.rt:95:19
 cast-defined : tie.Need-cast-defined
 cast-defined c = search needs
 
--- src/lib.rt:95:5
 defined-requires : tie.Need-defined-requires
-defined-requires c κs = rw (c .before .legs-given .ensures) (given-legs _ (c .before .before .pre))
+defined-requires c κs = search needs
 
--- src/lib.rt:90:1
 returns : tie.Need-returns
 returns c = strategy-is _ (c .before .before .legs-given .ensures) (c .defined .ensures)
 

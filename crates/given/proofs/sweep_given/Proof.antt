@@ -6,26 +6,18 @@ use Rattle.given.proofs.sweep_given.Tie as tie
 use Rattle.given.proofs.sweep_given.Reads as reads
 use Rattle.given.proofs.sweep_given.Lts as lts
 
--- src/lib.rt:16:17
 add-t3 : tie.Need-add-t3
 add-t3 c = search needs
 
--- src/lib.rt:17:17
 cast-t4 : tie.Need-cast-t4
 cast-t4 c = search needs
 
--- src/lib.rt:18:19
 cast-t5 : tie.Need-cast-t5
 cast-t5 c = search needs
 
--- src/lib.rt:19:15
-cast-t6 : tie.Need-cast-t6
-cast-t6 c = search needs
-
--- src/lib.rt:11:1
 returns : tie.Need-returns
 unfolding sweepGiven
 returns c = refl
 
 pub sweep-given-spec : {M : Type 1} → statement M
-sweep-given-spec = tie.close (tie.spec add-t3 cast-t4 cast-t5 cast-t6 returns)
+sweep-given-spec = tie.close (tie.spec add-t3 cast-t4 cast-t5 returns)

@@ -16,51 +16,39 @@ Inv-loop os side q space₀ n ps count legs c₀ i₀ space c i = (i ≤ count) 
 abbrev μ-loop : tie.MeasureT-loop
 μ-loop os side q space₀ n ps count legs c₀ i₀ space c i = count - i
 
--- src/lib.rt:124:17
 cast-count : tie.Need-cast-count Inv-loop μ-loop
 cast-count c = omega arith
 
--- src/lib.rt:128:5
 loop-holds : tie.Need-loop-holds Inv-loop μ-loop
 loop-holds c = (omega arith, legs-first _ _ _ _ _ _ _)
 
--- src/lib.rt:129:36
 mul-one-leg : tie.Need-mul-one-leg Inv-loop μ-loop
 mul-one-leg c = omega arith
 
--- src/lib.rt:129:36
 array-read-one-leg : tie.Need-array-read-one-leg Inv-loop μ-loop
 array-read-one-leg c = omega arith
 
--- src/lib.rt:129:43
 mul-one-leg-2 : tie.Need-mul-one-leg-2 Inv-loop μ-loop
 mul-one-leg-2 c = omega arith
 
--- src/lib.rt:129:43
 array-copy-out-one-leg : tie.Need-array-copy-out-one-leg Inv-loop μ-loop
 array-copy-out-one-leg c = omega arith
 
--- src/lib.rt:129:9
 one-leg-requires : tie.Need-one-leg-requires Inv-loop μ-loop
 one-leg-requires c κs = ((c .before .before .before .before .before .before .pre .0 .0, fit-leg (c .before .before .before .before .before .before .pre .0 .1 .legs) _ .ratio, c .before .before .before .before .before .before .pre .0 .2, c .before .before .before .before .before .before .pre .0 .3 .at _), room-row _ _ _ (c .before .before .before .before .before .before .pre .1) (c .before .before .loop-test .taken) (c .before .before .before .loop .inv .1 .wrote))
 
--- src/lib.rt:130:9
 add-i : tie.Need-add-i Inv-loop μ-loop
 add-i c = omega arith
 
--- src/lib.rt:128:5
 loop-less : tie.Need-loop-less Inv-loop μ-loop
 loop-less c = omega arith
 
--- src/lib.rt:128:5
 loop-again : tie.Need-loop-again Inv-loop μ-loop
 loop-again c = (omega arith, legs-next (c .before .before .before .before .before .loop .inv .1) (c .before .one-leg .ensures))
 
--- src/lib.rt:119:1
 same-length : tie.Need-same-length Inv-loop μ-loop
 same-length c = wrote-length (c .before .loop .inv .1 .wrote)
 
--- src/lib.rt:119:1
 returns : tie.Need-returns Inv-loop μ-loop
 returns c = let e : c .before .loop .i ≡ c .before .before .before .before .args .s .count = omega arith in rw e at (c .before .loop .inv .1)
 

@@ -18,51 +18,39 @@ Inv-loop os qs ps₀ i₀ ps i = (i ≤ 32) × (ps ≡ seam (cutAt os qs) os i)
 abbrev μ-loop : tie.MeasureT-loop
 μ-loop os qs ps₀ i₀ ps i = 32 - i
 
--- src/lib.rt:92:5
 loop-holds : tie.Need-loop-holds Inv-loop μ-loop
 loop-holds c = (omega arith, sym (seam-first _ _))
 
--- src/lib.rt:93:27
 mul-cut-order : tie.Need-mul-cut-order Inv-loop μ-loop
 mul-cut-order c = omega arith
 
--- src/lib.rt:93:27
 array-copy-out-cut-order : tie.Need-array-copy-out-cut-order Inv-loop μ-loop
 array-copy-out-cut-order c = omega arith
 
--- src/lib.rt:93:34
 mul-cut-order-2 : tie.Need-mul-cut-order-2 Inv-loop μ-loop
 mul-cut-order-2 c = omega arith
 
--- src/lib.rt:93:34
 array-read-cut-order : tie.Need-array-read-cut-order Inv-loop μ-loop
 array-read-cut-order c = omega arith
 
--- src/lib.rt:93:17
 cut-order-requires : tie.Need-cut-order-requires Inv-loop μ-loop
 cut-order-requires c κs = search needs
 
--- src/lib.rt:93:9
 mul-ps : tie.Need-mul-ps Inv-loop μ-loop
 mul-ps c = omega arith
 
--- src/lib.rt:93:9
 array-set-from-ps : tie.Need-array-set-from-ps Inv-loop μ-loop
 array-set-from-ps c = omega arith
 
--- src/lib.rt:94:9
 add-i : tie.Need-add-i Inv-loop μ-loop
 add-i c = omega arith
 
--- src/lib.rt:92:5
 loop-less : tie.Need-loop-less Inv-loop μ-loop
 loop-less c = omega arith
 
--- src/lib.rt:92:5
 loop-again : tie.Need-loop-again Inv-loop μ-loop
 loop-again c = let n : length (c .before .before .before .before .args .t1) ≡ 32 = search needs in (omega arith, rw (c .before .before .before .loop .inv .1, c .cut-order .ensures) (seam-next _ _ noOrder _ (omega arith)))
 
--- src/lib.rt:87:1
 returns : tie.Need-returns Inv-loop μ-loop
 unfolding cutOrders
 returns c = let n : length (c .before .before .args .t1) ≡ 32 = search needs in let e : c .before .loop .i ≡ 32 = omega arith in rw (c .before .loop .inv .1, e) (seam-last _ _ 32 (omega arith))

@@ -13,43 +13,33 @@ use Rattle.legging.proofs.take_legs.Reads as take-legs-reads
 use Rattle.nets.proofs.prices.Reads as prices-reads
 use Rattle.nets.proofs.units_of.Reads as units-of-reads
 
--- src/lib.rt:205:13
 mul-e : tie.Need-mul-e
 mul-e c = search needs
 
--- src/lib.rt:205:13
 element-copy-out-e : tie.Need-element-copy-out-e
 element-copy-out-e c = search needs
 
--- src/lib.rt:206:13
 cast-k : tie.Need-cast-k
 cast-k c = search needs
 
--- src/lib.rt:207:13
 mul-s : tie.Need-mul-s
 mul-s c = search needs
 
--- src/lib.rt:207:13
 element-copy-out-s : tie.Need-element-copy-out-s
 element-copy-out-s c = fit-entry (c .before .before .pre .0 .1 .entries) (c .before .before .args .a) .strategy
 
--- src/lib.rt:210:9
 prices-requires : tie.Need-prices-requires
 prices-requires c κs = search needs
 
--- src/lib.rt:211:9
 units-of-requires : tie.Need-units-of-requires
 units-of-requires c κs = (c .before .before .before .before .before .before .pre .0 .1 .orders, fit-legs (c .before .before .before .before .before .before .pre .0 .1 .strategies) _)
 
--- src/lib.rt:212:5
 take-legs-requires : tie.Need-take-legs-requires
 take-legs-requires c κs = ((c .before .before .before .before .before .before .before .before .pre .0 .0, c .before .before .before .before .before .before .before .before .pre .0 .1, fit-legs (c .before .before .before .before .before .before .before .before .pre .0 .1 .strategies) _, rw (c .before .units-of .ensures) (le-trans (units-most _ _ _ _ _) (fit-entry (c .before .before .before .before .before .before .before .before .pre .0 .1 .entries) (c .before .before .before .before .before .before .before .before .args .a) .units)), rw (c .before .before .prices .ensures) (prices-most _ _ _ (c .before .before .before .before .before .before .before .before .pre .0 .1 .orders))), room-of (fill-is _ _ (c .before .before .prices .ensures) (c .before .units-of .ensures)) (c .before .before .before .before .before .before .before .before .pre .1))
 
--- src/lib.rt:200:1
 same-length : tie.Need-same-length
 same-length c = search needs
 
--- src/lib.rt:200:1
 returns : tie.Need-returns
 returns c = done-of (fill-is _ _ (c .before .before .before .before .prices .ensures) (c .before .before .before .units-of .ensures)) (c .before .take-legs .ensures)
 

@@ -9,23 +9,18 @@ use Rattle.sides.proofs.other.Reads as other-reads
 use Rattle.nets.proofs.lots.Reads as lots-reads
 use Rattle.quotas.proofs.in_turn.Reads as in-turn-reads
 
--- src/lib.rt:32:20
 leg-side-requires : tie.Need-leg-side-requires
 leg-side-requires c κs = search needs
 
--- src/lib.rt:32:9
 other-requires : tie.Need-other-requires
 other-requires c κs = search needs
 
--- src/lib.rt:33:9
 lots-requires : tie.Need-lots-requires
 lots-requires c κs = search needs
 
--- src/lib.rt:34:5
 in-turn-requires : tie.Need-in-turn-requires
 in-turn-requires c κs = search needs
 
--- src/lib.rt:29:1
 returns : tie.Need-returns
 unfolding legQuotas
 returns c = rw (c .in-turn .ensures, c .before .lots .ensures, c .before .before .other .ensures, c .before .before .before .leg-side .ensures)

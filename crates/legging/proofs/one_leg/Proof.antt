@@ -9,31 +9,24 @@ use Rattle.legging.proofs.cut_orders.Reads as cut-orders-reads
 use Rattle.legging.proofs.leg_quotas.Reads as leg-quotas-reads
 use Rattle.legging.proofs.order_rows.Reads as order-rows-reads
 
--- src/lib.rt:110:17
 cast-ratio : tie.Need-cast-ratio
 cast-ratio c = search needs
 
--- src/lib.rt:111:35
 mul-leg-quotas : tie.Need-mul-leg-quotas
 mul-leg-quotas c = omega (arith, contracts-fit _ _ (c .before .pre .0 .1) (c .before .pre .0 .2))
 
--- src/lib.rt:111:9
 leg-quotas-requires : tie.Need-leg-quotas-requires
 leg-quotas-requires c κs = search needs
 
--- src/lib.rt:112:9
 order-rows-requires : tie.Need-order-rows-requires
 order-rows-requires c κs = rw (c .before .leg-quotas .ensures) ((c .before .before .before .pre .0 .0, quotas-most _ _ _ _ _ (omega (arith, contracts-fit _ _ (c .before .before .before .pre .0 .1) (c .before .before .before .pre .0 .2))), c .before .before .before .pre .0 .3), c .before .before .before .pre .1)
 
--- src/lib.rt:114:9
 cut-orders-requires : tie.Need-cut-orders-requires
 cut-orders-requires c κs = search needs
 
--- src/lib.rt:105:1
 same-length : tie.Need-same-length
 same-length c = search needs
 
--- src/lib.rt:105:1
 returns : tie.Need-returns
 returns c = record { wrote = rw (c .before .before .before .before .before .leg-quotas .ensures) at (c .before .before .before .order-rows .ensures); left = rw (c .before .before .before .before .before .leg-quotas .ensures) at (c .cut-orders .ensures) }
 

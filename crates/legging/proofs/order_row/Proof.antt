@@ -8,23 +8,18 @@ use Rattle.legging.proofs.order_row.Lts as lts
 use Rattle.records.proofs.push.Reads as push-reads
 use Rattle.trades.proofs.order_record.Reads as order-record-reads
 
--- src/lib.rt:57:9
 returns : tie.Need-returns
 returns c = rw (row-none _ _ _ (c .if1 .taken)) (wrote-nil _ _)
 
--- src/lib.rt:59:9
 order-record-requires : tie.Need-order-record-requires
 order-record-requires c κs = search needs
 
--- src/lib.rt:60:5
 push-requires : tie.Need-push-requires
 push-requires c κs = (rw (c .before .order-record .ensures) (rw (row-some _ _ _ (c .before .before .if1 .left)) at (c .before .before .before .pre .1)), rw (c .before .order-record .ensures) (order-small _ _ _ (c .before .before .before .pre .0 .0) (c .before .before .before .pre .0 .1) (c .before .before .before .pre .0 .2)))
 
--- src/lib.rt:51:1
 same-length : tie.Need-same-length
 same-length c = search needs
 
--- src/lib.rt:51:1
 returns-2 : tie.Need-returns-2
 returns-2 c = rw (row-some _ _ _ (c .before .before .before .before .if1 .left)) (rw (c .before .before .before .order-record .ensures) at (c .before .push .ensures))
 

@@ -17,47 +17,36 @@ Inv-loop space₀ n price os qs m₀ i₀ space m i = (i ≤ 32) × Wrote space�
 abbrev μ-loop : tie.MeasureT-loop
 μ-loop space₀ n price os qs m₀ i₀ space m i = 32 - i
 
--- src/lib.rt:71:5
 loop-holds : tie.Need-loop-holds Inv-loop μ-loop
 loop-holds c = (omega arith, wrote-first _ _ _)
 
--- src/lib.rt:72:33
 mul-order-row : tie.Need-mul-order-row Inv-loop μ-loop
 mul-order-row c = omega arith
 
--- src/lib.rt:72:33
 array-copy-out-order-row : tie.Need-array-copy-out-order-row Inv-loop μ-loop
 array-copy-out-order-row c = omega arith
 
--- src/lib.rt:72:40
 mul-order-row-2 : tie.Need-mul-order-row-2 Inv-loop μ-loop
 mul-order-row-2 c = omega arith
 
--- src/lib.rt:72:40
 array-read-order-row : tie.Need-array-read-order-row Inv-loop μ-loop
 array-read-order-row c = omega arith
 
--- src/lib.rt:72:9
 order-row-requires : tie.Need-order-row-requires Inv-loop μ-loop
 order-row-requires c κs = ((fit-order (c .before .before .before .before .pre .0 .0) _, c .before .before .before .before .pre .0 .1 .at _, c .before .before .before .before .pre .0 .2), room-row _ 32 _ (c .before .before .before .before .pre .1) (c .before .before .loop-test .taken) (c .before .before .before .loop .inv .1))
 
--- src/lib.rt:73:9
 add-i : tie.Need-add-i Inv-loop μ-loop
 add-i c = omega arith
 
--- src/lib.rt:71:5
 loop-less : tie.Need-loop-less Inv-loop μ-loop
 loop-less c = omega arith
 
--- src/lib.rt:71:5
 loop-again : tie.Need-loop-again Inv-loop μ-loop
 loop-again c = (omega arith, wrote-next _ _ (c .before .before .before .before .before .loop .inv .1) (c .before .order-row .ensures))
 
--- src/lib.rt:64:1
 same-length : tie.Need-same-length Inv-loop μ-loop
 same-length c = wrote-length (c .before .loop .inv .1)
 
--- src/lib.rt:64:1
 returns : tie.Need-returns Inv-loop μ-loop
 returns c = let e : c .before .loop .i ≡ 32 = omega arith in rw e at (c .before .loop .inv .1)
 

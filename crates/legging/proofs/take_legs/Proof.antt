@@ -13,37 +13,29 @@ use Rattle.fills.proofs.party_records.Reads as party-records-reads
 use Rattle.legging.proofs.all_legs.Reads as all-legs-reads
 use Rattle.nets.proofs.net_of.Reads as net-of-reads
 
--- src/lib.rt:153:13
 mul-e : tie.Need-mul-e
 mul-e c = search needs
 
--- src/lib.rt:153:13
 element-copy-out-e : tie.Need-element-copy-out-e
 element-copy-out-e c = search needs
 
--- src/lib.rt:155:9
 net-of-requires : tie.Need-net-of-requires
 net-of-requires c κs = search needs
 
--- src/lib.rt:156:9
 party-records-requires : tie.Need-party-records-requires
 unfolding takeLegs
 party-records-requires c κs = let p = c .before .before .before .before .pre in rw (c .before .net-of .ensures) ((fit-entry (p .0 .1 .entries) _, p .0 .2, p .0 .3, level-fits _ _ (p .0 .2) (p .0 .4), p .0 .4), room-first _ _ (p .1))
 
--- src/lib.rt:157:9
 all-legs-requires : tie.Need-all-legs-requires
 unfolding takeLegs
 all-legs-requires c κs = let p = c .before .before .before .before .before .before .before .pre in ((p .0 .1 .orders, p .0 .2, p .0 .3, p .0 .4), room-next _ _ (p .1) (rw (c .before .before .before .before .net-of .ensures) at (c .before .before .party-records .ensures)))
 
--- src/lib.rt:159:9
 cut-requires : tie.Need-cut-requires
 cut-requires c κs = search needs
 
--- src/lib.rt:140:1
 same-length : tie.Need-same-length
 same-length c = search needs
 
--- src/lib.rt:140:1
 returns : tie.Need-returns
 unfolding takeLegs withOrders
 returns c = record { wrote = wrote-append (rw (c .before .before .before .before .before .before .before .before .net-of .ensures) at (c .before .before .before .before .before .before .party-records .ensures)) (c .before .before .before .all-legs .ensures .wrote); state = rw (c .cut .ensures, c .before .before .before .all-legs .ensures .left) }

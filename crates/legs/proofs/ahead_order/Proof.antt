@@ -8,23 +8,18 @@ use Rattle.legs.proofs.ahead_order.Lts as lts
 use Rattle.legs.proofs.meets_order.Reads as meets-order-reads
 use Rattle.sides.proofs.better.Reads as better-reads
 
--- src/lib.rt:103:8
 meets-order-requires : tie.Need-meets-order-requires
 meets-order-requires c κs = search needs
 
--- src/lib.rt:105:13
 returns : tie.Need-returns
 returns c = ahead-first _ _ _ _ (told (c .before .before .meets-order .ensures) (c .before .if1 .taken)) (c .if2 .taken)
 
--- src/lib.rt:107:9
 better-requires : tie.Need-better-requires
 better-requires c κs = search needs
 
--- src/lib.rt:107:9
 returns-2 : tie.Need-returns-2
 returns-2 c = ahead-better _ _ _ _ (told (c .before .before .before .meets-order .ensures) (c .before .before .if1 .taken)) (c .before .if2 .left) (c .better .ensures)
 
--- src/lib.rt:100:1
 returns-3 : tie.Need-returns-3
 returns-3 c = ahead-not _ _ _ _ (told (c .before .meets-order .ensures) (c .if1 .left))
 

@@ -18,35 +18,27 @@ Inv-loop o b best₀ price₀ i₀ best price i = (i ≤ 32) × Leading b o i be
 abbrev μ-loop : tie.MeasureT-loop
 μ-loop o b best₀ price₀ i₀ best price i = 32 - i
 
--- src/lib.rt:119:5
 loop-holds : tie.Need-loop-holds Inv-loop μ-loop
 loop-holds c = (omega arith, leading-first _ _)
 
--- src/lib.rt:120:17
 mul-p : tie.Need-mul-p Inv-loop μ-loop
 mul-p c = omega arith
 
--- src/lib.rt:120:17
 element-copy-out-p : tie.Need-element-copy-out-p Inv-loop μ-loop
 element-copy-out-p c = omega arith
 
--- src/lib.rt:121:12
 ahead-order-requires : tie.Need-ahead-order-requires Inv-loop μ-loop
 ahead-order-requires c κs = search needs
 
--- src/lib.rt:125:9
 add-i : tie.Need-add-i Inv-loop μ-loop
 add-i c = omega arith
 
--- src/lib.rt:119:5
 loop-less : tie.Need-loop-less Inv-loop μ-loop
 loop-less c = omega arith
 
--- src/lib.rt:119:5
 loop-again : tie.Need-loop-again Inv-loop μ-loop
 loop-again c = (omega arith, ⊎-elim (λ w. rw (w .1, w .2) (leading-here _ _ _ (c .before .before .before .before .loop .inv .1) (told (c .before .ahead-order .ensures) (w .0 .taken)))) (λ w. rw (w .1, w .2) (leading-past _ _ _ (c .before .before .before .before .loop .inv .1) (told (c .before .ahead-order .ensures) (w .0 .left)))) (c .if1 .came))
 
--- src/lib.rt:113:1
 returns : tie.Need-returns Inv-loop μ-loop
 unfolding bestOrder
 returns c = let e : c .before .loop .i ≡ 32 = omega arith in rw e at (c .before .loop .inv .1 .slot)

@@ -20,39 +20,30 @@ Inv-loop os n₀ i₀ n i = (i ≤ 32) × Counted liveOrder os i n
 abbrev μ-loop : tie.MeasureT-loop
 μ-loop os n₀ i₀ n i = 32 - i
 
--- src/lib.rt:56:5
 loop-holds : tie.Need-loop-holds Inv-loop μ-loop
 loop-holds c = (omega arith, counted-first _ noOrder _)
 
--- src/lib.rt:57:17
 mul-live : tie.Need-mul-live Inv-loop μ-loop
 mul-live c = omega arith
 
--- src/lib.rt:57:17
 array-copy-out-live : tie.Need-array-copy-out-live Inv-loop μ-loop
 array-copy-out-live c = omega arith
 
--- src/lib.rt:57:12
 live-requires : tie.Need-live-requires Inv-loop μ-loop
 live-requires c κs = search needs
 
--- src/lib.rt:58:13
 add-n : tie.Need-add-n Inv-loop μ-loop
 add-n c = let n : length (c .before .before .before .before .before .args .t1) ≡ 32 = search needs in let k = c .before .before .before .before in omega (arith, counted-room liveOrder noOrder (k .before .args .t1) (k .loop .i) n (c .before .before .before .loop-test .taken) (k .loop .inv .1))
 
--- src/lib.rt:60:9
 add-i : tie.Need-add-i Inv-loop μ-loop
 add-i c = omega arith
 
--- src/lib.rt:56:5
 loop-less : tie.Need-loop-less Inv-loop μ-loop
 loop-less c = omega arith
 
--- src/lib.rt:56:5
 loop-again : tie.Need-loop-again Inv-loop μ-loop
 loop-again c = let n : length (c .before .before .before .before .before .args .t1) ≡ 32 = search needs in let k = c .before .before .before .before in (omega arith, ⊎-elim (λ w. rw (w .1) (counted-more _ noOrder _ _ n (c .before .before .before .loop-test .taken) (told (c .before .live .ensures) (w .0 .taken)) (k .loop .inv .1))) (λ w. rw (w .1) (counted-skip _ noOrder _ _ n (c .before .before .before .loop-test .taken) (told (c .before .live .ensures) (w .0 .left)) (k .loop .inv .1))) (c .if1 .came))
 
--- src/lib.rt:51:1
 returns : tie.Need-returns Inv-loop μ-loop
 returns c = let n : length (c .before .before .args .t1) ≡ 32 = search needs in counted-all _ noOrder _ _ n (c .loop-test .left) (c .before .loop .inv .1)
 

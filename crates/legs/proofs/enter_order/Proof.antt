@@ -1,4 +1,4 @@
-use Rattle.rules.specs.Events.{enterOrder, freeOrderSlot}
+use Rattle.rules.specs.Events.{enterOrder}
 use Rattle.rules.specs.State.{withLast}
 use borrow.Author.Needs.{needs}
 use Rattle.legs.proofs.enter_order.Statement.{statement}
@@ -8,16 +8,12 @@ use Rattle.legs.proofs.enter_order.Lts as lts
 use Rattle.legs.proofs.insert.Reads as insert-reads
 use Rattle.records.proofs.with_orders.Reads as with-orders-reads
 
--- src/lib.rt:87:9
 insert-requires : tie.Need-insert-requires
-unfolding freeOrderSlot
-insert-requires c κs = c .before .pre
+insert-requires c κs = search needs
 
--- src/lib.rt:88:9
 with-orders-requires : tie.Need-with-orders-requires
 with-orders-requires c κs = search needs
 
--- src/lib.rt:82:1
 returns : tie.Need-returns
 unfolding enterOrder withLast
 returns c = rw (c .with-orders .ensures, c .before .insert .ensures)

@@ -6,11 +6,9 @@ use Rattle.legs.proofs.free_order_slot.Reads as reads
 use Rattle.legs.proofs.free_order_slot.Lts as lts
 use Rattle.legs.proofs.count.Reads as count-reads
 
--- src/lib.rt:70:5
 count-requires : tie.Need-count-requires
 count-requires c κs = search needs
 
--- src/lib.rt:66:1
 returns : tie.Need-returns
 unfolding freeOrderSlot
 returns c = c .count .ensures

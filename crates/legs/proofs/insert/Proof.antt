@@ -1,4 +1,4 @@
-use Rattle.tables.specs.Packed.{Packing, packing-first, packing-more, packing-skip, counted-room, counted-all, inserted}
+use Rattle.tables.specs.Packed.{Packing, packing-first, packing-more, packing-skip, counted-room, inserted, inserted-none}
 use Rattle.rules.specs.Events.{liveOrder}
 use Rattle.rules.specs.State.{noOrder}
 use Rattle.base.specs.Pick.{told}
@@ -20,57 +20,47 @@ Inv-loop o os rows₀ n₀ i₀ rows n i = (i ≤ 32) × Packing liveOrder noOrd
 abbrev μ-loop : tie.MeasureT-loop
 μ-loop o os rows₀ n₀ i₀ rows n i = 32 - i
 
--- src/lib.rt:39:5
 loop-holds : tie.Need-loop-holds Inv-loop μ-loop
 loop-holds c = (omega arith, packing-first _ _ _)
 
--- src/lib.rt:40:17
 mul-x : tie.Need-mul-x Inv-loop μ-loop
 mul-x c = omega arith
 
--- src/lib.rt:40:17
 array-copy-out-x : tie.Need-array-copy-out-x Inv-loop μ-loop
 array-copy-out-x c = omega arith
 
--- src/lib.rt:41:12
 live-requires : tie.Need-live-requires Inv-loop μ-loop
 live-requires c κs = search needs
 
--- src/lib.rt:42:13
 mul-rows : tie.Need-mul-rows Inv-loop μ-loop
 mul-rows c = let n : length (c .before .before .before .before .before .args .t1) ≡ 32 = search needs in omega (arith, counted-room liveOrder noOrder (c .before .before .before .before .before .args .t1) (c .before .before .before .before .loop .i) n (c .before .before .before .loop-test .taken) (c .before .before .before .before .loop .inv .1 .counted))
 
--- src/lib.rt:42:13
 array-set-from-rows : tie.Need-array-set-from-rows Inv-loop μ-loop
 array-set-from-rows c = let n : length (c .before .before .before .before .before .args .t1) ≡ 32 = search needs in omega (arith, counted-room liveOrder noOrder (c .before .before .before .before .before .args .t1) (c .before .before .before .before .loop .i) n (c .before .before .before .loop-test .taken) (c .before .before .before .before .loop .inv .1 .counted))
 
--- src/lib.rt:43:13
 add-n : tie.Need-add-n Inv-loop μ-loop
 add-n c = let n : length (c .before .before .before .before .before .args .t1) ≡ 32 = search needs in omega (arith, counted-room liveOrder noOrder (c .before .before .before .before .before .args .t1) (c .before .before .before .before .loop .i) n (c .before .before .before .loop-test .taken) (c .before .before .before .before .loop .inv .1 .counted))
 
--- src/lib.rt:45:9
 add-i : tie.Need-add-i Inv-loop μ-loop
 add-i c = omega arith
 
--- src/lib.rt:39:5
 loop-less : tie.Need-loop-less Inv-loop μ-loop
 loop-less c = omega arith
 
--- src/lib.rt:39:5
 loop-again : tie.Need-loop-again Inv-loop μ-loop
 loop-again c = let k = c .before .before .before .before in let n : length (c .before .before .before .before .before .args .t1) ≡ 32 = search needs in (omega arith, ⊎-elim (λ w. rw (w .1, w .2) (packing-more _ _ _ _ n (c .before .before .before .loop-test .taken) (told (c .before .live .ensures) (w .0 .taken)) (k .loop .inv .1))) (λ w. rw (w .1, w .2) (packing-skip _ _ _ _ n (c .before .before .before .loop-test .taken) (told (c .before .live .ensures) (w .0 .left)) (k .loop .inv .1))) (c .if1 .came))
 
--- src/lib.rt:47:5
 mul-rows-2 : tie.Need-mul-rows-2 Inv-loop μ-loop
-mul-rows-2 c = let n : length (c .before .before .args .t1) ≡ 32 = search needs in omega (arith, counted-all liveOrder noOrder (c .before .before .args .t1) (c .before .loop .i) n (c .loop-test .left) (c .before .loop .inv .1 .counted), c .before .before .pre)
+mul-rows-2 c = omega arith
 
--- src/lib.rt:47:5
 array-set-from-rows-2 : tie.Need-array-set-from-rows-2 Inv-loop μ-loop
-array-set-from-rows-2 c = let n : length (c .before .before .args .t1) ≡ 32 = search needs in omega (arith, counted-all liveOrder noOrder (c .before .before .args .t1) (c .before .loop .i) n (c .loop-test .left) (c .before .loop .inv .1 .counted), c .before .before .pre)
+array-set-from-rows-2 c = omega arith
 
--- src/lib.rt:22:1
 returns : tie.Need-returns Inv-loop μ-loop
-returns c = let n : length (c .before .before .args .t1) ≡ 32 = search needs in inserted _ _ _ _ n (c .loop-test .left) _ (c .before .before .pre) (c .before .loop .inv .1)
+returns c = let n : length (c .before .before .before .args .t1) ≡ 32 = search needs in inserted _ _ _ _ n (c .before .loop-test .left) _ (c .if2 .taken) (c .before .before .loop .inv .1)
+
+returns-2 : tie.Need-returns-2 Inv-loop μ-loop
+returns-2 c = let n : length (c .before .before .before .args .t1) ≡ 32 = search needs in inserted-none _ _ _ _ n (c .before .loop-test .left) _ (omega arith) (c .before .before .loop .inv .1)
 
 pub insert-spec : {M : Type 1} → statement M
 insert-spec =
@@ -90,4 +80,5 @@ insert-spec =
     loop-again
     mul-rows-2
     array-set-from-rows-2
-    returns)
+    returns
+    returns-2)

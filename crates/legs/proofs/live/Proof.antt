@@ -5,12 +5,10 @@ use Rattle.legs.proofs.live.Tie as tie
 use Rattle.legs.proofs.live.Reads as reads
 use Rattle.legs.proofs.live.Lts as lts
 
--- src/lib.rt:23:9
 returns : tie.Need-returns
 unfolding liveOrder
 returns c = rw (eq-eqb _ _ (c .if1 .taken))
 
--- src/lib.rt:19:1
 returns-2 : tie.Need-returns-2
 unfolding liveOrder
 returns-2 c = rw (ne-eqb _ _ (c .if1 .left))

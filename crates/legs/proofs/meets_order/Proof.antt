@@ -9,24 +9,19 @@ use Rattle.nets.proofs.stands.Reads as stands-reads
 use Rattle.sides.proofs.meets.Reads as meets-reads
 use Rattle.sides.proofs.other.Reads as other-reads
 
--- src/lib.rt:97:9
 other-requires : tie.Need-other-requires
 other-requires c κs = search needs
 
--- src/lib.rt:98:8
 stands-requires : tie.Need-stands-requires
 stands-requires c κs = search needs
 
--- src/lib.rt:99:9
 meets-requires : tie.Need-meets-requires
 meets-requires c κs = search needs
 
--- src/lib.rt:99:9
 returns : tie.Need-returns
 unfolding meetsOrder
 returns c = rw (c .meets .ensures) (search (tests, told (rw (c .before .before .before .other .ensures) at (c .before .before .stands .ensures)) (c .before .if1 .taken)))
 
--- src/lib.rt:94:1
 returns-2 : tie.Need-returns-2
 unfolding meetsOrder
 returns-2 c = search (tests, told (rw (c .before .before .other .ensures) at (c .before .stands .ensures)) (c .if1 .left))

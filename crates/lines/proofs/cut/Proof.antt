@@ -7,24 +7,19 @@ use Rattle.lines.proofs.cut.Reads as reads
 use Rattle.lines.proofs.cut.Lts as lts
 use Rattle.lines.proofs.told_length.Reads as told-length-reads
 
--- src/lib.rt:42:9
 returns : tie.Need-returns
 unfolding cutOf
 returns c = search tests
 
--- src/lib.rt:44:9
 told-length-requires : tie.Need-told-length-requires
 told-length-requires c κs = search needs
 
--- src/lib.rt:46:9
 returns-2 : tie.Need-returns-2
 returns-2 c = cut-under _ (c .before .told-length .ensures) (c .before .before .if1 .left) (c .if2 .taken)
 
--- src/lib.rt:49:9
 returns-3 : tie.Need-returns-3
 returns-3 c = cut-past _ (c .before .before .told-length .ensures) (c .before .before .before .if1 .left) (c .before .if2 .left) (c .if3 .taken)
 
--- src/lib.rt:38:1
 returns-4 : tie.Need-returns-4
 returns-4 c = cut-whole _ (c .before .before .told-length .ensures) (c .before .before .before .if1 .left) (c .before .if2 .left) (c .if3 .left)
 

@@ -7,16 +7,13 @@ use Rattle.lines.proofs.needed.Reads as reads
 use Rattle.lines.proofs.needed.Lts as lts
 use Rattle.lines.proofs.told_length.Reads as told-length-reads
 
--- src/lib.rt:32:9
 returns : tie.Need-returns
 unfolding neededOf
 returns c = search tests
 
--- src/lib.rt:34:5
 told-length-requires : tie.Need-told-length-requires
 told-length-requires c κs = search needs
 
--- src/lib.rt:28:1
 returns-2 : tie.Need-returns-2
 unfolding neededOf
 returns-2 c = search tests

@@ -9,41 +9,32 @@ use Rattle.lines.proofs.put_event.Lts as lts
 use Rattle.lines.proofs.put_event_line.Reads as put-event-line-reads
 use Rattle.lines.proofs.put_records.Reads as put-records-reads
 
--- src/lib.rt:127:26
 enum-known-answer : tie.Need-enum-known-answer
 enum-known-answer c = search needs
 
--- src/lib.rt:128:17
 put-event-line-requires : tie.Need-put-event-line-requires
 put-event-line-requires c κs = omega arith
 
--- src/lib.rt:129:13
 put-records-requires : tie.Need-put-records-requires
 put-records-requires c κs =
     let e = count-accepted (c .before .before .before .before .before .before .answer .given .1) in
     (omega (arith, e, c .before .before .before .put-event-line .ensures .few, put-length (c .before .before .before .put-event-line .ensures .put)), omega (arith, e))
 
--- src/lib.rt:131:25
 enum-known-answer-2 : tie.Need-enum-known-answer-2
 enum-known-answer-2 c = search needs
 
--- src/lib.rt:131:36
 put-event-line-requires-2 : tie.Need-put-event-line-requires-2
 put-event-line-requires-2 c κs = omega arith
 
--- src/lib.rt:121:1
 same-length : tie.Need-same-length
 same-length c = c .before .before .put-records .kept .0 ∙ c .before .before .before .before .before .before .put-event-line .kept .0
 
--- src/lib.rt:121:1
 returns : tie.Need-returns
 returns c = put-accepted _ _ (c .before .before .before .before .before .before .before .before .before .answer .given .1) (c .before .before .before .before .before .before .put-event-line .ensures) (c .before .before .put-records .ensures)
 
--- src/lib.rt:121:1
 same-length-2 : tie.Need-same-length-2
 same-length-2 c = c .before .before .put-event-line2 .kept .0
 
--- src/lib.rt:121:1
 returns-2 : tie.Need-returns-2
 returns-2 c = put-refused _ _ (c .before .before .before .before .before .answer2 .given .1) (c .before .before .put-event-line2 .ensures)
 

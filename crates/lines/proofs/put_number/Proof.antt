@@ -8,19 +8,15 @@ use Rattle.lines.proofs.put_number.Lts as lts
 use Rattle.lines.proofs.put_byte.Reads as put-byte-reads
 use Rattle.lines.proofs.put_decimal.Reads as put-decimal-reads
 
--- src/lib.rt:37:9
 put-byte-requires : tie.Need-put-byte-requires
 put-byte-requires c κs = search needs
 
--- src/lib.rt:38:5
 put-decimal-requires : tie.Need-put-decimal-requires
 put-decimal-requires c κs = omega (arith, put-length (c .before .before .before .put-byte .ensures), number-length (c .before .before .before .before .before .before .args .n) (omega arith))
 
--- src/lib.rt:33:1
 same-length : tie.Need-same-length
 same-length c = search needs
 
--- src/lib.rt:33:1
 returns : tie.Need-returns
 returns c = put-number _ (omega arith) (c .before .before .before .before .before .before .put-byte .ensures) (c .before .before .put-decimal .ensures)
 

@@ -18,39 +18,30 @@ Inv-loop out₀ at space i m₀ j₀ out m j = Writing (drop (i * 6) space) out�
 abbrev μ-loop : tie.MeasureT-loop
 μ-loop out₀ at space i m₀ j₀ out m j = 6 - j
 
--- src/lib.rt:87:5
 loop-holds : tie.Need-loop-holds Inv-loop μ-loop
 loop-holds c = writing-first _ _ _
 
--- src/lib.rt:88:38
 mul-put-signed : tie.Need-mul-put-signed Inv-loop μ-loop
 mul-put-signed c = omega arith
 
--- src/lib.rt:88:38
 add-put-signed : tie.Need-add-put-signed Inv-loop μ-loop
 add-put-signed c = omega arith
 
--- src/lib.rt:88:32
 mul-put-signed-2 : tie.Need-mul-put-signed-2 Inv-loop μ-loop
 mul-put-signed-2 c = omega arith
 
--- src/lib.rt:88:32
 shared-slice-copy-out-put-signed : tie.Need-shared-slice-copy-out-put-signed Inv-loop μ-loop
 shared-slice-copy-out-put-signed c = omega arith
 
--- src/lib.rt:88:9
 put-signed-requires : tie.Need-put-signed-requires Inv-loop μ-loop
 put-signed-requires c κs = omega (arith, c .before .before .before .loop .inv .few, put-length (c .before .before .before .loop .inv .put))
 
--- src/lib.rt:89:9
 add-j : tie.Need-add-j Inv-loop μ-loop
 add-j c = omega arith
 
--- src/lib.rt:87:5
 loop-less : tie.Need-loop-less Inv-loop μ-loop
 loop-less c = omega arith
 
--- src/lib.rt:87:5
 loop-again : tie.Need-loop-again Inv-loop μ-loop
 loop-again c =
     let l = c .before .before .before .before .before .before .loop in
@@ -58,11 +49,9 @@ loop-again c =
     writing-next _ (l .inv) (c .before .before .before .before .before .loop-test .taken) (omega (arith, length-drop (a .i * 6) (a .space .now)))
     (rw (getD-drop (a .i * 6) (a .space .now) (l .j) (pos 0), ← toZ-ofZ {w = w32} {z = getD (a .space .now) (a .i * 6 + l .j) (pos 0)} (record { sfits = c .before .before .before .put-signed-arg2 .given })) (c .before .before .put-signed .ensures))
 
--- src/lib.rt:80:1
 same-length : tie.Need-same-length Inv-loop μ-loop
 same-length c = put-length (c .before .loop .inv .put)
 
--- src/lib.rt:80:1
 returns : tie.Need-returns Inv-loop μ-loop
 returns c = writing-done _ (c .before .loop .inv) (c .loop-test .left)
 

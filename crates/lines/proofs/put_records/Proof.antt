@@ -13,31 +13,24 @@ Inv-loop out₀ at space n m₀ i₀ out m i = Listing space out₀ out at m i �
 abbrev μ-loop : tie.MeasureT-loop
 μ-loop out₀ at space n m₀ i₀ out m i = n - i
 
--- src/lib.rt:102:5
 loop-holds : tie.Need-loop-holds Inv-loop μ-loop
 loop-holds c = (listing-first _ _ _, omega arith)
 
--- src/lib.rt:103:9
 put-record-line-requires : tie.Need-put-record-line-requires Inv-loop μ-loop
 put-record-line-requires c κs = (omega (arith, c .before .before .loop .inv .0 .few, put-length (c .before .before .loop .inv .0 .put)), omega arith)
 
--- src/lib.rt:104:9
 add-i : tie.Need-add-i Inv-loop μ-loop
 add-i c = omega arith
 
--- src/lib.rt:102:5
 loop-less : tie.Need-loop-less Inv-loop μ-loop
 loop-less c = omega arith
 
--- src/lib.rt:102:5
 loop-again : tie.Need-loop-again Inv-loop μ-loop
 loop-again c = (listing-next _ (c .before .before .before .before .before .loop .inv .0) (c .before .before .put-record-line .ensures), omega arith)
 
--- src/lib.rt:95:1
 same-length : tie.Need-same-length Inv-loop μ-loop
 same-length c = put-length (c .before .loop .inv .0 .put)
 
--- src/lib.rt:95:1
 returns : tie.Need-returns Inv-loop μ-loop
 returns c = listing-done _ _ (c .before .loop .inv .0) (omega arith)
 

@@ -15,40 +15,31 @@ use Rattle.lines.proofs.magnitude.Reads as magnitude-reads
 use Rattle.lines.proofs.put_byte.Reads as put-byte-reads
 use Rattle.lines.proofs.put_decimal.Reads as put-decimal-reads
 
--- src/lib.rt:57:9
 magnitude-requires : tie.Need-magnitude-requires
 magnitude-requires c κs = search needs
 
--- src/lib.rt:58:9
 put-byte-requires : tie.Need-put-byte-requires
 put-byte-requires c κs = search needs
 
--- src/lib.rt:60:13
 put-byte-requires-2 : tie.Need-put-byte-requires-2
 put-byte-requires-2 c κs = search needs
 
--- src/lib.rt:61:9
 put-decimal-requires : tie.Need-put-decimal-requires
 put-decimal-requires c κs = omega (arith, put-length (c .before .before .before .before .before .before .before .before .put-byte .ensures), put-length (c .before .before .before .put-byte2 .ensures), (c .before .before .before .before .before .before .before .before .before .before .magnitude .ensures ∙ ap natAbs (toZ-ofZ (c .before .before .before .before .before .before .before .before .before .before .before .before .fits .x))), signed-length (c .before .before .before .before .before .before .before .before .before .before .magnitude .result) (omega (arith, (c .before .before .before .before .before .before .before .before .before .before .magnitude .ensures ∙ ap natAbs (toZ-ofZ (c .before .before .before .before .before .before .before .before .before .before .before .before .fits .x))), size-fits (c .before .before .before .before .before .before .before .before .before .before .before .before .args .x) (c .before .before .before .before .before .before .before .before .before .before .before .before .fits .x))))
 
--- src/lib.rt:61:9
 same-length : tie.Need-same-length
 same-length c = search needs
 
--- src/lib.rt:61:9
 returns : tie.Need-returns
 returns c =
     put-below (c .before .before .before .before .before .before .before .before .before .before .before .before .before .before .before .args .x) (told (ap (λ (z : ℤ). ltZ z (pos 0)) (toZ-ofZ (c .before .before .before .before .before .before .before .before .before .before .before .before .before .before .before .fits .x))) (c .before .before .before .before .before .before .before .before .if1 .taken)) (size-fits (c .before .before .before .before .before .before .before .before .before .before .before .before .before .before .before .args .x) (c .before .before .before .before .before .before .before .before .before .before .before .before .before .before .before .fits .x)) (c .before .before .before .before .before .before .before .before .before .before .before .put-byte .ensures) (c .before .before .before .before .before .before .put-byte2 .ensures) (rw (c .before .before .before .before .before .before .before .before .before .before .before .before .before .magnitude .ensures ∙ ap natAbs (toZ-ofZ (c .before .before .before .before .before .before .before .before .before .before .before .before .before .before .before .fits .x))) at (c .before .before .put-decimal .ensures))
 
--- src/lib.rt:63:5
 put-decimal-requires-2 : tie.Need-put-decimal-requires-2
 put-decimal-requires-2 c κs = omega (arith, put-length (c .before .before .before .before .put-byte .ensures), signed-length (c .before .before .before .before .before .before .magnitude .result) (omega (arith, (c .before .before .before .before .before .before .magnitude .ensures ∙ ap natAbs (toZ-ofZ (c .before .before .before .before .before .before .before .before .fits .x))), size-fits (c .before .before .before .before .before .before .before .before .args .x) (c .before .before .before .before .before .before .before .before .fits .x))))
 
--- src/lib.rt:53:1
 same-length-2 : tie.Need-same-length-2
 same-length-2 c = search needs
 
--- src/lib.rt:53:1
 returns-2 : tie.Need-returns-2
 returns-2 c =
     put-above (c .before .before .before .before .before .before .before .before .before .before .before .args .x) (told (ap (λ (z : ℤ). ltZ z (pos 0)) (toZ-ofZ (c .before .before .before .before .before .before .before .before .before .before .before .fits .x))) (c .before .before .before .before .if1 .left)) (size-fits (c .before .before .before .before .before .before .before .before .before .before .before .args .x) (c .before .before .before .before .before .before .before .before .before .before .before .fits .x)) (c .before .before .before .before .before .before .before .put-byte .ensures) (rw (c .before .before .before .before .before .before .before .before .before .magnitude .ensures ∙ ap natAbs (toZ-ofZ (c .before .before .before .before .before .before .before .before .before .before .before .fits .x))) at (c .before .before .put-decimal2 .ensures))

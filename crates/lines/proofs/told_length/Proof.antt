@@ -8,31 +8,24 @@ use Rattle.lines.proofs.told_length.Reads as reads
 use Rattle.lines.proofs.told_length.Lts as lts
 use Rattle.lines.proofs.wide.Reads as wide-reads
 
--- src/lib.rt:24:10
 shared-slice-read-wide : tie.Need-shared-slice-read-wide
 shared-slice-read-wide c = search needs
 
--- src/lib.rt:24:5
 wide-requires : tie.Need-wide-requires
 wide-requires c κs = search needs
 
--- src/lib.rt:24:32
 shared-slice-read-wide-2 : tie.Need-shared-slice-read-wide-2
 shared-slice-read-wide-2 c = search needs
 
--- src/lib.rt:24:27
 wide-requires-2 : tie.Need-wide-requires-2
 wide-requires-2 c κs = search needs
 
--- src/lib.rt:24:21
 mul-result : tie.Need-mul-result
 mul-result c = search needs
 
--- src/lib.rt:24:5
 add-result : tie.Need-add-result
 add-result c = search needs
 
--- src/lib.rt:20:1
 returns : tie.Need-returns
 unfolding toldLength number
 returns c = omega arith

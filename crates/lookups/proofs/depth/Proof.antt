@@ -6,31 +6,24 @@ use Rattle.lookups.proofs.depth.Reads as reads
 use Rattle.lookups.proofs.depth.Lts as lts
 use Rattle.nets.proofs.best_of.Reads as best-of-reads
 
--- src/lib.rt:100:9
 returns : tie.Need-returns
 returns c = depth-series _ _ _ (c .if1 .taken)
 
--- src/lib.rt:103:9
 returns-2 : tie.Need-returns-2
 returns-2 c = depth-side _ _ _ (c .before .if1 .left) (c .if2 .taken)
 
--- src/lib.rt:105:25
 cast-best-of : tie.Need-cast-best-of
 cast-best-of c = search needs
 
--- src/lib.rt:105:34
 cast-best-of-2 : tie.Need-cast-best-of-2
 cast-best-of-2 c = search needs
 
--- src/lib.rt:105:9
 best-of-requires : tie.Need-best-of-requires
 best-of-requires c κs = search needs
 
--- src/lib.rt:107:9
 returns-3 : tie.Need-returns-3
 returns-3 c = depth-empty _ _ _ (c .before .before .before .before .if1 .left) (c .before .before .before .if2 .left) (c .before .before .best-of .ensures) (c .if3 .taken)
 
--- src/lib.rt:95:1
 returns-4 : tie.Need-returns-4
 returns-4 c = depth-best _ _ _ (c .before .before .before .before .if1 .left) (c .before .before .before .if2 .left) (c .before .before .best-of .ensures) (c .if3 .left)
 

@@ -1,31 +1,75 @@
-use Rattle.lookups.specs.Lookups.{sum-units-most, sum-contracts-most}
-use Rattle.rules.specs.Lookups.{liveQuantity}
-use native.Mathlib.Omega.{arith}
+use Rattle.lookups.specs.Lookups.{liveN, live-first, live-next, live-last, pair-most, live-most}
+use mathlib.Core.Path.{_≡_}
+use Prim.Native.Nat.{_≤_, _-_}
 use borrow.Author.Needs.{needs}
+use native.Mathlib.Omega.{arith}
 use Rattle.lookups.proofs.live_quantity.Statement.{statement}
 use Rattle.lookups.proofs.live_quantity.Tie as tie
 use Rattle.lookups.proofs.live_quantity.Reads as reads
 use Rattle.lookups.proofs.live_quantity.Lts as lts
-use Rattle.lookups.proofs.live_contracts.Reads as live-contracts-reads
-use Rattle.lookups.proofs.live_units.Reads as live-units-reads
+use Rattle.lookups.proofs.held_by.Reads as held-by-reads
 
--- src/lib.rt:67:9
-live-units-requires : tie.Need-live-units-requires
-live-units-requires c κs = search needs
+abbrev Inv-loop : tie.InvT-loop
+Inv-loop n b quantity₀ i₀ quantity i = (i ≤ 32) × (quantity ≡ liveN b n i)
 
--- src/lib.rt:68:9
-live-contracts-requires : tie.Need-live-contracts-requires
-live-contracts-requires c κs = search needs
+abbrev μ-loop : tie.MeasureT-loop
+μ-loop n b quantity₀ i₀ quantity i = 32 - i
 
--- src/lib.rt:69:5
-add-result : tie.Need-add-result
-add-result c = rw (c .before .live-units .ensures, c .live-contracts .ensures) (omega (arith, sum-units-most (c .before .before .args .b) (c .before .before .args .n) (c .before .before .pre .0) 32, sum-contracts-most (c .before .before .args .b) (c .before .before .args .n) (c .before .before .pre .1) 32))
+loop-holds : tie.Need-loop-holds Inv-loop μ-loop
+loop-holds c = (omega arith, live-first _ _)
 
--- src/lib.rt:63:1
-returns : tie.Need-returns
-unfolding liveQuantity
-returns c = rw (c .before .live-units .ensures, c .live-contracts .ensures)
+mul-e : tie.Need-mul-e Inv-loop μ-loop
+mul-e c = omega arith
+
+element-copy-out-e : tie.Need-element-copy-out-e Inv-loop μ-loop
+element-copy-out-e c = omega arith
+
+mul-o : tie.Need-mul-o Inv-loop μ-loop
+mul-o c = omega arith
+
+element-copy-out-o : tie.Need-element-copy-out-o Inv-loop μ-loop
+element-copy-out-o c = omega arith
+
+held-by-requires : tie.Need-held-by-requires Inv-loop μ-loop
+held-by-requires c κs = search needs
+
+held-by-requires-2 : tie.Need-held-by-requires-2 Inv-loop μ-loop
+held-by-requires-2 c κs = search needs
+
+add-quantity : tie.Need-add-quantity Inv-loop μ-loop
+add-quantity c = omega (arith, pair-most (c .before .before .before .before .before .before .args .t1) (c .before .before .before .before .before .before .args .n) (c .before .before .before .before .before .before .pre .sound .entries) (c .before .before .before .before .before .before .pre .sound .orders) (c .before .before .before .before .before .loop .i) (c .before .held-by .ensures) (c .held-by2 .ensures))
+
+add-quantity-2 : tie.Need-add-quantity-2 Inv-loop μ-loop
+add-quantity-2 c = omega (arith, live-most (c .before .before .before .before .before .before .args .t1) (c .before .before .before .before .before .before .args .n) (c .before .before .before .before .before .before .pre .sound .entries) (c .before .before .before .before .before .before .pre .sound .orders) (c .before .before .before .before .before .loop .i) (c .before .held-by .ensures) (c .held-by2 .ensures) (c .before .before .before .before .before .loop .inv .1) (c .before .before .before .before .loop-test .taken))
+
+add-i : tie.Need-add-i Inv-loop μ-loop
+add-i c = omega arith
+
+loop-less : tie.Need-loop-less Inv-loop μ-loop
+loop-less c = omega arith
+
+loop-again : tie.Need-loop-again Inv-loop μ-loop
+loop-again c = (omega arith, live-next (c .before .before .before .before .before .before .args .t1) _ _ (c .before .before .before .before .before .loop .inv .1) (c .before .held-by .ensures) (c .held-by2 .ensures))
+
+returns : tie.Need-returns Inv-loop μ-loop
+returns c = live-last _ _ (omega arith) (c .before .loop .inv .1)
 
 pub live-quantity-spec : {M : Type 1} → statement M
 live-quantity-spec =
-    tie.close (tie.spec live-units-requires live-contracts-requires add-result returns)
+    tie.close
+    (tie.spec
+    Inv-loop
+    μ-loop
+    loop-holds
+    mul-e
+    element-copy-out-e
+    mul-o
+    element-copy-out-o
+    held-by-requires
+    held-by-requires-2
+    add-quantity
+    add-quantity-2
+    add-i
+    loop-less
+    loop-again
+    returns)

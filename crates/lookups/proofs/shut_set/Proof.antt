@@ -6,19 +6,15 @@ use Rattle.lookups.proofs.shut_set.Tie as tie
 use Rattle.lookups.proofs.shut_set.Reads as reads
 use Rattle.lookups.proofs.shut_set.Lts as lts
 
--- src/lib.rt:77:13
 mul-s : tie.Need-mul-s
 mul-s c = search needs
 
--- src/lib.rt:77:13
 element-copy-out-s : tie.Need-element-copy-out-s
 element-copy-out-s c = search needs
 
--- src/lib.rt:78:17
 sub-result : tie.Need-sub-result
 sub-result c = search needs
 
--- src/lib.rt:73:1
 returns : tie.Need-returns
 returns c = shut-is _ _ (omega arith) (omega arith)
 

@@ -9,34 +9,27 @@ use Rattle.auctions.proofs.live_in.Reads as live-in-reads
 use Rattle.sides.proofs.better.Reads as better-reads
 use Rattle.sides.proofs.other.Reads as other-reads
 
--- src/lib.rt:113:8
 live-in-requires : tie.Need-live-in-requires
 live-in-requires c κs = search needs
 
--- src/lib.rt:116:17
 returns : tie.Need-returns
 unfolding aheadOf
 returns c = search (tests, told (c .before .before .before .before .live-in .ensures) (c .before .before .before .if1 .taken))
 
--- src/lib.rt:118:17
 other-requires : tie.Need-other-requires
 other-requires c κs = search needs
 
--- src/lib.rt:119:13
 better-requires : tie.Need-better-requires
 better-requires c κs = search needs
 
--- src/lib.rt:119:13
 returns-2 : tie.Need-returns-2
 unfolding aheadOf
 returns-2 c = rw (c .better .ensures, c .before .other .ensures) (search (tests, told (c .before .before .before .before .before .before .live-in .ensures) (c .before .before .before .before .before .if1 .taken)))
 
--- src/lib.rt:121:9
 returns-3 : tie.Need-returns-3
 unfolding aheadOf
 returns-3 c = search (tests, told (c .before .before .before .live-in .ensures) (c .before .before .if1 .taken))
 
--- src/lib.rt:110:1
 returns-4 : tie.Need-returns-4
 unfolding aheadOf
 returns-4 c = search (tests, told (c .before .live-in .ensures) (c .if1 .left))

@@ -20,35 +20,27 @@ Inv-loop k side es best₀ level₀ i₀ best level i = (i ≤ 32) × (best ≡ 
 abbrev μ-loop : tie.MeasureT-loop
 μ-loop k side es best₀ level₀ i₀ best level i = 32 - i
 
--- src/lib.rt:133:5
 loop-holds : tie.Need-loop-holds Inv-loop μ-loop
 loop-holds c = (omega arith, walk-first _ _, let n : length (c .args .t1) ≡ 32 = search needs in level-none (c .args .t1) n)
 
--- src/lib.rt:134:17
 mul-e : tie.Need-mul-e Inv-loop μ-loop
 mul-e c = omega arith
 
--- src/lib.rt:134:17
 array-copy-out-e : tie.Need-array-copy-out-e Inv-loop μ-loop
 array-copy-out-e c = omega arith
 
--- src/lib.rt:135:12
 ahead-requires : tie.Need-ahead-requires Inv-loop μ-loop
 ahead-requires c κs = search needs
 
--- src/lib.rt:139:9
 add-i : tie.Need-add-i Inv-loop μ-loop
 add-i c = omega arith
 
--- src/lib.rt:133:5
 loop-less : tie.Need-loop-less Inv-loop μ-loop
 loop-less c = omega arith
 
--- src/lib.rt:133:5
 loop-again : tie.Need-loop-again Inv-loop μ-loop
 loop-again c = ⊎-elim (λ w. rw (w .1, w .2) (omega arith, walk-next _ _ _ (c .before .before .before .before .loop .inv .1) (best-yes (c .before .before .before .before .before .args .t1) _ _ _ (c .before .before .before .before .loop .best) (c .before .before .before .before .loop .inv .2) (told (c .before .ahead .ensures) (w .0 .taken))), refl)) (λ w. rw (w .1, w .2) (omega arith, walk-next _ _ _ (c .before .before .before .before .loop .inv .1) (best-not (c .before .before .before .before .before .args .t1) _ _ _ (c .before .before .before .before .loop .best) (c .before .before .before .before .loop .inv .2) (told (c .before .ahead .ensures) (w .0 .left))), c .before .before .before .before .loop .inv .2)) (c .if1 .came)
 
--- src/lib.rt:127:1
 returns : tie.Need-returns Inv-loop μ-loop
 unfolding bestOf
 returns c = let e : c .before .loop .i ≡ 32 = omega arith in rw e at (c .before .loop .inv .1)

@@ -21,44 +21,34 @@ Inv-loop s space₀ n c₀ m₀ k₀ space c m k = (k ≤ 16) × Done space₀ s
 abbrev μ-loop : tie.MeasureT-loop
 μ-loop s space₀ n c₀ m₀ k₀ space c m k = 16 - k
 
--- src/lib.rt:97:5
 loop-holds : tie.Need-loop-holds Inv-loop μ-loop
 loop-holds c = (omega arith, each-first _ _ _ _)
 
--- src/lib.rt:98:17
 mul-t : tie.Need-mul-t Inv-loop μ-loop
 mul-t c = search needs
 
--- src/lib.rt:98:17
 element-copy-out-t : tie.Need-element-copy-out-t Inv-loop μ-loop
 element-copy-out-t c = c .loop-test .taken
 
--- src/lib.rt:99:12
 passes-legs-requires : tie.Need-passes-legs-requires Inv-loop μ-loop
 passes-legs-requires c κs = c .before .before .before .pre .0 .0
 
--- src/lib.rt:100:17
 leg-passes-of-requires : tie.Need-leg-passes-of-requires Inv-loop μ-loop
 unfolding legPasses
 leg-passes-of-requires c κs = (fit-strategies _ _ _ (c .before .before .before .before .before .before .pre .0 .1) (c .before .before .before .before .before .loop .inv .1), room-of (in-yes _ _ _ (told (c .before .before .passes-legs .ensures) (c .before .if1 .taken))) (room-each (legPassesIn (c .before .before .before .before .before .before .args .s)) 16 _ _ (c .before .before .before .before .before .before .pre .1) (c .before .before .before .before .loop-test .taken) (c .before .before .before .before .before .loop .inv .1)))
 
--- src/lib.rt:104:9
 add-k : tie.Need-add-k Inv-loop μ-loop
 add-k c = omega arith
 
--- src/lib.rt:97:5
 loop-less : tie.Need-loop-less Inv-loop μ-loop
 loop-less c = omega arith
 
--- src/lib.rt:97:5
 loop-again : tie.Need-loop-again Inv-loop μ-loop
 loop-again c = (omega arith, ⊎-elim (λ w. rw (w .5, w .6, w .7) (each-next (legPassesIn (c .before .before .before .before .before .args .s)) _ _ (c .before .before .before .before .loop .inv .1) (done-of (in-yes _ _ _ (told (c .before .passes-legs .ensures) (w .0 .taken))) (w .2 .ensures)))) (λ w. rw (w .1, w .2, w .3) (each-next (legPassesIn (c .before .before .before .before .before .args .s)) _ _ (c .before .before .before .before .loop .inv .1) (done-of (in-not _ _ _ (told (c .before .passes-legs .ensures) (w .0 .left))) (done-still _ _ _)))) (c .if1 .came))
 
--- src/lib.rt:89:1
 same-length : tie.Need-same-length Inv-loop μ-loop
 same-length c = done-length (c .before .loop .inv .1)
 
--- src/lib.rt:89:1
 returns : tie.Need-returns Inv-loop μ-loop
 unfolding legPasses
 returns c = let e : c .before .loop .k ≡ 16 = omega arith in rw e at (c .before .loop .inv .1)

@@ -26,63 +26,48 @@ Inv-loop k space₀ n c₀ m₀ i₀ space c m i = (i ≤ 32) × Done space₀ s
 abbrev μ-loop : tie.MeasureT-loop
 μ-loop k space₀ n c₀ m₀ i₀ space c m i = 32 - i
 
--- src/lib.rt:77:5
 loop-holds : tie.Need-loop-holds Inv-loop μ-loop
 loop-holds c = (omega arith, each-first _ _ _ _)
 
--- src/lib.rt:78:17
 mul-e : tie.Need-mul-e Inv-loop μ-loop
 mul-e c = search needs
 
--- src/lib.rt:78:17
 element-copy-out-e : tie.Need-element-copy-out-e Inv-loop μ-loop
 element-copy-out-e c = c .loop-test .taken
 
--- src/lib.rt:79:12
 day-order-requires : tie.Need-day-order-requires Inv-loop μ-loop
 day-order-requires c κs = search needs
 
--- src/lib.rt:80:21
 cast-h : tie.Need-cast-h Inv-loop μ-loop
 cast-h c = search needs
 
--- src/lib.rt:81:21
 mul-s : tie.Need-mul-s Inv-loop μ-loop
 mul-s c = record { fits = omega (arith, fit-entry (fit-passes _ _ _ (c .before .before .before .before .before .before .pre .0) (c .before .before .before .before .before .loop .inv .1) .entries) (c .before .before .before .before .before .loop .i) .strategy) }
 
--- src/lib.rt:81:21
 element-copy-out-s : tie.Need-element-copy-out-s Inv-loop μ-loop
 element-copy-out-s c = fit-entry (fit-passes _ _ _ (c .before .before .before .before .before .before .pre .0) (c .before .before .before .before .before .loop .inv .1) .entries) (c .before .before .before .before .before .loop .i) .strategy
 
--- src/lib.rt:83:17
 net-ready-requires : tie.Need-net-ready-requires Inv-loop μ-loop
 net-ready-requires c κs = let fit = fit-passes _ _ _ (c .before .before .before .before .before .before .before .before .pre .0) (c .before .before .before .before .before .before .before .loop .inv .1) in (fit .orders, fit-legs (fit .strategies) _)
 
--- src/lib.rt:84:17
 legs-idle-requires : tie.Need-legs-idle-requires Inv-loop μ-loop
 legs-idle-requires c κs = search needs
 
--- src/lib.rt:85:21
 pass-requires : tie.Need-pass-requires Inv-loop μ-loop
 pass-requires c κs = ((c .before .before .before .before .before .before .before .before .before .before .loop-test .taken, fit-passes _ _ _ (c .before .before .before .before .before .before .before .before .before .before .before .before .pre .0) (c .before .before .before .before .before .before .before .before .before .before .before .loop .inv .1)), room-of (legs-yes _ _ _ (told (c .before .before .before .before .before .before .before .before .day-order .ensures) (c .before .before .before .before .before .before .before .if1 .taken))) (room-each (legPass (c .before .before .before .before .before .before .before .before .before .before .before .before .args .k)) 32 _ _ (c .before .before .before .before .before .before .before .before .before .before .before .before .pre .1) (c .before .before .before .before .before .before .before .before .before .before .loop-test .taken) (c .before .before .before .before .before .before .before .before .before .before .before .loop .inv .1)))
 
--- src/lib.rt:90:9
 add-i : tie.Need-add-i Inv-loop μ-loop
 add-i c = omega arith
 
--- src/lib.rt:77:5
 loop-less : tie.Need-loop-less Inv-loop μ-loop
 loop-less c = omega arith
 
--- src/lib.rt:77:5
 loop-again : tie.Need-loop-again Inv-loop μ-loop
 loop-again c = (omega arith, ⊎-elim (λ w. rw (w .11, w .12, w .13) (each-next (legPass (c .before .before .before .before .before .args .k)) _ _ (c .before .before .before .before .loop .inv .1) (done-of (legs-yes _ _ _ (told (c .before .day-order .ensures) (w .0 .taken))) (w .8 .ensures)))) (⊎-elim (λ w. rw (w .7, w .8, w .9) (each-next (legPass (c .before .before .before .before .before .args .k)) _ _ (c .before .before .before .before .loop .inv .1) (done-of (legs-stay _ _ _ _ (told (c .before .day-order .ensures) (w .0 .taken)) (w .4 .ensures) (told (w .5 .ensures) (not-false _ (w .6 .left)))) (done-still _ _ _)))) (λ w. rw (w .1, w .2, w .3) (each-next (legPass (c .before .before .before .before .before .args .k)) _ _ (c .before .before .before .before .loop .inv .1) (done-of (legs-not _ _ _ (told (c .before .day-order .ensures) (w .0 .left))) (done-still _ _ _))))) (c .if1 .came))
 
--- src/lib.rt:69:1
 same-length : tie.Need-same-length Inv-loop μ-loop
 same-length c = done-length (c .before .loop .inv .1)
 
--- src/lib.rt:69:1
 returns : tie.Need-returns Inv-loop μ-loop
 returns c = let e : c .before .loop .i ≡ 32 = omega arith in rw e at (c .before .loop .inv .1)
 

@@ -21,52 +21,40 @@ Inv-loop k space₀ n c₀ m₀ i₀ space c m i = (i ≤ 32) × Done space₀ s
 abbrev μ-loop : tie.MeasureT-loop
 μ-loop k space₀ n c₀ m₀ i₀ space c m i = 32 - i
 
--- src/lib.rt:184:5
 loop-holds : tie.Need-loop-holds Inv-loop μ-loop
 loop-holds c = (omega arith, each-first _ _ _ _)
 
--- src/lib.rt:186:13
 best-slot-requires : tie.Need-best-slot-requires Inv-loop μ-loop
 best-slot-requires c κs = search needs
 
--- src/lib.rt:187:13
 best-slot-requires-2 : tie.Need-best-slot-requires-2 Inv-loop μ-loop
 best-slot-requires-2 c κs = search needs
 
--- src/lib.rt:188:12
 crossed-requires : tie.Need-crossed-requires Inv-loop μ-loop
 crossed-requires c κs = search needs
 
--- src/lib.rt:189:17
 match-once-requires : tie.Need-match-once-requires Inv-loop μ-loop
 unfolding matchAll
 match-once-requires c κs = let s = meet-slots _ _ _ (told (c .before .before .crossed .ensures) (c .before .if1 .taken)) in ((s .0, s .1, fit-matches _ _ _ (c .before .before .before .before .before .before .before .before .pre .0) (c .before .before .before .before .before .before .before .loop .inv .1)), room-of (match-some (c .before .before .before .before .before .before .before .before .args .k) _ _ (c .before .before .before .before .best-slot .ensures) (c .before .before .before .best-slot2 .ensures) (told (c .before .before .crossed .ensures) (c .before .if1 .taken))) (room-each (matchOnce (c .before .before .before .before .before .before .before .before .args .k)) 32 _ _ (c .before .before .before .before .before .before .before .before .pre .1) (c .before .before .before .before .before .before .loop-test .taken) (c .before .before .before .before .before .before .before .loop .inv .1)))
 
--- src/lib.rt:192:13
 add-i : tie.Need-add-i Inv-loop μ-loop
 add-i c = omega arith
 
--- src/lib.rt:184:5
 loop-less : tie.Need-loop-less Inv-loop μ-loop
 loop-less c = omega arith
 
--- src/lib.rt:184:5
 loop-again : tie.Need-loop-again Inv-loop μ-loop
 loop-again c = (omega arith, each-next (matchOnce (c .before .before .before .before .before .before .before .before .before .before .before .args .k)) _ _ (c .before .before .before .before .before .before .before .before .before .before .loop .inv .1) (done-of (match-some (c .before .before .before .before .before .before .before .before .before .before .before .args .k) _ _ (c .before .before .before .before .before .before .before .best-slot .ensures) (c .before .before .before .before .before .before .best-slot2 .ensures) (told (c .before .before .before .before .before .crossed .ensures) (c .before .before .before .before .if1 .taken))) (c .before .before .match-once .ensures)))
 
--- src/lib.rt:184:5
 loop-less-2 : tie.Need-loop-less-2 Inv-loop μ-loop
 loop-less-2 c = omega arith
 
--- src/lib.rt:184:5
 loop-again-2 : tie.Need-loop-again-2 Inv-loop μ-loop
 loop-again-2 c = (omega arith, done-of (match-stops _ _ _ _ (c .before .before .before .before .before .before .loop .inv .0) (c .before .before .before .before .before .before .loop .inv .1 .state) (match-none _ _ _ (c .before .before .before .best-slot .ensures) (c .before .before .best-slot2 .ensures) (told (c .before .crossed .ensures) (c .if1 .left)))) (c .before .before .before .before .before .before .loop .inv .1))
 
--- src/lib.rt:176:1
 same-length : tie.Need-same-length Inv-loop μ-loop
 same-length c = done-length (c .before .loop .inv .1)
 
--- src/lib.rt:176:1
 returns : tie.Need-returns Inv-loop μ-loop
 unfolding matchAll
 returns c = let e : c .before .loop .i ≡ 32 = omega arith in rw e at (c .before .loop .inv .1)

@@ -10,39 +10,30 @@ use Rattle.endings.proofs.holds.Reads as holds-reads
 use Rattle.matching.proofs.match_all.Reads as match-all-reads
 use Rattle.matching.proofs.none_shut.Reads as none-shut-reads
 
--- src/lib.rt:206:13
 mul-t : tie.Need-mul-t
 mul-t c = search needs
 
--- src/lib.rt:206:13
 element-copy-out-t : tie.Need-element-copy-out-t
 element-copy-out-t c = search needs
 
--- src/lib.rt:207:8
 holds-requires : tie.Need-holds-requires
 holds-requires c κs = c .before .pre .0 .0
 
--- src/lib.rt:208:12
 none-shut-requires : tie.Need-none-shut-requires
 none-shut-requires c κs = search needs
 
--- src/lib.rt:209:13
 match-all-requires : tie.Need-match-all-requires
 match-all-requires c κs = (c .before .before .before .before .before .before .pre .0 .2, room-of (match-open _ _ _ (told (c .before .before .before .before .holds .ensures) (c .before .before .before .if1 .taken)) (told (c .before .before .none-shut .ensures) (c .before .if2 .taken))) (c .before .before .before .before .before .before .pre .1))
 
--- src/lib.rt:209:13
 same-length : tie.Need-same-length
 same-length c = search needs
 
--- src/lib.rt:209:13
 returns : tie.Need-returns
 returns c = done-of (match-open _ _ _ (told (c .before .before .before .before .before .before .holds .ensures) (c .before .before .before .before .before .if1 .taken)) (told (c .before .before .before .before .none-shut .ensures) (c .before .before .before .if2 .taken))) (c .before .match-all .ensures)
 
--- src/lib.rt:211:9
 returns-2 : tie.Need-returns-2
 returns-2 c = done-of (match-shut _ _ _ (told (c .before .before .before .holds .ensures) (c .before .before .if1 .taken)) (told (c .before .none-shut .ensures) (c .if2 .left))) (done-still _ _ _)
 
--- src/lib.rt:201:1
 returns-3 : tie.Need-returns-3
 returns-3 c = done-of (match-without _ _ _ (told (c .before .holds .ensures) (c .if1 .left))) (done-still _ _ _)
 

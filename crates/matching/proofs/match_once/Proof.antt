@@ -8,51 +8,39 @@ use Rattle.matching.proofs.match_once.Lts as lts
 use Rattle.fills.proofs.whole_fill.Reads as whole-fill-reads
 use Rattle.records.proofs.least.Reads as least-reads
 
--- src/lib.rt:165:13
 mul-e : tie.Need-mul-e
 mul-e c = search needs
 
--- src/lib.rt:165:13
 element-copy-out-e : tie.Need-element-copy-out-e
 element-copy-out-e c = search needs
 
--- src/lib.rt:166:13
 mul-f : tie.Need-mul-f
 mul-f c = search needs
 
--- src/lib.rt:166:13
 element-copy-out-f : tie.Need-element-copy-out-f
 element-copy-out-f c = search needs
 
--- src/lib.rt:168:13
 least-requires : tie.Need-least-requires
 least-requires c κs = search needs
 
--- src/lib.rt:169:9
 whole-fill-requires : tie.Need-whole-fill-requires
 whole-fill-requires c κs = ((c .before .before .before .before .before .before .before .pre .0 .0, c .before .before .before .before .before .before .before .pre .0 .1, c .before .before .before .before .before .before .before .pre .0 .2, limit-fits (c .before .before .before .before .before .before .before .pre .0 .2) _, rw (c .before .least .ensures) (units-fit (c .before .before .before .before .before .before .before .pre .0 .2) _ _)), room-of (match-buy _ _ _ (c .before .before .if1 .taken) (c .before .least .ensures)) (c .before .before .before .before .before .before .before .pre .1))
 
--- src/lib.rt:169:9
 same-length : tie.Need-same-length
 same-length c = search needs
 
--- src/lib.rt:169:9
 returns : tie.Need-returns
 returns c = done-of (match-buy _ _ _ (c .before .before .before .before .if1 .taken) (c .before .before .before .least .ensures)) (c .before .whole-fill .ensures)
 
--- src/lib.rt:171:9
 least-requires-2 : tie.Need-least-requires-2
 least-requires-2 c κs = search needs
 
--- src/lib.rt:172:5
 whole-fill-requires-2 : tie.Need-whole-fill-requires-2
 whole-fill-requires-2 c κs = ((c .before .before .before .before .before .before .before .pre .0 .1, c .before .before .before .before .before .before .before .pre .0 .0, c .before .before .before .before .before .before .before .pre .0 .2, limit-fits (c .before .before .before .before .before .before .before .pre .0 .2) _, rw (c .before .least2 .ensures) (units-fit (c .before .before .before .before .before .before .before .pre .0 .2) _ _)), room-of (match-sell _ _ _ (c .before .before .if1 .left) (c .before .least2 .ensures)) (c .before .before .before .before .before .before .before .pre .1))
 
--- src/lib.rt:160:1
 same-length-2 : tie.Need-same-length-2
 same-length-2 c = search needs
 
--- src/lib.rt:160:1
 returns-2 : tie.Need-returns-2
 returns-2 c = done-of (match-sell _ _ _ (c .before .before .before .before .if1 .left) (c .before .before .before .least2 .ensures)) (c .before .whole-fill2 .ensures)
 

@@ -6,11 +6,9 @@ use Rattle.matching.proofs.none_shut.Tie as tie
 use Rattle.matching.proofs.none_shut.Reads as reads
 use Rattle.matching.proofs.none_shut.Lts as lts
 
--- src/lib.rt:31:28
 sub-shut : tie.Need-sub-shut
 sub-shut c = search needs
 
--- src/lib.rt:28:1
 returns : tie.Need-returns
 returns c = shut-is _ _ (omega arith) (omega arith)
 

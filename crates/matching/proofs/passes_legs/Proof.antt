@@ -8,25 +8,20 @@ use Rattle.matching.proofs.passes_legs.Lts as lts
 use Rattle.endings.proofs.holds.Reads as holds-reads
 use Rattle.matching.proofs.none_shut.Reads as none-shut-reads
 
--- src/lib.rt:49:8
 holds-requires : tie.Need-holds-requires
 holds-requires c κs = search needs
 
--- src/lib.rt:50:12
 none-shut-requires : tie.Need-none-shut-requires
 none-shut-requires c κs = search needs
 
--- src/lib.rt:51:13
 returns : tie.Need-returns
 unfolding passesLegs
 returns c = search (tests, told (c .before .before .before .before .holds .ensures) (c .before .before .before .if1 .taken), told (c .before .before .none-shut .ensures) (c .before .if2 .taken))
 
--- src/lib.rt:53:9
 returns-2 : tie.Need-returns-2
 unfolding passesLegs
 returns-2 c = search (tests, told (c .before .before .before .holds .ensures) (c .before .before .if1 .taken), told (c .before .none-shut .ensures) (c .if2 .left))
 
--- src/lib.rt:45:1
 returns-3 : tie.Need-returns-3
 unfolding passesLegs
 returns-3 c = search (tests, told (c .before .holds .ensures) (c .if1 .left))

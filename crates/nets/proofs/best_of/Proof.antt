@@ -15,35 +15,27 @@ Inv-loop s side os b₀ i₀ b i = (i ≤ 32) × (b ≡ bestIn os s side i)
 abbrev μ-loop : tie.MeasureT-loop
 μ-loop s side os b₀ i₀ b i = 32 - i
 
--- src/lib.rt:248:5
 loop-holds : tie.Need-loop-holds Inv-loop μ-loop
 loop-holds c = (omega arith, sym (best-first _ _ _))
 
--- src/lib.rt:249:35
 mul-best-with : tie.Need-mul-best-with Inv-loop μ-loop
 mul-best-with c = omega arith
 
--- src/lib.rt:249:35
 array-copy-out-best-with : tie.Need-array-copy-out-best-with Inv-loop μ-loop
 array-copy-out-best-with c = omega arith
 
--- src/lib.rt:249:9
 best-with-requires : tie.Need-best-with-requires Inv-loop μ-loop
 best-with-requires c κs = (omega (arith, best-most (c .before .before .before .args .t1) (c .before .before .before .args .s) (c .before .before .before .args .side) (c .before .before .before .pre .0) (c .before .before .loop .i) (c .before .before .loop .inv .1), c .before .loop-test .taken), fit-order (c .before .before .before .pre .0) _ .contracts)
 
--- src/lib.rt:250:9
 add-i : tie.Need-add-i Inv-loop μ-loop
 add-i c = omega arith
 
--- src/lib.rt:248:5
 loop-less : tie.Need-loop-less Inv-loop μ-loop
 loop-less c = omega arith
 
--- src/lib.rt:248:5
 loop-again : tie.Need-loop-again Inv-loop μ-loop
 loop-again c = (omega arith, best-next _ _ _ (c .before .before .before .before .pre .1) _ (c .before .before .before .loop .inv .1) (c .best-with .ensures))
 
--- src/lib.rt:239:1
 returns : tie.Need-returns Inv-loop μ-loop
 returns c = best-last _ _ _ (c .before .before .pre .1) (omega arith) (c .before .loop .inv .1)
 

@@ -9,31 +9,24 @@ use Rattle.nets.proofs.best_with.Lts as lts
 use Rattle.nets.proofs.stands.Reads as stands-reads
 use Rattle.sides.proofs.best_price.Reads as best-price-reads
 
--- src/lib.rt:219:8
 stands-requires : tie.Need-stands-requires
 stands-requires c κs = search needs
 
--- src/lib.rt:220:13
 best-price-requires : tie.Need-best-price-requires
 best-price-requires c κs = search needs
 
--- src/lib.rt:225:32
 add-t9 : tie.Need-add-t9
 add-t9 c = search needs
 
--- src/lib.rt:223:17
 returns : tie.Need-returns
 returns c = with-more _ _ _ _ (told (c .before .before .before .before .before .before .before .before .before .stands .ensures) (c .before .before .before .before .before .before .before .before .if1 .taken)) (c .before .before .before .before .before .before .before .best-price .ensures) (c .before .before .before .before .before .if2 .taken) (c .before .before .if3 .taken)
 
--- src/lib.rt:228:13
 returns-2 : tie.Need-returns-2
 returns-2 c = with-same _ _ _ _ (told (c .before .before .before .before .before .before .before .stands .ensures) (c .before .before .before .before .before .before .if1 .taken)) (c .before .before .before .before .before .best-price .ensures) (c .before .before .before .if2 .taken) (c .if3 .left)
 
--- src/lib.rt:230:9
 returns-3 : tie.Need-returns-3
 returns-3 c = with-fresh _ _ _ _ (told (c .before .before .before .before .stands .ensures) (c .before .before .before .if1 .taken)) (c .before .before .best-price .ensures) (c .if2 .left)
 
--- src/lib.rt:215:1
 returns-4 : tie.Need-returns-4
 unfolding bestWith
 returns-4 c = search (tests, told (c .before .stands .ensures) (c .if1 .left))

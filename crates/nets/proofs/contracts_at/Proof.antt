@@ -21,41 +21,32 @@ Inv-loop s side price os n₀ i₀ n i = (i ≤ 32) × (n ≡ sumN (lotAt os s s
 abbrev μ-loop : tie.MeasureT-loop
 μ-loop s side price os n₀ i₀ n i = 32 - i
 
--- src/lib.rt:86:5
 loop-holds : tie.Need-loop-holds Inv-loop μ-loop
 unfolding sumN
 loop-holds c = (omega arith, refl)
 
--- src/lib.rt:87:34
 mul-lot : tie.Need-mul-lot Inv-loop μ-loop
 mul-lot c = omega arith
 
--- src/lib.rt:87:34
 array-copy-out-lot : tie.Need-array-copy-out-lot Inv-loop μ-loop
 array-copy-out-lot c = omega arith
 
--- src/lib.rt:87:14
 lot-requires : tie.Need-lot-requires Inv-loop μ-loop
 lot-requires c κs = search needs
 
--- src/lib.rt:87:9
 add-n : tie.Need-add-n Inv-loop μ-loop
 add-n c = rw (c .before .before .before .loop .inv .1, c .lot .ensures) (omega (arith, contracts-most (c .before .before .before .before .args .t1) (c .before .before .before .before .args .s) (c .before .before .before .before .args .side) (c .before .before .before .before .args .price) (c .before .before .before .before .pre) (c .before .before .before .loop .i), lot-most (c .before .before .before .before .args .s) (c .before .before .before .before .args .side) (c .before .before .before .before .args .price) (getD (c .before .before .before .before .args .t1) (c .before .before .before .loop .i) noOrder) (fit-order (c .before .before .before .before .pre) (c .before .before .before .loop .i))))
 
--- src/lib.rt:88:9
 add-i : tie.Need-add-i Inv-loop μ-loop
 add-i c = omega arith
 
--- src/lib.rt:86:5
 loop-less : tie.Need-loop-less Inv-loop μ-loop
 loop-less c = omega arith
 
--- src/lib.rt:86:5
 loop-again : tie.Need-loop-again Inv-loop μ-loop
 unfolding sumN
 loop-again c = (omega arith, rw add-one (cc))
 
--- src/lib.rt:80:1
 returns : tie.Need-returns Inv-loop μ-loop
 unfolding contractsAt
 returns c = let e : c .before .loop .i ≡ 32 = omega arith in cc

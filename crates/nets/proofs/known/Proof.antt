@@ -16,36 +16,28 @@ Inv-loop count ps i₀ i = (i ≤ count) × (allN (pricedAt ps) i ≡ true)
 abbrev μ-loop : tie.MeasureT-loop
 μ-loop count ps i₀ i = count - i
 
--- src/lib.rt:119:5
 loop-holds : tie.Need-loop-holds Inv-loop μ-loop
 loop-holds c = (omega arith, all-none _)
 
--- src/lib.rt:120:16
 mul-if1 : tie.Need-mul-if1 Inv-loop μ-loop
 mul-if1 c = omega arith
 
--- src/lib.rt:120:16
 array-read-if1 : tie.Need-array-read-if1 Inv-loop μ-loop
 array-read-if1 c = omega arith
 
--- src/lib.rt:121:13
 add-i : tie.Need-add-i Inv-loop μ-loop
 add-i c = omega arith
 
--- src/lib.rt:119:5
 loop-less : tie.Need-loop-less Inv-loop μ-loop
 loop-less c = omega arith
 
--- src/lib.rt:119:5
 loop-again : tie.Need-loop-again Inv-loop μ-loop
 loop-again c = (omega arith, all-more _ _ (c .before .before .loop .inv .1) (lt-ltb _ _ (c .if1 .taken)))
 
--- src/lib.rt:123:13
 returns : tie.Need-returns Inv-loop μ-loop
 unfolding known
 returns c = sym (all-stop _ _ _ (c .before .loop-test .taken) (le-ltb _ _ (c .if1 .left)))
 
--- src/lib.rt:114:1
 returns-2 : tie.Need-returns-2 Inv-loop μ-loop
 unfolding known
 returns-2 c = let e : c .before .loop .i ≡ c .before .before .args .count = omega arith in sym (rw e at (c .before .loop .inv .1))

@@ -10,27 +10,21 @@ use Rattle.nets.proofs.whole_units.Reads as whole-units-reads
 use Rattle.sides.proofs.leg_side.Reads as leg-side-reads
 use Rattle.sides.proofs.other.Reads as other-reads
 
--- src/lib.rt:199:20
 leg-side-requires : tie.Need-leg-side-requires
 leg-side-requires c κs = search needs
 
--- src/lib.rt:199:9
 other-requires : tie.Need-other-requires
 other-requires c κs = search needs
 
--- src/lib.rt:200:9
 contracts-at-requires : tie.Need-contracts-at-requires
 contracts-at-requires c κs = search needs
 
--- src/lib.rt:201:20
 cast-whole-units : tie.Need-cast-whole-units
 cast-whole-units c = search needs
 
--- src/lib.rt:201:5
 whole-units-requires : tie.Need-whole-units-requires
 whole-units-requires c κs = search needs
 
--- src/lib.rt:195:1
 returns : tie.Need-returns
 unfolding legUnits
 returns c = rw (c .whole-units .ensures, c .before .before .contracts-at .ensures, c .before .before .before .other .ensures, c .before .before .before .before .leg-side .ensures, contracts-lots)

@@ -7,21 +7,17 @@ use Rattle.nets.proofs.lot.Reads as reads
 use Rattle.nets.proofs.lot.Lts as lts
 use Rattle.nets.proofs.stands.Reads as stands-reads
 
--- src/lib.rt:57:8
 stands-requires : tie.Need-stands-requires
 stands-requires c κs = search needs
 
--- src/lib.rt:59:13
 returns : tie.Need-returns
 unfolding lot
 returns c = search (tests, told (c .before .before .before .stands .ensures) (c .before .before .if1 .taken))
 
--- src/lib.rt:61:9
 returns-2 : tie.Need-returns-2
 unfolding lot
 returns-2 c = search (tests, told (c .before .before .before .stands .ensures) (c .before .before .if1 .taken))
 
--- src/lib.rt:54:1
 returns-3 : tie.Need-returns-3
 unfolding lot
 returns-3 c = search (tests, told (c .before .stands .ensures) (c .if1 .left))

@@ -16,43 +16,33 @@ Inv-loop s side price os xs₀ i₀ xs i = (i ≤ 32) × (xs ≡ stored 32 (lotA
 abbrev μ-loop : tie.MeasureT-loop
 μ-loop s side price os xs₀ i₀ xs i = 32 - i
 
--- src/lib.rt:72:5
 loop-holds : tie.Need-loop-holds Inv-loop μ-loop
 loop-holds c = (omega arith, stored-first 32 _)
 
--- src/lib.rt:73:37
 mul-lot : tie.Need-mul-lot Inv-loop μ-loop
 mul-lot c = omega arith
 
--- src/lib.rt:73:37
 array-copy-out-lot : tie.Need-array-copy-out-lot Inv-loop μ-loop
 array-copy-out-lot c = omega arith
 
--- src/lib.rt:73:17
 lot-requires : tie.Need-lot-requires Inv-loop μ-loop
 lot-requires c κs = search needs
 
--- src/lib.rt:73:9
 mul-xs : tie.Need-mul-xs Inv-loop μ-loop
 mul-xs c = omega arith
 
--- src/lib.rt:73:9
 array-write-xs : tie.Need-array-write-xs Inv-loop μ-loop
 array-write-xs c = omega arith
 
--- src/lib.rt:74:9
 add-i : tie.Need-add-i Inv-loop μ-loop
 add-i c = omega arith
 
--- src/lib.rt:72:5
 loop-less : tie.Need-loop-less Inv-loop μ-loop
 loop-less c = omega arith
 
--- src/lib.rt:72:5
 loop-again : tie.Need-loop-again Inv-loop μ-loop
 loop-again c = (omega arith, stored-next 32 _ (c .before .before .loop-test .taken) (c .lot .ensures) (c .before .before .before .loop .inv .1))
 
--- src/lib.rt:67:1
 returns : tie.Need-returns Inv-loop μ-loop
 unfolding lots
 returns c = stored-last 32 _ (omega arith) (c .before .loop .inv .1)

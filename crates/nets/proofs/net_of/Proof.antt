@@ -9,35 +9,27 @@ use Rattle.nets.proofs.net_of.Lts as lts
 use Rattle.nets.proofs.known.Reads as known-reads
 use Rattle.nets.proofs.weighed.Reads as weighed-reads
 
--- src/lib.rt:165:17
 cast-count : tie.Need-cast-count
 cast-count c = search needs
 
--- src/lib.rt:167:8
 known-requires : tie.Need-known-requires
 known-requires c κs = search needs
 
--- src/lib.rt:168:13
 weighed-requires : tie.Need-weighed-requires
 weighed-requires c κs = search needs
 
--- src/lib.rt:169:13
 weighed-requires-2 : tie.Need-weighed-requires-2
 weighed-requires-2 c κs = search needs
 
--- src/lib.rt:170:16
 add-result : tie.Need-add-result
 add-result c = rw (c .before .weighed .ensures) (omega (arith, weighed-most 0 (c .before .before .before .before .before .before .args .s .legs) (c .before .before .before .before .before .before .args .ps) (c .before .before .before .before .before .before .pre .0 .legs) (c .before .before .before .before .before .before .pre .1) (c .before .before .before .before .before .before .args .s .count), c .before .before .before .before .before .before .pre .0 .count))
 
--- src/lib.rt:170:16
 sub-result : tie.Need-sub-result
 sub-result c = rw (c .weighed2 .ensures) (omega (arith, weighed-most 1 (c .before .before .before .before .before .before .args .s .legs) (c .before .before .before .before .before .before .args .ps) (c .before .before .before .before .before .before .pre .0 .legs) (c .before .before .before .before .before .before .pre .1) (c .before .before .before .before .before .before .args .s .count), c .before .before .before .before .before .before .pre .0 .count))
 
--- src/lib.rt:170:9
 returns : tie.Need-returns
 returns c = net-known _ _ (told (c .before .before .before .known .ensures) (c .before .before .if1 .taken)) (c .before .weighed .ensures) (c .weighed2 .ensures)
 
--- src/lib.rt:161:1
 returns-2 : tie.Need-returns-2
 returns-2 c = net-unknown _ _ (told (c .before .known .ensures) (c .if1 .left))
 

@@ -37,144 +37,109 @@ Inv-loop side os count legs buys₀ sells₀ i₀ buys sells i = (i ≤ count) �
 abbrev μ-loop : tie.MeasureT-loop
 μ-loop side os count legs buys₀ sells₀ i₀ buys sells i = count - i
 
--- src/lib.rt:278:17
 cast-count : tie.Need-cast-count Inv-loop2 μ-loop2 Inv-loop3 μ-loop3 Inv-loop μ-loop
 cast-count c = search needs
 
--- src/lib.rt:283:5
 loop-holds : tie.Need-loop-holds Inv-loop2 μ-loop2 Inv-loop3 μ-loop3 Inv-loop μ-loop
 loop-holds c = (omega arith, netting-first _ _ _)
 
--- src/lib.rt:284:17
 mul-l : tie.Need-mul-l Inv-loop2 μ-loop2 Inv-loop3 μ-loop3 Inv-loop μ-loop
 mul-l c = omega arith
 
--- src/lib.rt:284:17
 array-copy-out-l : tie.Need-array-copy-out-l Inv-loop2 μ-loop2 Inv-loop3 μ-loop3 Inv-loop μ-loop
 array-copy-out-l c = omega (arith, c .before .before .before .before .pre .1 .count)
 
--- src/lib.rt:285:24
 leg-side-requires : tie.Need-leg-side-requires Inv-loop2 μ-loop2 Inv-loop3 μ-loop3 Inv-loop μ-loop
 leg-side-requires c κs = search needs
 
--- src/lib.rt:285:13
 other-requires : tie.Need-other-requires Inv-loop2 μ-loop2 Inv-loop3 μ-loop3 Inv-loop μ-loop
 other-requires c κs = search needs
 
--- src/lib.rt:288:9
 loop2-holds : tie.Need-loop2-holds Inv-loop2 μ-loop2 Inv-loop3 μ-loop3 Inv-loop μ-loop
 loop2-holds c = (omega arith, walk-first _ _)
 
--- src/lib.rt:289:45
 mul-price-with : tie.Need-mul-price-with Inv-loop2 μ-loop2 Inv-loop3 μ-loop3 Inv-loop μ-loop
 mul-price-with c = omega arith
 
--- src/lib.rt:289:45
 array-copy-out-price-with : tie.Need-array-copy-out-price-with Inv-loop2 μ-loop2 Inv-loop3 μ-loop3 Inv-loop μ-loop
 array-copy-out-price-with c = omega arith
 
--- src/lib.rt:289:13
 price-with-requires : tie.Need-price-with-requires Inv-loop2 μ-loop2 Inv-loop3 μ-loop3 Inv-loop μ-loop
 price-with-requires c κs = search needs
 
--- src/lib.rt:290:13
 add-j : tie.Need-add-j Inv-loop2 μ-loop2 Inv-loop3 μ-loop3 Inv-loop μ-loop
 add-j c = omega arith
 
--- src/lib.rt:288:9
 loop2-less : tie.Need-loop2-less Inv-loop2 μ-loop2 Inv-loop3 μ-loop3 Inv-loop μ-loop
 loop2-less c = omega arith
 
--- src/lib.rt:288:9
 loop2-again : tie.Need-loop2-again Inv-loop2 μ-loop2 Inv-loop3 μ-loop3 Inv-loop μ-loop
 loop2-again c = (omega arith, walk-next _ _ _ (c .before .before .before .loop2 .inv .1) (c .price-with .ensures))
 
--- src/lib.rt:293:13
 returns : tie.Need-returns Inv-loop2 μ-loop2 Inv-loop3 μ-loop3 Inv-loop μ-loop
 returns c = ready-unpriced _ _ _ (c .before .before .before .before .before .before .loop-test .taken) (c .before .before .before .before .before .before .before .before .before .before .pre .1 .count) (price-is _ _ _ (c .before .before .before .before .leg-side .ensures) (c .before .before .before .other .ensures) (c .before .before .loop2 .inv .1) (omega arith)) (c .if1 .taken)
 
--- src/lib.rt:297:9
 loop3-holds : tie.Need-loop3-holds Inv-loop2 μ-loop2 Inv-loop3 μ-loop3 Inv-loop μ-loop
 unfolding sumN
 loop3-holds c = (omega arith, refl)
 
--- src/lib.rt:298:39
 mul-lot : tie.Need-mul-lot Inv-loop2 μ-loop2 Inv-loop3 μ-loop3 Inv-loop μ-loop
 mul-lot c = omega arith
 
--- src/lib.rt:298:39
 array-copy-out-lot : tie.Need-array-copy-out-lot Inv-loop2 μ-loop2 Inv-loop3 μ-loop3 Inv-loop μ-loop
 array-copy-out-lot c = omega arith
 
--- src/lib.rt:298:18
 lot-requires : tie.Need-lot-requires Inv-loop2 μ-loop2 Inv-loop3 μ-loop3 Inv-loop μ-loop
 lot-requires c κs = search needs
 
--- src/lib.rt:298:13
 add-n : tie.Need-add-n Inv-loop2 μ-loop2 Inv-loop3 μ-loop3 Inv-loop μ-loop
 add-n c = let k = contracts-add _ _ _ (c .before .before .before .before .before .before .before .before .before .before .before .before .before .before .pre .0) (c .before .before .loop3-test .taken) (c .before .before .before .loop3 .inv .1) (c .lot .ensures) in omega arith
 
--- src/lib.rt:299:13
 add-h : tie.Need-add-h Inv-loop2 μ-loop2 Inv-loop3 μ-loop3 Inv-loop μ-loop
 add-h c = omega arith
 
--- src/lib.rt:297:9
 loop3-less : tie.Need-loop3-less Inv-loop2 μ-loop2 Inv-loop3 μ-loop3 Inv-loop μ-loop
 loop3-less c = omega arith
 
--- src/lib.rt:297:9
 loop3-again : tie.Need-loop3-again Inv-loop2 μ-loop2 Inv-loop3 μ-loop3 Inv-loop μ-loop
 loop3-again c = (omega arith, sum-next _ _ (c .before .before .before .loop3 .inv .1) (c .lot .ensures))
 
--- src/lib.rt:301:36
 cast-whole-units : tie.Need-cast-whole-units Inv-loop2 μ-loop2 Inv-loop3 μ-loop3 Inv-loop μ-loop
 cast-whole-units c = search needs
 
--- src/lib.rt:301:13
 whole-units-requires : tie.Need-whole-units-requires Inv-loop2 μ-loop2 Inv-loop3 μ-loop3 Inv-loop μ-loop
 whole-units-requires c κs = c .before .before .before .before .before .before .before .before .before .before .before .before .before .pre .1 .used _ (c .before .before .before .before .before .before .before .before .before .loop-test .taken)
 
--- src/lib.rt:303:13
 returns-2 : tie.Need-returns-2 Inv-loop2 μ-loop2 Inv-loop3 μ-loop3 Inv-loop μ-loop
 returns-2 c = ready-short _ _ _ (c .before .before .before .before .before .before .before .before .before .before .before .loop-test .taken) (c .before .before .before .before .before .before .before .before .before .before .before .before .before .before .before .pre .1 .count) (price-is _ _ _ (c .before .before .before .before .before .before .before .before .before .leg-side .ensures) (c .before .before .before .before .before .before .before .before .other .ensures) (c .before .before .before .before .before .before .before .loop2 .inv .1) (omega arith)) (units-is _ _ _ (c .before .before .before .before .before .before .before .before .before .leg-side .ensures) (c .before .before .before .before .before .before .before .before .other .ensures) _ (c .before .before .before .before .loop3 .inv .1) (omega arith) (c .before .whole-units .ensures)) (c .if2 .taken)
 
--- src/lib.rt:305:17
 weight-requires : tie.Need-weight-requires Inv-loop2 μ-loop2 Inv-loop3 μ-loop3 Inv-loop μ-loop
 weight-requires c κs = (fit-leg (c .before .before .before .before .before .before .before .before .before .before .before .before .before .before .before .pre .1 .legs) _ .ratio, leg-price-most _ _ _ (c .before .before .before .before .before .before .before .before .before .before .before .before .before .before .before .pre .0) (price-is _ _ _ (c .before .before .before .before .before .before .before .before .before .leg-side .ensures) (c .before .before .before .before .before .before .before .before .other .ensures) (c .before .before .before .before .before .before .before .loop2 .inv .1) (omega arith)))
 
--- src/lib.rt:305:9
 add-buys : tie.Need-add-buys Inv-loop2 μ-loop2 Inv-loop3 μ-loop3 Inv-loop μ-loop
 add-buys c = let k = weight-add _ _ _ _ (c .before .before .before .before .before .before .before .before .before .before .before .before .before .before .before .before .pre .1 .legs) (prices-most _ _ _ (c .before .before .before .before .before .before .before .before .before .before .before .before .before .before .before .before .pre .0)) (omega (arith, c .before .before .before .before .before .before .before .before .before .before .before .before .before .before .before .before .pre .1 .count)) (c .before .before .before .before .before .before .before .before .before .before .before .before .before .loop .inv .1 .bought) (fit-leg (c .before .before .before .before .before .before .before .before .before .before .before .before .before .before .before .before .pre .1 .legs) _) (leg-price-most _ _ _ (c .before .before .before .before .before .before .before .before .before .before .before .before .before .before .before .before .pre .0) (price-is _ _ _ (c .before .before .before .before .before .before .before .before .before .before .leg-side .ensures) (c .before .before .before .before .before .before .before .before .before .other .ensures) (c .before .before .before .before .before .before .before .before .loop2 .inv .1) (omega arith))) (c .weight .ensures) in omega arith
 
--- src/lib.rt:306:18
 weight-requires-2 : tie.Need-weight-requires-2 Inv-loop2 μ-loop2 Inv-loop3 μ-loop3 Inv-loop μ-loop
 weight-requires-2 c κs = (fit-leg (c .before .before .before .before .before .before .before .before .before .before .before .before .before .before .before .before .pre .1 .legs) _ .ratio, leg-price-most _ _ _ (c .before .before .before .before .before .before .before .before .before .before .before .before .before .before .before .before .pre .0) (price-is _ _ _ (c .before .before .before .before .before .before .before .before .before .before .leg-side .ensures) (c .before .before .before .before .before .before .before .before .before .other .ensures) (c .before .before .before .before .before .before .before .before .loop2 .inv .1) (omega arith)))
 
--- src/lib.rt:306:9
 add-sells : tie.Need-add-sells Inv-loop2 μ-loop2 Inv-loop3 μ-loop3 Inv-loop μ-loop
 add-sells c = let k = weight-add _ _ _ _ (c .before .before .before .before .before .before .before .before .before .before .before .before .before .before .before .before .before .pre .1 .legs) (prices-most _ _ _ (c .before .before .before .before .before .before .before .before .before .before .before .before .before .before .before .before .before .pre .0)) (omega (arith, c .before .before .before .before .before .before .before .before .before .before .before .before .before .before .before .before .before .pre .1 .count)) (c .before .before .before .before .before .before .before .before .before .before .before .before .before .before .loop .inv .1 .sold) (fit-leg (c .before .before .before .before .before .before .before .before .before .before .before .before .before .before .before .before .before .pre .1 .legs) _) (leg-price-most _ _ _ (c .before .before .before .before .before .before .before .before .before .before .before .before .before .before .before .before .before .pre .0) (price-is _ _ _ (c .before .before .before .before .before .before .before .before .before .before .before .leg-side .ensures) (c .before .before .before .before .before .before .before .before .before .before .other .ensures) (c .before .before .before .before .before .before .before .before .before .loop2 .inv .1) (omega arith))) (c .weight2 .ensures) in omega arith
 
--- src/lib.rt:307:9
 add-i : tie.Need-add-i Inv-loop2 μ-loop2 Inv-loop3 μ-loop3 Inv-loop μ-loop
 add-i c = omega arith
 
--- src/lib.rt:283:5
 loop-less : tie.Need-loop-less Inv-loop2 μ-loop2 Inv-loop3 μ-loop3 Inv-loop μ-loop
 loop-less c = omega arith
 
--- src/lib.rt:283:5
 loop-again : tie.Need-loop-again Inv-loop2 μ-loop2 Inv-loop3 μ-loop3 Inv-loop μ-loop
 loop-again c = (omega arith, netting-next _ _ _ (omega (arith, c .before .before .before .before .before .before .before .before .before .before .before .before .before .before .before .before .before .pre .1 .count)) (c .before .before .before .before .before .before .before .before .before .before .before .before .before .before .loop .inv .1) (price-is _ _ _ (c .before .before .before .before .before .before .before .before .before .before .before .leg-side .ensures) (c .before .before .before .before .before .before .before .before .before .before .other .ensures) (c .before .before .before .before .before .before .before .before .before .loop2 .inv .1) (omega arith)) (units-is _ _ _ (c .before .before .before .before .before .before .before .before .before .before .before .leg-side .ensures) (c .before .before .before .before .before .before .before .before .before .before .other .ensures) _ (c .before .before .before .before .before .before .loop3 .inv .1) (omega arith) (c .before .before .before .whole-units .ensures)) (c .before .before .before .before .before .before .before .if1 .left) (c .before .before .if2 .left) (c .before .weight .ensures) (c .weight2 .ensures))
 
--- src/lib.rt:309:5
 add-result : tie.Need-add-result Inv-loop2 μ-loop2 Inv-loop3 μ-loop3 Inv-loop μ-loop
 add-result c = omega (arith, c .before .loop .inv .1 .bought, c .before .before .before .before .pre .1 .count, weighed-most 0 (c .before .before .before .before .args .s .legs) (prices (c .before .before .before .before .args .t1) (c .before .before .before .before .args .side) (c .before .before .before .before .args .s .legs)) (c .before .before .before .before .pre .1 .legs) (prices-most (c .before .before .before .before .args .t1) (c .before .before .before .before .args .side) (c .before .before .before .before .args .s .legs) (c .before .before .before .before .pre .0)) (c .before .loop .i))
 
--- src/lib.rt:309:5
 sub-result : tie.Need-sub-result Inv-loop2 μ-loop2 Inv-loop3 μ-loop3 Inv-loop μ-loop
 sub-result c = omega (arith, c .before .loop .inv .1 .sold, c .before .before .before .before .pre .1 .count, weighed-most 1 (c .before .before .before .before .args .s .legs) (prices (c .before .before .before .before .args .t1) (c .before .before .before .before .args .side) (c .before .before .before .before .args .s .legs)) (c .before .before .before .before .pre .1 .legs) (prices-most (c .before .before .before .before .args .t1) (c .before .before .before .before .args .side) (c .before .before .before .before .args .s .legs) (c .before .before .before .before .pre .0)) (c .before .loop .i))
 
--- src/lib.rt:274:1
 returns-3 : tie.Need-returns-3 Inv-loop2 μ-loop2 Inv-loop3 μ-loop3 Inv-loop μ-loop
 returns-3 c = let e : c .before .loop .i ≡ c .before .before .before .before .args .s .count = omega arith in netting-last _ _ _ (rw e at (c .before .loop .inv .1))
 

@@ -16,35 +16,27 @@ Inv-loop s side os p₀ i₀ p i = (i ≤ 32) × (p ≡ walk (priceStep os s sid
 abbrev μ-loop : tie.MeasureT-loop
 μ-loop s side os p₀ i₀ p i = 32 - i
 
--- src/lib.rt:47:5
 loop-holds : tie.Need-loop-holds Inv-loop μ-loop
 loop-holds c = (omega arith, walk-first _ _)
 
--- src/lib.rt:48:36
 mul-price-with : tie.Need-mul-price-with Inv-loop μ-loop
 mul-price-with c = omega arith
 
--- src/lib.rt:48:36
 array-copy-out-price-with : tie.Need-array-copy-out-price-with Inv-loop μ-loop
 array-copy-out-price-with c = omega arith
 
--- src/lib.rt:48:9
 price-with-requires : tie.Need-price-with-requires Inv-loop μ-loop
 price-with-requires c κs = search needs
 
--- src/lib.rt:49:9
 add-i : tie.Need-add-i Inv-loop μ-loop
 add-i c = omega arith
 
--- src/lib.rt:47:5
 loop-less : tie.Need-loop-less Inv-loop μ-loop
 loop-less c = omega arith
 
--- src/lib.rt:47:5
 loop-again : tie.Need-loop-again Inv-loop μ-loop
 loop-again c = (omega arith, walk-next _ _ _ (c .before .before .before .loop .inv .1) (c .price-with .ensures))
 
--- src/lib.rt:42:1
 returns : tie.Need-returns Inv-loop μ-loop
 unfolding priceOf
 returns c = let e : c .before .loop .i ≡ 32 = omega arith in cc

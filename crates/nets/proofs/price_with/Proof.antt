@@ -8,20 +8,16 @@ use Rattle.nets.proofs.price_with.Lts as lts
 use Rattle.nets.proofs.stands.Reads as stands-reads
 use Rattle.sides.proofs.best_price.Reads as best-price-reads
 
--- src/lib.rt:35:8
 stands-requires : tie.Need-stands-requires
 stands-requires c κs = search needs
 
--- src/lib.rt:36:9
 best-price-requires : tie.Need-best-price-requires
 best-price-requires c κs = search needs
 
--- src/lib.rt:36:9
 returns : tie.Need-returns
 unfolding priceWith
 returns c = rw (c .best-price .ensures) (search (tests, told (c .before .before .stands .ensures) (c .before .if1 .taken)))
 
--- src/lib.rt:32:1
 returns-2 : tie.Need-returns-2
 unfolding priceWith
 returns-2 c = search (tests, told (c .before .stands .ensures) (c .if1 .left))

@@ -16,43 +16,33 @@ Inv-loop os side legs ps₀ i₀ ps i = (i ≤ 6) × (ps ≡ stored 6 (priceAt o
 abbrev μ-loop : tie.MeasureT-loop
 μ-loop os side legs ps₀ i₀ ps i = 6 - i
 
--- src/lib.rt:106:5
 loop-holds : tie.Need-loop-holds Inv-loop μ-loop
 loop-holds c = (omega arith, stored-first 6 _)
 
--- src/lib.rt:107:37
 mul-leg-price : tie.Need-mul-leg-price Inv-loop μ-loop
 mul-leg-price c = omega arith
 
--- src/lib.rt:107:37
 array-copy-out-leg-price : tie.Need-array-copy-out-leg-price Inv-loop μ-loop
 array-copy-out-leg-price c = omega arith
 
--- src/lib.rt:107:17
 leg-price-requires : tie.Need-leg-price-requires Inv-loop μ-loop
 leg-price-requires c κs = search needs
 
--- src/lib.rt:107:9
 mul-ps : tie.Need-mul-ps Inv-loop μ-loop
 mul-ps c = omega arith
 
--- src/lib.rt:107:9
 array-write-ps : tie.Need-array-write-ps Inv-loop μ-loop
 array-write-ps c = omega arith
 
--- src/lib.rt:108:9
 add-i : tie.Need-add-i Inv-loop μ-loop
 add-i c = omega arith
 
--- src/lib.rt:106:5
 loop-less : tie.Need-loop-less Inv-loop μ-loop
 loop-less c = omega arith
 
--- src/lib.rt:106:5
 loop-again : tie.Need-loop-again Inv-loop μ-loop
 loop-again c = (omega arith, stored-next 6 _ (c .before .before .loop-test .taken) (c .leg-price .ensures) (c .before .before .before .loop .inv .1))
 
--- src/lib.rt:101:1
 returns : tie.Need-returns Inv-loop μ-loop
 unfolding prices
 returns c = stored-last 6 _ (omega arith) (c .before .loop .inv .1)

@@ -5,17 +5,14 @@ use Rattle.nets.proofs.stands.Tie as tie
 use Rattle.nets.proofs.stands.Reads as reads
 use Rattle.nets.proofs.stands.Lts as lts
 
--- src/lib.rt:24:9
 returns : tie.Need-returns
 unfolding stands
 returns c = search tests
 
--- src/lib.rt:27:9
 returns-2 : tie.Need-returns-2
 unfolding stands
 returns-2 c = search tests
 
--- src/lib.rt:20:1
 returns-3 : tie.Need-returns-3
 unfolding stands
 returns-3 c = search tests

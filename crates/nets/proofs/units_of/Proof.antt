@@ -17,51 +17,39 @@ Inv-loop os side most ps count legs n₀ i₀ n i = (i ≤ count) × (n ≡ walk
 abbrev μ-loop : tie.MeasureT-loop
 μ-loop os side most ps count legs n₀ i₀ n i = count - i
 
--- src/lib.rt:191:17
 cast-count : tie.Need-cast-count Inv-loop μ-loop
 cast-count c = omega arith
 
--- src/lib.rt:195:5
 loop-holds : tie.Need-loop-holds Inv-loop μ-loop
 loop-holds c = (omega arith, walk-first _ _)
 
--- src/lib.rt:196:41
 mul-leg-units : tie.Need-mul-leg-units Inv-loop μ-loop
 mul-leg-units c = omega arith
 
--- src/lib.rt:196:41
 array-read-leg-units : tie.Need-array-read-leg-units Inv-loop μ-loop
 array-read-leg-units c = omega arith
 
--- src/lib.rt:196:48
 mul-leg-units-2 : tie.Need-mul-leg-units-2 Inv-loop μ-loop
 mul-leg-units-2 c = omega arith
 
--- src/lib.rt:196:48
 array-copy-out-leg-units : tie.Need-array-copy-out-leg-units Inv-loop μ-loop
 array-copy-out-leg-units c = omega arith
 
--- src/lib.rt:196:13
 leg-units-requires : tie.Need-leg-units-requires Inv-loop μ-loop
 leg-units-requires c κs = (c .before .before .before .before .before .pre .0, c .before .before .before .before .before .pre .1 .used _ (c .before .loop-test .taken))
 
--- src/lib.rt:197:9
 least-requires : tie.Need-least-requires Inv-loop μ-loop
 least-requires c κs = search needs
 
--- src/lib.rt:198:9
 add-i : tie.Need-add-i Inv-loop μ-loop
 add-i c = omega arith
 
--- src/lib.rt:195:5
 loop-less : tie.Need-loop-less Inv-loop μ-loop
 loop-less c = omega arith
 
--- src/lib.rt:195:5
 loop-again : tie.Need-loop-again Inv-loop μ-loop
 loop-again c = (omega arith, walk-next _ _ _ (c .before .before .before .before .loop .inv .1) (rw (c .before .leg-units .ensures) at (c .least .ensures)))
 
--- src/lib.rt:187:1
 returns : tie.Need-returns Inv-loop μ-loop
 unfolding unitsOf
 returns c = let e : c .before .loop .i ≡ c .before .before .before .before .args .s .count = omega arith in rw e at (c .before .loop .inv .1)

@@ -20,49 +20,38 @@ Inv-loop w count legs ps n₀ i₀ n i = (i ≤ count) × (n ≡ weighed w legs 
 abbrev μ-loop : tie.MeasureT-loop
 μ-loop w count legs ps n₀ i₀ n i = count - i
 
--- src/lib.rt:153:5
 loop-holds : tie.Need-loop-holds Inv-loop μ-loop
 unfolding weighed sumN
 loop-holds c = (omega arith, refl)
 
--- src/lib.rt:154:24
 mul-weight : tie.Need-mul-weight Inv-loop μ-loop
 mul-weight c = omega arith
 
--- src/lib.rt:154:24
 array-copy-out-weight : tie.Need-array-copy-out-weight Inv-loop μ-loop
 array-copy-out-weight c = omega arith
 
--- src/lib.rt:154:33
 mul-weight-2 : tie.Need-mul-weight-2 Inv-loop μ-loop
 mul-weight-2 c = omega arith
 
--- src/lib.rt:154:33
 array-read-weight : tie.Need-array-read-weight Inv-loop μ-loop
 array-read-weight c = omega arith
 
--- src/lib.rt:154:14
 weight-requires : tie.Need-weight-requires Inv-loop μ-loop
 weight-requires c κs = (fit-leg (c .before .before .before .pre .1) _ .ratio, c .before .before .before .pre .2 .at _)
 
--- src/lib.rt:154:9
 add-n : tie.Need-add-n Inv-loop μ-loop
 add-n c = rw (c .before .before .before .loop .inv .1, c .weight .ensures) (omega (arith, weighed-most (c .before .before .before .before .args .w) (c .before .before .before .before .args .t2) (c .before .before .before .before .args .t3) (c .before .before .before .before .pre .1) (c .before .before .before .before .pre .2) (c .before .before .before .loop .i), weight-most (c .before .before .before .before .args .w) (getD (c .before .before .before .before .args .t2) (c .before .before .before .loop .i) noLeg) (getD (c .before .before .before .before .args .t3) (c .before .before .before .loop .i) 0) (fit-leg (c .before .before .before .before .pre .1) _ .ratio) (c .before .before .before .before .pre .2 .at _)))
 
--- src/lib.rt:155:9
 add-i : tie.Need-add-i Inv-loop μ-loop
 add-i c = omega arith
 
--- src/lib.rt:153:5
 loop-less : tie.Need-loop-less Inv-loop μ-loop
 loop-less c = omega arith
 
--- src/lib.rt:153:5
 loop-again : tie.Need-loop-again Inv-loop μ-loop
 unfolding weighed sumN
 loop-again c = (omega arith, rw add-one (cc))
 
--- src/lib.rt:147:1
 returns : tie.Need-returns Inv-loop μ-loop
 returns c = let e : c .before .loop .i ≡ c .before .before .args .count = omega arith in cc
 

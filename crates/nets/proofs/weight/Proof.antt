@@ -8,34 +8,27 @@ use Rattle.nets.proofs.weight.Tie as tie
 use Rattle.nets.proofs.weight.Reads as reads
 use Rattle.nets.proofs.weight.Lts as lts
 
--- src/lib.rt:134:17
 cast-ratio : tie.Need-cast-ratio
 cast-ratio c = search needs
 
--- src/lib.rt:137:20
 mul-result : tie.Need-mul-result
 mul-result c = omega (arith, weight-fits _ _ (c .before .before .before .before .pre .0) (c .before .before .before .before .pre .1))
 
--- src/lib.rt:137:13
 returns : tie.Need-returns
 unfolding weight
 returns c = search tests
 
--- src/lib.rt:139:9
 returns-2 : tie.Need-returns-2
 unfolding weight
 returns-2 c = search tests
 
--- src/lib.rt:142:9
 returns-3 : tie.Need-returns-3
 unfolding weight
 returns-3 c = search tests
 
--- src/lib.rt:144:5
 mul-result-2 : tie.Need-mul-result-2
 mul-result-2 c = omega (arith, weight-fits _ _ (c .before .before .before .before .pre .0) (c .before .before .before .before .pre .1))
 
--- src/lib.rt:130:1
 returns-4 : tie.Need-returns-4
 unfolding weight
 returns-4 c = search tests

@@ -7,21 +7,17 @@ use Rattle.passes.proofs.legs_first.Reads as reads
 use Rattle.passes.proofs.legs_first.Lts as lts
 use Rattle.sides.proofs.better.Reads as better-reads
 
--- src/lib.rt:41:9
 returns : tie.Need-returns
 unfolding legsFirst
 returns c = search tests
 
--- src/lib.rt:44:9
 returns-2 : tie.Need-returns-2
 unfolding legsFirst
 returns-2 c = search tests
 
--- src/lib.rt:46:5
 better-requires : tie.Need-better-requires
 better-requires c κs = search needs
 
--- src/lib.rt:37:1
 returns-3 : tie.Need-returns-3
 unfolding legsFirst
 returns-3 c = rw (c .better .ensures) (search tests)

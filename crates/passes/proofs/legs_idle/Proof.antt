@@ -8,15 +8,12 @@ use Rattle.passes.proofs.legs_idle.Lts as lts
 use Rattle.passes.proofs.stops.Reads as stops-reads
 use Rattle.passes.proofs.turn_at.Reads as turn-at-reads
 
--- src/lib.rt:143:9
 turn-at-requires : tie.Need-turn-at-requires
 turn-at-requires c κs = search needs
 
--- src/lib.rt:144:5
 stops-requires : tie.Need-stops-requires
 stops-requires c κs = search needs
 
--- src/lib.rt:140:1
 returns : tie.Need-returns
 returns c = c .stops .ensures ∙ ap stopsAt (c .before .turn-at .ensures)
 

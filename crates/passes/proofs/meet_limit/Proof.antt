@@ -10,47 +10,37 @@ use Rattle.passes.proofs.meet_limit.Lts as lts
 use Rattle.fills.proofs.give_in_turn.Reads as give-in-turn-reads
 use Rattle.fills.proofs.give_shared.Reads as give-shared-reads
 
--- src/lib.rt:110:26
 enum-told : tie.Need-enum-told
 enum-told c = search needs
 
--- src/lib.rt:111:56
 enum-told-2 : tie.Need-enum-told-2
 enum-told-2 c = search needs
 
--- src/lib.rt:111:24
 give-shared-requires : tie.Need-give-shared-requires
 unfolding meetLimit
 give-shared-requires c κs = (c .before .before .before .pre .0, room-of (ap (λ (w : Allocation). meetLimit w (c .before .before .before .args .a) (c .before .before .before .args .level) (c .before .before .before .args .b)) (c .before .enum-told2 .given .1)) (c .before .before .before .pre .1))
 
--- src/lib.rt:112:61
 enum-told-3 : tie.Need-enum-told-3
 enum-told-3 c = search needs
 
--- src/lib.rt:112:26
 give-in-turn-requires : tie.Need-give-in-turn-requires
 unfolding meetLimit
 give-in-turn-requires c κs = (c .before .before .before .pre .0, room-of (ap (λ (w : Allocation). meetLimit w (c .before .before .before .args .a) (c .before .before .before .args .level) (c .before .before .before .args .b)) (c .before .enum-told3 .given .1)) (c .before .before .before .pre .1))
 
--- src/lib.rt:104:1
 returns : tie.Need-returns
 unfolding meetLimit
 returns c = done-of (ap (λ (w : Allocation). meetLimit w (c .before .before .args .a) (c .before .before .args .level) (c .before .before .args .b)) (c .enum-told .given .1)) (done-still _ _ _)
 
--- src/lib.rt:104:1
 same-length : tie.Need-same-length
 same-length c = search needs
 
--- src/lib.rt:104:1
 returns-2 : tie.Need-returns-2
 unfolding meetLimit
 returns-2 c = done-of (ap (λ (w : Allocation). meetLimit w (c .before .before .before .before .before .args .a) (c .before .before .before .before .before .args .level) (c .before .before .before .before .before .args .b)) (c .before .before .before .enum-told2 .given .1)) (c .before .give-shared .ensures)
 
--- src/lib.rt:104:1
 same-length-2 : tie.Need-same-length-2
 same-length-2 c = search needs
 
--- src/lib.rt:104:1
 returns-3 : tie.Need-returns-3
 unfolding meetLimit
 returns-3 c = done-of (ap (λ (w : Allocation). meetLimit w (c .before .before .before .before .before .args .a) (c .before .before .before .before .before .args .level) (c .before .before .before .before .before .args .b)) (c .before .before .before .enum-told3 .given .1)) (c .before .give-in-turn .ensures)

@@ -8,37 +8,29 @@ use Rattle.passes.proofs.opposite.Reads as reads
 use Rattle.passes.proofs.opposite.Lts as lts
 use Rattle.quotas.proofs.best_opposite.Reads as best-opposite-reads
 
--- src/lib.rt:67:33
 enum-told : tie.Need-enum-told
 enum-told c = search needs
 
--- src/lib.rt:68:31
 enum-told-2 : tie.Need-enum-told-2
 enum-told-2 c = search needs
 
--- src/lib.rt:68:31
 best-opposite-requires : tie.Need-best-opposite-requires
 best-opposite-requires c κs = search needs
 
--- src/lib.rt:69:33
 enum-told-3 : tie.Need-enum-told-3
 enum-told-3 c = search needs
 
--- src/lib.rt:69:33
 best-opposite-requires-2 : tie.Need-best-opposite-requires-2
 best-opposite-requires-2 c κs = search needs
 
--- src/lib.rt:63:1
 returns : tie.Need-returns
 unfolding oppositeIn
 returns c = sym (ap (λ (w : Allocation). oppositeIn w (c .before .before .args .es) (c .before .before .args .e)) (c .enum-told .given .1))
 
--- src/lib.rt:63:1
 returns-2 : tie.Need-returns-2
 unfolding oppositeIn
 returns-2 c = c .best-opposite .ensures ∙ sym (ap (λ (w : Allocation). oppositeIn w (c .before .before .before .args .es) (c .before .before .before .args .e)) (c .before .enum-told2 .given .1))
 
--- src/lib.rt:63:1
 returns-3 : tie.Need-returns-3
 unfolding oppositeIn
 returns-3 c = c .best-opposite2 .ensures ∙ sym (ap (λ (w : Allocation). oppositeIn w (c .before .before .before .args .es) (c .before .before .before .args .e)) (c .before .enum-told3 .given .1))

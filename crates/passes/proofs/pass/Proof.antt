@@ -23,81 +23,63 @@ Inv-loop way legs a space₀ n c₀ units m₀ i₀ space c m i = (i ≤ units) 
 abbrev μ-loop : tie.MeasureT-loop
 μ-loop way legs a space₀ n c₀ units m₀ i₀ space c m i = units - i
 
--- src/lib.rt:154:13
 mul-e : tie.Need-mul-e Inv-loop μ-loop
 mul-e c = search needs
 
--- src/lib.rt:154:13
 element-copy-out-e : tie.Need-element-copy-out-e Inv-loop μ-loop
 element-copy-out-e c = c .pre .0 .0
 
--- src/lib.rt:158:5
 loop-holds : tie.Need-loop-holds Inv-loop μ-loop
 loop-holds c = (omega arith, each-first _ _ _ _)
 
--- src/lib.rt:159:17
 mul-f : tie.Need-mul-f Inv-loop μ-loop
 mul-f c = search needs
 
--- src/lib.rt:159:17
 element-copy-out-f : tie.Need-element-copy-out-f Inv-loop μ-loop
 element-copy-out-f c = c .before .before .before .pre .0 .0
 
--- src/lib.rt:160:17
 cast-k : tie.Need-cast-k Inv-loop μ-loop
 cast-k c = search needs
 
--- src/lib.rt:161:17
 mul-s : tie.Need-mul-s Inv-loop μ-loop
 mul-s c = search needs
 
--- src/lib.rt:161:17
 element-copy-out-s : tie.Need-element-copy-out-s Inv-loop μ-loop
 element-copy-out-s c = fit-entry (fit-turns _ _ _ _ _ (c .before .before .before .before .before .pre .0 .1) (c .before .before .before .loop .inv .1) .entries) (c .before .before .before .before .before .args .a) .strategy
 
--- src/lib.rt:164:13
 turn-of-requires : tie.Need-turn-of-requires Inv-loop μ-loop
 turn-of-requires c κs = let fit = fit-turns _ _ _ _ _ (c .before .before .before .before .before .before .before .before .pre .0 .1) (c .before .before .before .before .before .before .loop .inv .1) in (fit .orders, fit-legs (fit .strategies) _)
 
--- src/lib.rt:165:12
 stops-requires : tie.Need-stops-requires Inv-loop μ-loop
 stops-requires c κs = search needs
 
--- src/lib.rt:166:13
 same-length : tie.Need-same-length Inv-loop μ-loop
 same-length c = done-length (c .before .before .before .before .before .before .before .before .before .loop .inv .1)
 
--- src/lib.rt:166:13
 returns : tie.Need-returns Inv-loop μ-loop
 unfolding pass
 returns c = let t = c .before .before .turn-of .ensures ∙ turn-in (c .before .before .before .before .before .before .before .before .before .before .before .args .way) (c .before .before .before .before .before .before .before .before .before .before .before .args .legs) (c .before .before .before .before .before .before .before .before .before .before .before .args .a) (c .before .before .before .before .before .before .before .before .before .loop .c) in
     done-of (pass-stops _ _ _ _ _ _ _ (c .before .before .before .before .before .before .before .before .before .loop .inv .0) (c .before .before .before .before .before .before .before .before .before .loop .inv .1 .state) (told (rw t at (c .before .stops .ensures)) (c .if1 .taken))) (c .before .before .before .before .before .before .before .before .before .loop .inv .1)
 
--- src/lib.rt:168:13
 take-requires : tie.Need-take-requires Inv-loop μ-loop
 unfolding pass
 take-requires c κs = let t = c .before .before .before .turn-of .ensures ∙ turn-in (c .before .before .before .before .before .before .before .before .before .before .before .before .args .way) (c .before .before .before .before .before .before .before .before .before .before .before .before .args .legs) (c .before .before .before .before .before .before .before .before .before .before .before .before .args .a) (c .before .before .before .before .before .before .before .before .before .before .loop .c) in
     let fit = fit-turns _ _ _ _ _ (c .before .before .before .before .before .before .before .before .before .before .before .before .pre .0 .1) (c .before .before .before .before .before .before .before .before .before .before .loop .inv .1) in
     rw t ((c .before .before .before .before .before .before .before .before .before .before .before .before .pre .0 .0, fit, turn-most _ _ _ _ fit), room-each (turn (c .before .before .before .before .before .before .before .before .before .before .before .before .args .way) (c .before .before .before .before .before .before .before .before .before .before .before .before .args .legs) (c .before .before .before .before .before .before .before .before .before .before .before .before .args .a)) _ (c .before .before .before .before .before .before .before .before .before .before .loop .i) _ (c .before .before .before .before .before .before .before .before .before .before .before .before .pre .1) (c .before .before .before .before .before .before .before .before .before .loop-test .taken) (c .before .before .before .before .before .before .before .before .before .before .loop .inv .1))
 
--- src/lib.rt:171:9
 add-i : tie.Need-add-i Inv-loop μ-loop
 add-i c = omega (arith, fit-entry (c .before .before .before .before .before .before .before .before .before .before .before .before .before .before .before .pre .0 .1 .entries) (c .before .before .before .before .before .before .before .before .before .before .before .before .before .before .before .args .a) .units, c .before .before .before .before .before .before .before .before .before .before .before .before .loop-test .taken)
 
--- src/lib.rt:158:5
 loop-less : tie.Need-loop-less Inv-loop μ-loop
 loop-less c = omega arith
 
--- src/lib.rt:158:5
 loop-again : tie.Need-loop-again Inv-loop μ-loop
 loop-again c = let t = c .before .before .before .before .before .before .turn-of .ensures ∙ turn-in (c .before .before .before .before .before .before .before .before .before .before .before .before .before .before .before .args .way) (c .before .before .before .before .before .before .before .before .before .before .before .before .before .before .before .args .legs) (c .before .before .before .before .before .before .before .before .before .before .before .before .before .before .before .args .a) (c .before .before .before .before .before .before .before .before .before .before .before .before .before .loop .c) in
     (omega arith, each-next (turn (c .before .before .before .before .before .before .before .before .before .before .before .before .before .before .before .args .way) (c .before .before .before .before .before .before .before .before .before .before .before .before .before .before .before .args .legs) (c .before .before .before .before .before .before .before .before .before .before .before .before .before .before .before .args .a)) _ _ (c .before .before .before .before .before .before .before .before .before .before .before .before .before .loop .inv .1) (rw t at (c .before .before .take .ensures)))
 
--- src/lib.rt:148:1
 same-length-2 : tie.Need-same-length-2 Inv-loop μ-loop
 same-length-2 c = done-length (c .before .loop .inv .1)
 
--- src/lib.rt:148:1
 returns-2 : tie.Need-returns-2 Inv-loop μ-loop
 unfolding pass
 returns-2 c = let e : c .before .loop .i ≡ entryAt (c .before .before .before .args .b) (c .before .before .before .args .a) .units = omega arith in rw e at (c .before .loop .inv .1)

@@ -8,16 +8,13 @@ use Rattle.passes.proofs.ready_net.Reads as reads
 use Rattle.passes.proofs.ready_net.Lts as lts
 use Rattle.nets.proofs.net_ready.Reads as net-ready-reads
 
--- src/lib.rt:79:9
 net-ready-requires : tie.Need-net-ready-requires
 net-ready-requires c κs = search needs
 
--- src/lib.rt:79:9
 returns : tie.Need-returns
 unfolding netIn
 returns c = c .net-ready .ensures ∙ sym (pick-true _ _ _ (c .before .if1 .taken))
 
--- src/lib.rt:74:1
 returns-2 : tie.Need-returns-2
 unfolding netIn
 returns-2 c = sym (pick-false _ _ _ (c .if1 .left))

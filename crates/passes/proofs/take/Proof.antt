@@ -12,47 +12,37 @@ use Rattle.passes.proofs.take.Lts as lts
 use Rattle.legging.proofs.leg_fill.Reads as leg-fill-reads
 use Rattle.passes.proofs.meet_limit.Reads as meet-limit-reads
 
--- src/lib.rt:122:23
 enum-told : tie.Need-enum-told
 enum-told c = search needs
 
--- src/lib.rt:123:51
 enum-told-2 : tie.Need-enum-told-2
 enum-told-2 c = search needs
 
--- src/lib.rt:123:27
 leg-fill-requires : tie.Need-leg-fill-requires
 unfolding take
 leg-fill-requires c κs = ((c .before .before .before .pre .0 .0, c .before .before .before .pre .0 .1), room-of (ap (λ (t : Turn). take (c .before .before .before .args .way) (c .before .before .before .args .a) t (c .before .before .before .args .b)) (c .before .enum-told2 .given .1)) (c .before .before .before .pre .1))
 
--- src/lib.rt:124:23
 enum-known-t : tie.Need-enum-known-t
 enum-known-t c = search needs
 
--- src/lib.rt:124:33
 meet-limit-requires : tie.Need-meet-limit-requires
 unfolding take turnLevel
 meet-limit-requires c κs = ((c .before .before .before .before .pre .0 .0, c .before .before .before .before .pre .0 .1, subst (λ (t : Turn). turnLevel t ≤ 20000000) (c .before .before .t .given .1) (c .before .before .before .before .pre .0 .2)), room-of (ap (λ (t : Turn). take (c .before .before .before .before .args .way) (c .before .before .before .before .args .a) t (c .before .before .before .before .args .b)) (c .before .before .t .given .1)) (c .before .before .before .before .pre .1))
 
--- src/lib.rt:116:1
 returns : tie.Need-returns
 unfolding take
 returns c = done-of (ap (λ (t : Turn). take (c .before .before .args .way) (c .before .before .args .a) t (c .before .before .args .b)) (c .enum-told .given .1)) (done-still _ _ _)
 
--- src/lib.rt:116:1
 same-length : tie.Need-same-length
 same-length c = search needs
 
--- src/lib.rt:116:1
 returns-2 : tie.Need-returns-2
 unfolding take
 returns-2 c = done-of (ap (λ (t : Turn). take (c .before .before .before .before .before .args .way) (c .before .before .before .before .before .args .a) t (c .before .before .before .before .before .args .b)) (c .before .before .before .enum-told2 .given .1)) (c .before .leg-fill .ensures)
 
--- src/lib.rt:116:1
 same-length-2 : tie.Need-same-length-2
 same-length-2 c = search needs
 
--- src/lib.rt:116:1
 returns-3 : tie.Need-returns-3
 unfolding take
 returns-3 c = done-of (ap (λ (t : Turn). take (c .before .before .before .before .before .before .args .way) (c .before .before .before .before .before .before .args .a) t (c .before .before .before .before .before .before .args .b)) (c .before .before .before .before .t .given .1)) (c .before .meet-limit .ensures)

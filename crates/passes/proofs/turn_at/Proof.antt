@@ -8,44 +8,35 @@ use Rattle.passes.proofs.turn_at.Lts as lts
 use Rattle.sides.proofs.meets.Reads as meets-reads
 use Rattle.passes.proofs.legs_first.Reads as legs-first-reads
 
--- src/lib.rt:54:9
 returns : tie.Need-returns
 unfolding turnAt
 returns c = search tests
 
--- src/lib.rt:56:8
 legs-first-requires : tie.Need-legs-first-requires
 legs-first-requires c κs = search needs
 
--- src/lib.rt:57:12
 meets-requires : tie.Need-meets-requires
 meets-requires c κs = search needs
 
--- src/lib.rt:58:13
 returns-2 : tie.Need-returns-2
 unfolding turnAt
 returns-2 c = search (tests, told (c .before .before .before .legs-first .ensures) (c .before .before .if2 .taken), told (c .before .meets .ensures) (c .if3 .taken))
 
--- src/lib.rt:60:9
 returns-3 : tie.Need-returns-3
 unfolding turnAt
 returns-3 c = search (tests, told (c .before .before .before .legs-first .ensures) (c .before .before .if2 .taken), told (c .before .meets .ensures) (c .if3 .left))
 
--- src/lib.rt:63:9
 returns-4 : tie.Need-returns-4
 unfolding turnAt
 returns-4 c = search (tests, told (c .before .before .legs-first .ensures) (c .before .if2 .left))
 
--- src/lib.rt:65:8
 meets-requires-2 : tie.Need-meets-requires-2
 meets-requires-2 c κs = search needs
 
--- src/lib.rt:66:9
 returns-5 : tie.Need-returns-5
 unfolding turnAt
 returns-5 c = search (tests, told (c .before .before .before .before .legs-first .ensures) (c .before .before .before .if2 .left), told (c .before .meets2 .ensures) (c .if5 .taken))
 
--- src/lib.rt:50:1
 returns-6 : tie.Need-returns-6
 unfolding turnAt
 returns-6 c = search (tests, told (c .before .before .before .before .legs-first .ensures) (c .before .before .before .if2 .left), told (c .before .meets2 .ensures) (c .if5 .left))

@@ -8,23 +8,18 @@ use Rattle.passes.proofs.opposite.Reads as opposite-reads
 use Rattle.passes.proofs.ready_net.Reads as ready-net-reads
 use Rattle.passes.proofs.turn_at.Reads as turn-at-reads
 
--- src/lib.rt:97:9
 returns : tie.Need-returns
 returns c = turn-empty _ _ _ (c .if1 .taken)
 
--- src/lib.rt:99:9
 opposite-requires : tie.Need-opposite-requires
 opposite-requires c κs = search needs
 
--- src/lib.rt:100:9
 ready-net-requires : tie.Need-ready-net-requires
 ready-net-requires c κs = search needs
 
--- src/lib.rt:101:5
 turn-at-requires : tie.Need-turn-at-requires
 turn-at-requires c κs = search needs
 
--- src/lib.rt:85:1
 returns-2 : tie.Need-returns-2
 returns-2 c = rw (c .turn-at .ensures, c .before .before .opposite .ensures, c .before .ready-net .ensures)
 

@@ -9,15 +9,12 @@ use Rattle.records.proofs.cents.Tie as tie
 use Rattle.records.proofs.cents.Reads as reads
 use Rattle.records.proofs.cents.Lts as lts
 
--- src/lib.rt:42:5
 cast-result : tie.Need-cast-result
 cast-result c = search needs
 
--- src/lib.rt:42:5
 sub-result : tie.Need-sub-result
 sub-result c = rw (cents-is _ (c .pre)) (cents-fits _ (c .pre))
 
--- src/lib.rt:38:1
 returns : tie.Need-returns
 returns c = ap (λ z. toZ w32 (ofZ w32 z)) (cents-is _ (c .pre)) ∙ toZ-ofZ (cents-fits _ (c .pre))
 

@@ -6,65 +6,51 @@ use Rattle.records.proofs.kind_number.Tie as tie
 use Rattle.records.proofs.kind_number.Reads as reads
 use Rattle.records.proofs.kind_number.Lts as lts
 
--- src/lib.rt:27:28
 enum-told : tie.Need-enum-told
 enum-told c = search needs
 
--- src/lib.rt:28:26
 enum-told-2 : tie.Need-enum-told-2
 enum-told-2 c = search needs
 
--- src/lib.rt:29:31
 enum-told-3 : tie.Need-enum-told-3
 enum-told-3 c = search needs
 
--- src/lib.rt:30:28
 enum-told-4 : tie.Need-enum-told-4
 enum-told-4 c = search needs
 
--- src/lib.rt:31:36
 enum-told-5 : tie.Need-enum-told-5
 enum-told-5 c = search needs
 
--- src/lib.rt:32:31
 enum-told-6 : tie.Need-enum-told-6
 enum-told-6 c = search needs
 
--- src/lib.rt:33:31
 enum-told-7 : tie.Need-enum-told-7
 enum-told-7 c = search needs
 
--- src/lib.rt:23:1
 returns : tie.Need-returns
 unfolding kindNumber
 returns c = sym (ap kindNumber (c .enum-told .given .1))
 
--- src/lib.rt:23:1
 returns-2 : tie.Need-returns-2
 unfolding kindNumber
 returns-2 c = sym (ap kindNumber (c .enum-told2 .given .1))
 
--- src/lib.rt:23:1
 returns-3 : tie.Need-returns-3
 unfolding kindNumber
 returns-3 c = sym (ap kindNumber (c .enum-told3 .given .1))
 
--- src/lib.rt:23:1
 returns-4 : tie.Need-returns-4
 unfolding kindNumber
 returns-4 c = sym (ap kindNumber (c .enum-told4 .given .1))
 
--- src/lib.rt:23:1
 returns-5 : tie.Need-returns-5
 unfolding kindNumber
 returns-5 c = sym (ap kindNumber (c .enum-told5 .given .1))
 
--- src/lib.rt:23:1
 returns-6 : tie.Need-returns-6
 unfolding kindNumber
 returns-6 c = sym (ap kindNumber (c .enum-told6 .given .1))
 
--- src/lib.rt:23:1
 returns-7 : tie.Need-returns-7
 unfolding kindNumber
 returns-7 c = sym (ap kindNumber (c .enum-told7 .given .1))

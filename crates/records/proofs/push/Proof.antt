@@ -15,115 +15,87 @@ use Rattle.records.proofs.push.Lts as lts
 use Rattle.records.proofs.cents.Reads as cents-reads
 use Rattle.records.proofs.kind_number.Reads as kind-number-reads
 
--- src/lib.rt:52:9
 kind-number-requires : tie.Need-kind-number-requires
 kind-number-requires c κs = search needs
 
--- src/lib.rt:53:9
 cents-requires : tie.Need-cents-requires
 cents-requires c κs = search needs
 
--- src/lib.rt:54:14
 mul-at : tie.Need-mul-at
 mul-at c = search needs
 
--- src/lib.rt:55:17
 cast-space : tie.Need-cast-space
 cast-space c = record { sfits = omega (arith, c .before .kind-number .ensures, kind-small (c .before .before .args .r .kind)) }
 
--- src/lib.rt:55:5
 mul-space : tie.Need-mul-space
 mul-space c = search needs
 
--- src/lib.rt:55:5
 slice-set-from-space : tie.Need-slice-set-from-space
 slice-set-from-space c = search needs
 
--- src/lib.rt:56:21
 cast-space-2 : tie.Need-cast-space-2
 cast-space-2 c = search needs
 
--- src/lib.rt:56:11
 add-space : tie.Need-add-space
 add-space c = search needs
 
--- src/lib.rt:56:5
 mul-space-2 : tie.Need-mul-space-2
 mul-space-2 c = search needs
 
--- src/lib.rt:56:5
 slice-set-from-space-2 : tie.Need-slice-set-from-space-2
 slice-set-from-space-2 c = simp length-set (omega arith)
 
--- src/lib.rt:57:21
 cast-space-3 : tie.Need-cast-space-3
 cast-space-3 c = search needs
 
--- src/lib.rt:57:11
 add-space-2 : tie.Need-add-space-2
 add-space-2 c = search needs
 
--- src/lib.rt:57:5
 mul-space-3 : tie.Need-mul-space-3
 mul-space-3 c = search needs
 
--- src/lib.rt:57:5
 slice-set-from-space-3 : tie.Need-slice-set-from-space-3
 slice-set-from-space-3 c = simp length-set (omega arith)
 
--- src/lib.rt:58:21
 cast-space-4 : tie.Need-cast-space-4
 cast-space-4 c = search needs
 
--- src/lib.rt:58:11
 add-space-3 : tie.Need-add-space-3
 add-space-3 c = search needs
 
--- src/lib.rt:58:5
 mul-space-4 : tie.Need-mul-space-4
 mul-space-4 c = search needs
 
--- src/lib.rt:58:5
 slice-set-from-space-4 : tie.Need-slice-set-from-space-4
 slice-set-from-space-4 c = simp length-set (omega arith)
 
--- src/lib.rt:59:21
 cast-space-5 : tie.Need-cast-space-5
 cast-space-5 c = search needs
 
--- src/lib.rt:59:11
 add-t11 : tie.Need-add-t11
 add-t11 c = search needs
 
--- src/lib.rt:59:5
 mul-t9 : tie.Need-mul-t9
 mul-t9 c = search needs
 
--- src/lib.rt:59:5
 slice-set-from-space-5 : tie.Need-slice-set-from-space-5
 slice-set-from-space-5 c = simp length-set (omega arith)
 
--- src/lib.rt:60:11
 add-price : tie.Need-add-price
 add-price c = search needs
 
--- src/lib.rt:60:5
 mul-price : tie.Need-mul-price
 mul-price c = search needs
 
--- src/lib.rt:60:5
 slice-set-from-price : tie.Need-slice-set-from-price
 slice-set-from-price c = simp length-set (omega arith)
 
--- src/lib.rt:61:5
 add-result : tie.Need-add-result
 add-result c = search needs
 
--- src/lib.rt:46:1
 same-length : tie.Need-same-length
 same-length c = simp length-set
 
--- src/lib.rt:46:1
 returns : tie.Need-returns
 returns c = let number : c .before .before .before .before .before .before .args .r .number < 2 ^ 31 = omega (arith, c .before .before .before .before .before .before .pre .1 .number) in
     let place : c .before .before .before .before .before .before .args .r .place < 2 ^ 31 = omega arith in

@@ -5,7 +5,6 @@ use Rattle.records.proofs.with_orders.Tie as tie
 use Rattle.records.proofs.with_orders.Reads as reads
 use Rattle.records.proofs.with_orders.Lts as lts
 
--- src/lib.rt:89:1
 returns : tie.Need-returns
 unfolding withOrders
 returns c = refl

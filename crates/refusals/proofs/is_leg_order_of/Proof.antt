@@ -1,26 +1,21 @@
 use Rattle.rules.specs.Refusals.{isLegOrderOf}
-use Rattle.closing.specs.Closing.{order-dead, order-alive}
-use Rattle.base.specs.Pick.{tests}
+use Rattle.rules.specs.Events.{liveOrder}
 use borrow.Author.Needs.{needs}
 use Rattle.refusals.proofs.is_leg_order_of.Statement.{statement}
 use Rattle.refusals.proofs.is_leg_order_of.Tie as tie
 use Rattle.refusals.proofs.is_leg_order_of.Reads as reads
 use Rattle.refusals.proofs.is_leg_order_of.Lts as lts
+use Rattle.refusals.proofs.is_live_of.Reads as is-live-of-reads
+
+cast-is-live-of : tie.Need-cast-is-live-of
+cast-is-live-of c = search needs
+
+is-live-of-requires : tie.Need-is-live-of-requires
+is-live-of-requires c κs = search needs
 
 returns : tie.Need-returns
-unfolding isLegOrderOf
-returns c = search (tests, order-dead)
-
-cast-member : tie.Need-cast-member
-cast-member c = search needs
-
-returns-2 : tie.Need-returns-2
-unfolding isLegOrderOf
-returns-2 c = search (tests, order-alive)
-
-returns-3 : tie.Need-returns-3
-unfolding isLegOrderOf
-returns-3 c = search (tests, order-alive)
+unfolding isLegOrderOf liveOrder
+returns c = c .is-live-of .ensures
 
 pub is-leg-order-of-spec : {M : Type 1} → statement M
-is-leg-order-of-spec = tie.close (tie.spec returns cast-member returns-2 returns-3)
+is-leg-order-of-spec = tie.close (tie.spec cast-is-live-of is-live-of-requires returns)

@@ -1,30 +1,19 @@
-use Rattle.rules.specs.Refusals.{isOrderOf}
-use Rattle.closing.specs.Closing.{dead, alive}
-use Rattle.base.specs.Pick.{tests}
+use Rattle.refusals.specs.Refusing.{sweep-not, order-live}
 use borrow.Author.Needs.{needs}
 use Rattle.refusals.proofs.is_order_of.Statement.{statement}
 use Rattle.refusals.proofs.is_order_of.Tie as tie
 use Rattle.refusals.proofs.is_order_of.Reads as reads
 use Rattle.refusals.proofs.is_order_of.Lts as lts
+use Rattle.refusals.proofs.is_live_of.Reads as is-live-of-reads
 
 returns : tie.Need-returns
-unfolding isOrderOf
-returns c = search (tests, dead)
+returns c = sweep-not _ _ _ (c .if1 .taken)
+
+is-live-of-requires : tie.Need-is-live-of-requires
+is-live-of-requires c κs = search needs
 
 returns-2 : tie.Need-returns-2
-unfolding isOrderOf
-returns-2 c = search (tests, alive)
-
-cast-member : tie.Need-cast-member
-cast-member c = search needs
-
-returns-3 : tie.Need-returns-3
-unfolding isOrderOf
-returns-3 c = search (tests, alive)
-
-returns-4 : tie.Need-returns-4
-unfolding isOrderOf
-returns-4 c = search (tests, alive)
+returns-2 c = order-live _ _ _ (c .before .if1 .left) (c .is-live-of .ensures)
 
 pub is-order-of-spec : {M : Type 1} → statement M
-is-order-of-spec = tie.close (tie.spec returns returns-2 cast-member returns-3 returns-4)
+is-order-of-spec = tie.close (tie.spec returns is-live-of-requires returns-2)

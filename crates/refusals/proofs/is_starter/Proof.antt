@@ -1,6 +1,6 @@
-use Rattle.refusals.specs.Refusing.{startedIn, found, found-none}
+use Rattle.refusals.specs.Refusing.{found, found-none}
 use Rattle.auctions.specs.Auctions.{Passed, passed-first, passed-next}
-use Rattle.rules.specs.Refusals.{isStarter}
+use Rattle.rules.specs.Refusals.{startedBy, isStarter}
 use borrow.Author.Tests.{eq-eqb, ne-eqb}
 use Prim.Native.Nat.{_≤_, _-_}
 use native.Mathlib.Omega.{arith}
@@ -10,10 +10,10 @@ use Rattle.refusals.proofs.is_starter.Reads as reads
 use Rattle.refusals.proofs.is_starter.Lts as lts
 
 abbrev Inv-loop : tie.InvT-loop
-Inv-loop n ss k₀ k = (k ≤ 16) × Passed (startedIn ss n) k
+Inv-loop n b k₀ k = (k ≤ 16) × Passed (startedBy b n) k
 
 abbrev μ-loop : tie.MeasureT-loop
-μ-loop n ss k₀ k = 16 - k
+μ-loop n b k₀ k = 16 - k
 
 loop-holds : tie.Need-loop-holds Inv-loop μ-loop
 loop-holds c = (omega arith, passed-first _)
@@ -21,8 +21,8 @@ loop-holds c = (omega arith, passed-first _)
 mul-s : tie.Need-mul-s Inv-loop μ-loop
 mul-s c = omega arith
 
-array-copy-out-s : tie.Need-array-copy-out-s Inv-loop μ-loop
-array-copy-out-s c = omega arith
+element-copy-out-s : tie.Need-element-copy-out-s Inv-loop μ-loop
+element-copy-out-s c = omega arith
 
 returns : tie.Need-returns Inv-loop μ-loop
 unfolding isStarter
@@ -49,7 +49,7 @@ is-starter-spec =
     μ-loop
     loop-holds
     mul-s
-    array-copy-out-s
+    element-copy-out-s
     returns
     add-k
     loop-less

@@ -1,22 +1,18 @@
-use Rattle.base.specs.Pick.{tests}
-use Rattle.rules.specs.Refusals.{legOrdersFull}
+use Rattle.refusals.specs.Refusing.{slots-full}
+use lib.ListN.{length, length-map}
+use mathlib.Core.Path.{_≡_}
 use borrow.Author.Needs.{needs}
 use Rattle.refusals.proofs.leg_orders_full.Statement.{statement}
 use Rattle.refusals.proofs.leg_orders_full.Tie as tie
 use Rattle.refusals.proofs.leg_orders_full.Reads as reads
 use Rattle.refusals.proofs.leg_orders_full.Lts as lts
-use Rattle.refusals.proofs.leg_orders.Reads as leg-orders-reads
+use Rattle.legs.proofs.free_order_slot.Reads as free-order-slot-reads
 
-leg-orders-requires : tie.Need-leg-orders-requires
-leg-orders-requires c κs = search needs
+free-order-slot-requires : tie.Need-free-order-slot-requires
+free-order-slot-requires c κs = search needs
 
 returns : tie.Need-returns
-unfolding legOrdersFull
-returns c = rw (← c .before .leg-orders .ensures) (search tests)
-
-returns-2 : tie.Need-returns-2
-unfolding legOrdersFull
-returns-2 c = rw (← c .before .leg-orders .ensures) (search tests)
+returns c = slots-full _ (let l : length (c .before .args .b .orders) ≡ 32 = simp length-map at (c .before .good .0 .1 .1 .1 .1 .0 .1 .0 .1) in l) (c .free-order-slot .ensures)
 
 pub leg-orders-full-spec : {M : Type 1} → statement M
-leg-orders-full-spec = tie.close (tie.spec leg-orders-requires returns returns-2)
+leg-orders-full-spec = tie.close (tie.spec free-order-slot-requires returns)

@@ -1,5 +1,5 @@
 use Rattle.rules.specs.Refusals.{numbersOut}
-use Rattle.base.specs.Pick.{tests}
+use mathlib.Core.Path.{refl}
 use Rattle.refusals.proofs.numbers_out.Statement.{statement}
 use Rattle.refusals.proofs.numbers_out.Tie as tie
 use Rattle.refusals.proofs.numbers_out.Reads as reads
@@ -7,11 +7,7 @@ use Rattle.refusals.proofs.numbers_out.Lts as lts
 
 returns : tie.Need-returns
 unfolding numbersOut
-returns c = search tests
-
-returns-2 : tie.Need-returns-2
-unfolding numbersOut
-returns-2 c = search tests
+returns c = refl
 
 pub numbers-out-spec : {M : Type 1} → statement M
-numbers-out-spec = tie.close (tie.spec returns returns-2)
+numbers-out-spec = tie.close (tie.spec returns)

@@ -1,4 +1,3 @@
-use Rattle.base.specs.Pick.{tests}
 use borrow.Author.Needs.{needs}
 use Rattle.refusals.proofs.replaces.Statement.{statement}
 use Rattle.refusals.proofs.replaces.Tie as tie
@@ -14,10 +13,7 @@ old-sweep-requires : tie.Need-old-sweep-requires
 old-sweep-requires c κs = search needs
 
 returns : tie.Need-returns
-returns c = rw (← c .before .before .sweep-given .ensures, ← c .before .old-sweep .ensures) (search tests)
-
-returns-2 : tie.Need-returns-2
-returns-2 c = rw (← c .before .before .sweep-given .ensures, ← c .before .old-sweep .ensures) (search tests)
+returns c = rw (← c .before .sweep-given .ensures, ← c .old-sweep .ensures)
 
 pub replaces-spec : {M : Type 1} → statement M
-replaces-spec = tie.close (tie.spec sweep-given-requires old-sweep-requires returns returns-2)
+replaces-spec = tie.close (tie.spec sweep-given-requires old-sweep-requires returns)

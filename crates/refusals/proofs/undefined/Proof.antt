@@ -1,5 +1,5 @@
 use Rattle.rules.specs.Refusals.{undefined}
-use Rattle.base.specs.Pick.{tests}
+use mathlib.Core.Path.{refl}
 use borrow.Author.Needs.{needs}
 use Rattle.refusals.proofs.undefined.Statement.{statement}
 use Rattle.refusals.proofs.undefined.Tie as tie
@@ -11,11 +11,7 @@ cast-defined c = search needs
 
 returns : tie.Need-returns
 unfolding undefined
-returns c = search tests
-
-returns-2 : tie.Need-returns-2
-unfolding undefined
-returns-2 c = search tests
+returns c = refl
 
 pub undefined-spec : {M : Type 1} → statement M
-undefined-spec = tie.close (tie.spec cast-defined returns returns-2)
+undefined-spec = tie.close (tie.spec cast-defined returns)

@@ -7,21 +7,17 @@ use Rattle.sides.proofs.best_price.Reads as reads
 use Rattle.sides.proofs.best_price.Lts as lts
 use Rattle.sides.proofs.better.Reads as better-reads
 
--- src/lib.rt:50:9
 returns : tie.Need-returns
 unfolding bestPrice
 returns c = search tests
 
--- src/lib.rt:52:8
 better-requires : tie.Need-better-requires
 better-requires c κs = search needs
 
--- src/lib.rt:53:9
 returns-2 : tie.Need-returns-2
 unfolding bestPrice
 returns-2 c = search (tests, told (c .before .better .ensures) (c .if2 .taken))
 
--- src/lib.rt:46:1
 returns-3 : tie.Need-returns-3
 unfolding bestPrice
 returns-3 c = search (tests, told (c .before .better .ensures) (c .if2 .left))

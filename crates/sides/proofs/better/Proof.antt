@@ -5,12 +5,10 @@ use Rattle.sides.proofs.better.Tie as tie
 use Rattle.sides.proofs.better.Reads as reads
 use Rattle.sides.proofs.better.Lts as lts
 
--- src/lib.rt:40:9
 returns : tie.Need-returns
 unfolding better
 returns c = search tests
 
--- src/lib.rt:36:1
 returns-2 : tie.Need-returns-2
 unfolding better
 returns-2 c = search tests

@@ -7,16 +7,13 @@ use Rattle.sides.proofs.leg_side.Reads as reads
 use Rattle.sides.proofs.leg_side.Lts as lts
 use Rattle.sides.proofs.other.Reads as other-reads
 
--- src/lib.rt:20:9
 returns : tie.Need-returns
 unfolding legSide
 returns c = search tests
 
--- src/lib.rt:22:5
 other-requires : tie.Need-other-requires
 other-requires c κs = search needs
 
--- src/lib.rt:16:1
 returns-2 : tie.Need-returns-2
 unfolding legSide
 returns-2 c = rw (c .other .ensures) (search tests)

@@ -5,12 +5,10 @@ use Rattle.sides.proofs.meets.Tie as tie
 use Rattle.sides.proofs.meets.Reads as reads
 use Rattle.sides.proofs.meets.Lts as lts
 
--- src/lib.rt:30:9
 returns : tie.Need-returns
 unfolding meets
 returns c = search tests
 
--- src/lib.rt:26:1
 returns-2 : tie.Need-returns-2
 unfolding meets
 returns-2 c = search tests

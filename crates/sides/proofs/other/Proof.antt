@@ -5,12 +5,10 @@ use Rattle.sides.proofs.other.Tie as tie
 use Rattle.sides.proofs.other.Reads as reads
 use Rattle.sides.proofs.other.Lts as lts
 
--- src/lib.rt:10:9
 returns : tie.Need-returns
 unfolding other
 returns c = search tests
 
--- src/lib.rt:6:1
 returns-2 : tie.Need-returns-2
 unfolding other
 returns-2 c = search tests

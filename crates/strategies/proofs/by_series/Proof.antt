@@ -1,5 +1,7 @@
-use Rattle.strategies.specs.Order.{Ordering, ordering-first, ordering-room, ordering-next, ordering-last}
-use Prim.Native.Nat.{_≤_, _-_}
+use mathlib.Core.Path.{refl}
+use Rattle.base.specs.Sets.{lowestOf}
+use Rattle.strategies.specs.Order.{Walking, lowest-in, walking-first, walking-next, walking-last, left-fits, shifted}
+use borrow.Author.Needs.{needs}
 use native.Mathlib.Omega.{arith}
 use Rattle.strategies.proofs.by_series.Statement.{statement}
 use Rattle.strategies.proofs.by_series.Tie as tie
@@ -8,36 +10,56 @@ use Rattle.strategies.proofs.by_series.Lts as lts
 use Rattle.strategies.proofs.put_series.Reads as put-series-reads
 
 abbrev Inv-loop : tie.InvT-loop
-Inv-loop legs count o₀ s₀ o s = (s ≤ 32) × Ordering legs count s o
+Inv-loop legs count x o₀ left₀ o left = Walking legs count left o
 
 abbrev μ-loop : tie.MeasureT-loop
-μ-loop legs count o₀ s₀ o s = 32 - s
+μ-loop legs count x o₀ left₀ o left = left
 
--- src/lib.rt:57:5
 loop-holds : tie.Need-loop-holds Inv-loop μ-loop
-loop-holds c = (omega arith, ordering-first _ _)
+loop-holds c = walking-first _ _ (c .pre)
 
--- src/lib.rt:58:9
+cast-s : tie.Need-cast-s Inv-loop μ-loop
+unfolding lowestOf
+cast-s c = let h = lowest-in (c .before .loop .left) (c .before .loop .inv .small) (c .loop-test .taken) refl .0 in omega arith
+
 put-series-requires : tie.Need-put-series-requires Inv-loop μ-loop
-put-series-requires c κs = (c .before .before .pre, ordering-room _ _ _ (c .before .before .pre) (c .before .loop .inv .1))
+put-series-requires c κs = search needs
 
--- src/lib.rt:59:9
-add-s : tie.Need-add-s Inv-loop μ-loop
-add-s c = omega arith
+cast-left : tie.Need-cast-left Inv-loop μ-loop
+unfolding lowestOf
+cast-left c = let h = lowest-in (c .before .before .loop .left) (c .before .before .loop .inv .small) (c .before .loop-test .taken) refl .0 in omega arith
 
--- src/lib.rt:57:5
+shl-left : tie.Need-shl-left Inv-loop μ-loop
+unfolding lowestOf
+shl-left c = let h = lowest-in (c .before .before .loop .left) (c .before .before .loop .inv .small) (c .before .loop-test .taken) refl .0 in omega arith
+
+sub-left : tie.Need-sub-left Inv-loop μ-loop
+unfolding lowestOf
+sub-left c = let h = lowest-in (c .before .before .loop .left) (c .before .before .loop .inv .small) (c .before .loop-test .taken) refl .0 in left-fits (c .before .before .loop .left) (c .before .before .loop .inv .small) (c .before .loop-test .taken) refl (shifted _ h) .1
+
 loop-less : tie.Need-loop-less Inv-loop μ-loop
-loop-less c = omega arith
+unfolding lowestOf
+loop-less c = let h = lowest-in (c .before .before .loop .left) (c .before .before .loop .inv .small) (c .before .loop-test .taken) refl .0 in omega (arith, left-fits (c .before .before .loop .left) (c .before .before .loop .inv .small) (c .before .loop-test .taken) refl (shifted _ h))
 
--- src/lib.rt:57:5
 loop-again : tie.Need-loop-again Inv-loop μ-loop
-loop-again c = (omega arith, ordering-next _ _ _ (c .before .before .before .pre) (c .before .before .loop .inv .1) (c .put-series .ensures))
+unfolding lowestOf
+loop-again c = let h = lowest-in (c .before .before .loop .left) (c .before .before .loop .inv .small) (c .before .loop-test .taken) refl .0 in walking-next _ _ (c .before .before .loop .inv) (c .before .loop-test .taken) refl (c .put-series .ensures) (shifted _ h)
 
--- src/lib.rt:43:1
 returns : tie.Need-returns Inv-loop μ-loop
-returns c = ordering-last _ _ _ (c .before .before .before .pre) (c .before .before .loop .inv .1) (omega arith)
+returns c = walking-last _ _ (c .before .before .loop .inv) (c .before .loop-test .left)
 
 pub by-series-spec : {M : Type 1} → statement M
 by-series-spec =
     tie.close
-    (tie.spec Inv-loop μ-loop loop-holds put-series-requires add-s loop-less loop-again returns)
+    (tie.spec
+    Inv-loop
+    μ-loop
+    loop-holds
+    cast-s
+    put-series-requires
+    cast-left
+    shl-left
+    sub-left
+    loop-less
+    loop-again
+    returns)

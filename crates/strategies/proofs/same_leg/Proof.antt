@@ -5,17 +5,14 @@ use Rattle.strategies.proofs.same_leg.Tie as tie
 use Rattle.strategies.proofs.same_leg.Reads as reads
 use Rattle.strategies.proofs.same_leg.Lts as lts
 
--- src/lib.rt:92:9
 returns : tie.Need-returns
 unfolding sameLeg
 returns c = search tests
 
--- src/lib.rt:95:9
 returns-2 : tie.Need-returns-2
 unfolding sameLeg
 returns-2 c = search tests
 
--- src/lib.rt:88:1
 returns-3 : tie.Need-returns-3
 unfolding sameLeg
 returns-3 c = search tests

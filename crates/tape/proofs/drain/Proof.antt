@@ -7,23 +7,18 @@ use Rattle.tape.proofs.drain.Reads as reads
 use Rattle.tape.proofs.drain.Lts as lts
 use Rattle.io.proofs.write_all.Reads as write-all-reads
 
--- src/main.rt:154:16
 sub-if1 : tie.Need-sub-if1
 sub-if1 c = search needs
 
--- src/main.rt:155:9
 returns : tie.Need-returns
 returns c = search needs
 
--- src/main.rt:160:43
 slice-aggregate-write-all : tie.Need-slice-aggregate-write-all
 slice-aggregate-write-all c = sym (length-take-le _ _ (c .before .before .before .pre .0))
 
--- src/main.rt:160:9
 write-all-requires : tie.Need-write-all-requires
 write-all-requires c κs = search needs
 
--- src/main.rt:150:1
 returns-2 : tie.Need-returns-2
 returns-2 c = search needs
 

@@ -7,27 +7,21 @@ use Rattle.tape.proofs.fill.Lts as lts
 use Rattle.tape.proofs.read_up.Reads as read-up-reads
 use Rattle.tape.proofs.slide.Reads as slide-reads
 
--- src/main.rt:59:13
 sub-n : tie.Need-sub-n
 sub-n c = search needs
 
--- src/main.rt:61:9
 returns : tie.Need-returns
 returns c = more-none (c .before .before .before .pre)
 
--- src/main.rt:63:5
 slide-requires : tie.Need-slide-requires
 slide-requires c κs = search needs
 
--- src/main.rt:64:9
 read-up-requires : tie.Need-read-up-requires
 read-up-requires c κs = search needs
 
--- src/main.rt:54:1
 same-length : tie.Need-same-length
 same-length c = search needs
 
--- src/main.rt:54:1
 returns-2 : tie.Need-returns-2
 returns-2 c = more-slid (c .before .before .before .before .before .before .slide .ensures) (c .before .before .before .before .before .before .slide .kept .0) (c .before .before .read-up .ensures)
 

@@ -9,35 +9,27 @@ use Rattle.tape.proofs.read_on.Lts as lts
 use Rattle.io.proofs.count.Reads as count-reads
 use Rattle.libc.proofs.read.Reads as read-reads
 
--- src/main.rt:32:16
 sub-part : tie.Need-sub-part
 sub-part c = search needs
 
--- src/main.rt:32:16
 part-part-start : tie.Need-part-part-start
 part-part-start c = search needs
 
--- src/main.rt:32:16
 part-part-end : tie.Need-part-part-end
 part-part-end c = search needs
 
--- src/main.rt:33:9
 read-requires : tie.Need-read-requires
 read-requires c κs = search needs
 
--- src/main.rt:34:9
 count-requires : tie.Need-count-requires
 count-requires c κs = search needs
 
--- src/main.rt:34:5
 add-result : tie.Need-add-result
 add-result c = search needs
 
--- src/main.rt:28:1
 same-length : tie.Need-same-length
 same-length c = search needs
 
--- src/main.rt:28:1
 returns : tie.Need-returns
 returns c = added-part _ _ _ _ (search needs) (omega arith) (same-length c) refl
 

@@ -16,35 +16,27 @@ Inv-loop block₀ n need m₀ block m = Added block₀ block n m
 abbrev μ-loop : tie.MeasureT-loop
 μ-loop block₀ n need m₀ block m = length block - m
 
--- src/main.rt:43:5
 loop-holds : tie.Need-loop-holds Inv-loop μ-loop
 loop-holds c = added-none _ _ (search needs)
 
--- src/main.rt:44:13
 read-on-requires : tie.Need-read-on-requires Inv-loop μ-loop
 read-on-requires c κs = c .before .before .loop .inv .inside
 
--- src/main.rt:46:13
 same-length : tie.Need-same-length Inv-loop μ-loop
 same-length c = c .before .before .before .read-on .ensures .same ∙ c .before .before .before .before .before .before .loop .inv .same
 
--- src/main.rt:46:13
 returns : tie.Need-returns Inv-loop μ-loop
 returns c = rw (c .if1 .taken) at (added-then (c .before .before .before .before .before .before .loop .inv) (c .before .before .before .read-on .ensures))
 
--- src/main.rt:43:5
 loop-less : tie.Need-loop-less Inv-loop μ-loop
 loop-less c = omega (arith, c .before .before .before .read-on .ensures .same)
 
--- src/main.rt:43:5
 loop-again : tie.Need-loop-again Inv-loop μ-loop
 loop-again c = added-then (c .before .before .before .before .before .before .loop .inv) (c .before .before .before .read-on .ensures)
 
--- src/main.rt:38:1
 same-length-2 : tie.Need-same-length-2 Inv-loop μ-loop
 same-length-2 c = c .before .loop .inv .same
 
--- src/main.rt:38:1
 returns-2 : tie.Need-returns-2 Inv-loop μ-loop
 returns-2 c = c .before .loop .inv
 

@@ -22,127 +22,96 @@ Inv-loop block₀ space₀ out₀ book₀ rest₀ used₀ on₀ index₀ block s
 abbrev μ-loop : tie.MeasureT-loop
 μ-loop block₀ space₀ out₀ book₀ rest₀ used₀ on₀ index₀ block space out book rest used on index = 18446744073709551615 - index
 
--- src/main.rt:169:9
 first-requires : tie.Need-first-requires Inv-loop μ-loop
 first-requires c κs = tt
 
--- src/main.rt:174:5
 loop-holds : tie.Need-loop-holds Inv-loop μ-loop
 loop-holds c = running-first _ _ _ _ (c .first .ensures) (omega arith) (omega arith)
 
--- src/main.rt:175:13
 fill-frame-requires : tie.Need-fill-frame-requires Inv-loop μ-loop
 fill-frame-requires c κs = c .before .before .before .loop .inv .ready .lies
 
--- src/main.rt:178:21
 sub-cut : tie.Need-sub-cut Inv-loop μ-loop
 sub-cut c = c .before .before .fill-frame .ensures .lies .order
 
--- src/main.rt:178:21
 part-cut-start : tie.Need-part-cut-start Inv-loop μ-loop
 part-cut-start c = omega (arith, c .before .before .before .fill-frame .ensures .lies .order, c .before .before .before .fill-frame .ensures .lies .inside)
 
--- src/main.rt:178:21
 part-cut-end : tie.Need-part-cut-end Inv-loop μ-loop
 part-cut-end c = omega (arith, c .before .before .before .fill-frame .ensures .lies .order, c .before .before .before .fill-frame .ensures .lies .inside)
 
--- src/main.rt:178:13
 cut-requires : tie.Need-cut-requires Inv-loop μ-loop
 cut-requires c κs = tt
 
--- src/main.rt:180:17
 tell-end-requires : tie.Need-tell-end-requires Inv-loop μ-loop
 tell-end-requires c κs = ((c .before .before .before .before .before .before .before .before .before .fill-frame .ensures .lies, sym (c .before .before .before .before .cut .ensures) ∙ c .before .before .before .if2 .taken), (c .before .before .before .before .before .before .before .before .before .before .before .before .before .loop .inv .ready .size, c .before .before .before .before .before .before .before .before .before .before .before .before .before .loop .inv .ready .room))
 
--- src/main.rt:181:42
 slice-reshare-prefix-write-all : tie.Need-slice-reshare-prefix-write-all Inv-loop μ-loop
 slice-reshare-prefix-write-all c = omega (arith, c .before .before .tell-end .ensures .turned (c .before .before .before .before .before .before .before .before .before .before .before .before .before .before .before .before .loop .book) (c .before .before .before .before .before .before .before .before .before .before .before .before .before .before .before .before .loop .inv .ready .valid) .text .few, c .before .before .before .before .before .before .before .before .before .before .before .before .before .before .before .before .loop .inv .ready .room, c .before .before .tell-end .kept .1 .1 .1 .1 .0)
 
--- src/main.rt:181:42
 slice-aggregate-write-all : tie.Need-slice-aggregate-write-all Inv-loop μ-loop
 slice-aggregate-write-all c = sym (length-take-le _ _ (omega (arith, c .before .before .before .tell-end .ensures .turned (c .before .before .before .before .before .before .before .before .before .before .before .before .before .before .before .before .before .loop .book) (c .before .before .before .before .before .before .before .before .before .before .before .before .before .before .before .before .before .loop .inv .ready .valid) .text .few, c .before .before .before .before .before .before .before .before .before .before .before .before .before .before .before .before .before .loop .inv .ready .room, c .before .before .before .tell-end .kept .1 .1 .1 .1 .0)))
 
--- src/main.rt:181:13
 write-all-requires : tie.Need-write-all-requires Inv-loop μ-loop
 write-all-requires c κs = tt
 
--- src/main.rt:182:13
 same-length : tie.Need-same-length Inv-loop μ-loop
 same-length c = c .before .before .before .before .before .before .before .before .before .before .before .before .before .before .fill-frame .ensures .same ∙ c .before .before .before .before .before .before .before .before .before .before .before .before .before .before .before .before .before .before .loop .inv .blocks
 
--- src/main.rt:182:13
 same-length-2 : tie.Need-same-length-2 Inv-loop μ-loop
 same-length-2 c = c .before .before .before .before .before .before .before .before .before .before .before .before .before .before .before .before .before .before .loop .inv .spaces
 
--- src/main.rt:182:13
 same-length-3 : tie.Need-same-length-3 Inv-loop μ-loop
 same-length-3 c = c .before .before .before .before .tell-end .kept .1 .1 .1 .1 .0 ∙ c .before .before .before .before .before .before .before .before .before .before .before .before .before .before .before .before .before .before .loop .inv .outs
 
--- src/main.rt:182:13
 returns : tie.Need-returns Inv-loop μ-loop
 returns c = tt
 
--- src/main.rt:184:20
 add-next : tie.Need-add-next Inv-loop μ-loop
 add-next c = omega (arith, event-fits (ready-filled (c .before .before .before .before .before .before .before .before .before .before .loop .inv .ready) (c .before .before .before .before .before .before .fill-frame .ensures)) (c .before .cut .ensures), c .before .before .before .before .before .before .fill-frame .ensures .lies .inside)
 
--- src/main.rt:185:38
 sub-tell : tie.Need-sub-tell Inv-loop μ-loop
 sub-tell c = omega arith
 
--- src/main.rt:185:38
 part-tell-start : tie.Need-part-tell-start Inv-loop μ-loop
 part-tell-start c = omega (arith, c .before .before .before .before .before .before .before .fill-frame .ensures .lies .order, c .before .before .before .before .before .before .before .fill-frame .ensures .lies .inside)
 
--- src/main.rt:185:38
 part-tell-end : tie.Need-part-tell-end Inv-loop μ-loop
 part-tell-end c = omega (arith, event-fits (ready-filled (c .before .before .before .before .before .before .before .before .before .before .before .loop .inv .ready) (c .before .before .before .before .before .before .before .fill-frame .ensures)) (c .before .before .cut .ensures), c .before .before .before .before .before .before .before .fill-frame .ensures .lies .inside)
 
--- src/main.rt:185:13
 tell-requires : tie.Need-tell-requires Inv-loop μ-loop
 tell-requires c κs = (c .before .before .before .before .before .before .before .before .before .before .before .before .before .before .loop .inv .ready .valid, (c .before .before .before .before .before .before .before .before .before .before .before .before .before .before .loop .inv .ready .size, c .before .before .before .before .before .before .before .before .before .before .before .before .before .before .loop .inv .ready .room))
 
--- src/main.rt:188:13
 drain-requires : tie.Need-drain-requires Inv-loop μ-loop
 drain-requires c κs = (omega (arith, c .before .before .before .before .before .tell .ensures .text .few, c .before .before .before .before .before .before .before .before .before .before .before .before .before .before .before .before .before .before .before .before .loop .inv .ready .room, c .before .before .before .before .before .tell .kept .1 .1 .1 .1 .0), omega (arith, c .before .before .before .before .before .before .before .before .before .before .before .before .before .before .before .before .before .before .before .before .loop .inv .ready .room, c .before .before .before .before .before .tell .kept .1 .1 .1 .1 .0))
 
--- src/main.rt:191:9
 add-index : tie.Need-add-index Inv-loop μ-loop
 add-index c = omega (arith, ltb-true (c .before .before .before .before .before .before .before .before .before .before .before .before .before .before .before .before .before .before .before .before .before .loop .index) 18446744073709551615 (c .before .before .before .before .before .before .before .before .before .before .before .before .before .before .before .before .before .before .before .if1 .taken))
 
--- src/main.rt:174:5
 loop-less : tie.Need-loop-less Inv-loop μ-loop
 loop-less c = omega (arith, ltb-true (c .before .before .before .before .before .before .before .before .before .before .before .before .before .before .before .before .before .before .before .before .before .loop .index) 18446744073709551615 (c .before .before .before .before .before .before .before .before .before .before .before .before .before .before .before .before .before .before .before .if1 .taken))
 
--- src/main.rt:174:5
 loop-again : tie.Need-loop-again Inv-loop μ-loop
 loop-again c = running-next (c .before .before .before .before .before .before .before .before .before .before .before .before .before .before .before .before .before .before .before .before .before .loop .inv) (c .before .before .before .before .before .before .before .before .before .before .before .before .before .before .before .before .before .fill-frame .ensures) (c .before .before .before .before .before .before .before .before .before .before .before .before .cut .ensures) (c .before .before .before .before .before .before .before .before .before .before .before .if2 .left) (c .before .before .before .before .before .before .tell .ensures) (c .drain .ensures) (c .before .before .before .before .before .before .tell .kept .1 .1 .1 .0) (c .before .before .before .before .before .before .tell .kept .1 .1 .1 .1 .0)
 
--- src/main.rt:193:34
 slice-reshare-prefix-write-all-2 : tie.Need-slice-reshare-prefix-write-all-2 Inv-loop μ-loop
 slice-reshare-prefix-write-all-2 c = omega (arith, c .before .loop .inv .ready .room)
 
--- src/main.rt:193:34
 slice-aggregate-write-all-2 : tie.Need-slice-aggregate-write-all-2 Inv-loop μ-loop
 slice-aggregate-write-all-2 c = sym (length-take-le _ _ (omega (arith, c .before .before .loop .inv .ready .room)))
 
--- src/main.rt:193:5
 write-all-requires-2 : tie.Need-write-all-requires-2 Inv-loop μ-loop
 write-all-requires-2 c κs = tt
 
--- src/main.rt:165:1
 same-length-4 : tie.Need-same-length-4 Inv-loop μ-loop
 same-length-4 c = c .before .before .before .loop .inv .blocks
 
--- src/main.rt:165:1
 same-length-5 : tie.Need-same-length-5 Inv-loop μ-loop
 same-length-5 c = c .before .before .before .loop .inv .spaces
 
--- src/main.rt:165:1
 same-length-6 : tie.Need-same-length-6 Inv-loop μ-loop
 same-length-6 c = c .before .before .before .loop .inv .outs
 
--- src/main.rt:165:1
 returns-2 : tie.Need-returns-2 Inv-loop μ-loop
 returns-2 c = tt
 

@@ -13,39 +13,30 @@ Inv-loop block₀ at n i₀ block i = Sliding block₀ block at n i
 abbrev μ-loop : tie.MeasureT-loop
 μ-loop block₀ at n i₀ block i = n - i
 
--- src/main.rt:21:5
 loop-holds : tie.Need-loop-holds Inv-loop μ-loop
 loop-holds c = sliding-first _ _ _
 
--- src/main.rt:22:26
 add-block : tie.Need-add-block Inv-loop μ-loop
 add-block c = omega arith
 
--- src/main.rt:22:20
 slice-read-block : tie.Need-slice-read-block Inv-loop μ-loop
 slice-read-block c = omega arith
 
--- src/main.rt:22:9
 slice-write-block : tie.Need-slice-write-block Inv-loop μ-loop
 slice-write-block c = omega arith
 
--- src/main.rt:23:9
 add-i : tie.Need-add-i Inv-loop μ-loop
 add-i c = omega arith
 
--- src/main.rt:21:5
 loop-less : tie.Need-loop-less Inv-loop μ-loop
 loop-less c = omega arith
 
--- src/main.rt:21:5
 loop-again : tie.Need-loop-again Inv-loop μ-loop
 loop-again c = sliding-next (c .before .before .loop .inv) (c .before .loop-test .taken) (search needs)
 
--- src/main.rt:16:1
 same-length : tie.Need-same-length Inv-loop μ-loop
 same-length c = c .before .loop .inv .same
 
--- src/main.rt:16:1
 returns : tie.Need-returns Inv-loop μ-loop
 returns c = sliding-done (c .before .loop .inv) (c .loop-test .left)
 

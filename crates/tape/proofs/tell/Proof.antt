@@ -10,23 +10,18 @@ use Rattle.tape.proofs.tell.Lts as lts
 use Rattle.book.proofs.Book.step.Reads as step-reads
 use Rattle.lines.proofs.put_event.Reads as put-event-reads
 
--- src/main.rt:103:9
 step-requires : tie.Need-step-requires
 step-requires c κs = search needs
 
--- src/main.rt:105:9
 put-event-requires : tie.Need-put-event-requires
 put-event-requires c κs = search needs
 
--- src/main.rt:97:1
 same-length : tie.Need-same-length
 same-length c = search needs
 
--- src/main.rt:97:1
 same-length-2 : tie.Need-same-length-2
 same-length-2 c = search needs
 
--- src/main.rt:97:1
 returns : tie.Need-returns
 returns c =
     let e : length (c .before .before .before .before .before .before .before .before .before .before .before .args .space .now) ≡ 15360 = omega arith in

@@ -8,16 +8,13 @@ use Rattle.tape.proofs.tell_cut.Reads as reads
 use Rattle.tape.proofs.tell_cut.Lts as lts
 use Rattle.lines.proofs.put_event.Reads as put-event-reads
 
--- src/main.rt:126:5
 put-event-requires : tie.Need-put-event-requires
 unfolding answerCount
 put-event-requires c κs = (omega arith, omega arith)
 
--- src/main.rt:122:1
 same-length : tie.Need-same-length
 same-length c = search needs
 
--- src/main.rt:122:1
 returns : tie.Need-returns
 returns c = cut-told _ _ (c .before .before .put-event .ensures)
 

@@ -6,19 +6,15 @@ use Rattle.tape.proofs.tell_end.Reads as reads
 use Rattle.tape.proofs.tell_end.Lts as lts
 use Rattle.tape.proofs.tell_cut.Reads as tell-cut-reads
 
--- src/main.rt:138:9
 returns : tie.Need-returns
 returns c = ended _ (c .before .before .before .args .space .now) (c .before .before .before .pre .0 .0) (c .before .before .before .pre .1 .0) (c .before .before .before .pre .1 .1) (c .if1 .taken)
 
--- src/main.rt:140:5
 tell-cut-requires : tie.Need-tell-cut-requires
 tell-cut-requires c κs = search needs
 
--- src/main.rt:129:1
 same-length : tie.Need-same-length
 same-length c = search needs
 
--- src/main.rt:129:1
 returns-2 : tie.Need-returns-2
 returns-2 c = ended-cut _ (c .before .before .before .before .before .before .before .args .space .now) (c .before .before .before .before .before .before .before .pre .0 .0) (c .before .before .before .before .before .before .before .pre .1 .0) (c .before .before .before .before .before .before .before .pre .1 .1) (c .before .before .before .before .if1 .left) (c .before .before .before .before .before .before .before .pre .0 .1) (c .before .before .tell-cut .ensures)
 

@@ -20,19 +20,15 @@ gcd-at t = and 0 gcd-kinds.ps (is 0 gcd-kinds.ps μ-gcd t) gcd.Pre
 abbrev gcd-below : ℕ → In 0 gcd-kinds.ps
 gcd-below t = and 0 gcd-kinds.ps (falls 0 gcd-kinds.ps _<_ μ-gcd t) gcd.Pre
 
--- src/lib.rt:16:9
 gcd-returns : (t : ℕ) → gcd-lts.Need-returns (gcd-below t, gcd.Post) (gcd-at t) gcd.Post
 gcd-returns t c = gcd-end _ _ (c .if1 .taken)
 
--- src/lib.rt:18:12
 gcd-rem-gcd : (t : ℕ) → gcd-lts.Need-rem-gcd (gcd-below t, gcd.Post) (gcd-at t) gcd.Post
 gcd-rem-gcd t c = omega (arith, c .if1 .left)
 
--- src/lib.rt:18:5
 gcd-gcd-requires : (t : ℕ) → gcd-lts.Need-gcd-requires (gcd-below t, gcd.Post) (gcd-at t) gcd.Post
 gcd-gcd-requires t c κs = (rw (c .before .pre .0) (mod-lt _ (omega (arith, c .if1 .left))), tt)
 
--- src/lib.rt:12:1
 gcd-returns-2 : (t : ℕ) → gcd-lts.Need-returns-2 (gcd-below t, gcd.Post) (gcd-at t) gcd.Post
 gcd-returns-2 t c = c .gcd .ensures ∙ gcd-next _ _ (c .before .if1 .left)
 

@@ -1,52 +1,43 @@
-use Rattle.terms.specs.Terms.{none-more}
-use Rattle.rules.specs.Strategies.{placeOf, inSeries}
-use Rattle.base.specs.Walks.{first-is, first-none}
-use borrow.Author.Tests.{eq-eqb, ne-eqb}
-use mathlib.Core.Bool.{false}
-use mathlib.Core.Path.{_≡_, sym}
 use Prim.Native.Nat.{ℕ, _≤_, _<_, _-_}
+use mathlib.Core.Path.{_≡_, sym}
+use mathlib.Core.Bool.{false}
+use borrow.Author.Tests.{eq-eqb, ne-eqb}
+use Rattle.base.specs.Walks.{first-is, first-none}
+use Rattle.rules.specs.Strategies.{placeOf, inSeries}
+use Rattle.terms.specs.Terms.{none-more}
+use borrow.Author.Needs.{needs}
 use native.Mathlib.Omega.{arith}
 use Rattle.terms.proofs.place_of.Statement.{statement}
 use Rattle.terms.proofs.place_of.Tie as tie
 use Rattle.terms.proofs.place_of.Reads as reads
 use Rattle.terms.proofs.place_of.Lts as lts
+use Rattle.terms.proofs.leg_at.Reads as leg-at-reads
 
 abbrev Inv-loop : tie.InvT-loop
-Inv-loop count s legs i₀ i = (i ≤ count) × ((j : ℕ) → j < i → inSeries legs s j ≡ false)
+Inv-loop legs count s i₀ i = (i ≤ count) × ((j : ℕ) → j < i → inSeries legs s j ≡ false)
 
 abbrev μ-loop : tie.MeasureT-loop
-μ-loop count s legs i₀ i = count - i
+μ-loop legs count s i₀ i = count - i
 
--- src/lib.rt:68:5
 loop-holds : tie.Need-loop-holds Inv-loop μ-loop
 loop-holds c = (omega arith, λ j h. absurd (omega arith))
 
--- src/lib.rt:69:17
-mul-l : tie.Need-mul-l Inv-loop μ-loop
-mul-l c = omega arith
+leg-at-requires : tie.Need-leg-at-requires Inv-loop μ-loop
+leg-at-requires c κs = search needs
 
--- src/lib.rt:69:17
-array-copy-out-l : tie.Need-array-copy-out-l Inv-loop μ-loop
-array-copy-out-l c = omega arith
-
--- src/lib.rt:71:13
 returns : tie.Need-returns Inv-loop μ-loop
 unfolding placeOf
-returns c = sym (first-is _ _ _ (c .before .before .before .loop-test .taken) (eq-eqb _ _ (c .if1 .taken)) (c .before .before .before .before .loop .inv .1))
+returns c = sym (first-is _ _ _ (c .before .before .before .loop-test .taken) (rw (c .before .before .leg-at .ensures) at (eq-eqb _ _ (c .if1 .taken))) (c .before .before .before .before .loop .inv .1))
 
--- src/lib.rt:73:9
 add-i : tie.Need-add-i Inv-loop μ-loop
 add-i c = omega arith
 
--- src/lib.rt:68:5
 loop-less : tie.Need-loop-less Inv-loop μ-loop
 loop-less c = omega arith
 
--- src/lib.rt:68:5
 loop-again : tie.Need-loop-again Inv-loop μ-loop
-loop-again c = (omega arith, none-more _ _ (c .before .before .before .before .loop .inv .1) (ne-eqb _ _ (c .if1 .left)))
+loop-again c = (omega arith, none-more _ _ (c .before .before .before .before .loop .inv .1) (rw (c .before .before .leg-at .ensures) at (ne-eqb _ _ (c .if1 .left))))
 
--- src/lib.rt:63:1
 returns-2 : tie.Need-returns-2 Inv-loop μ-loop
 unfolding placeOf
 returns-2 c = sym (first-none _ _ (λ j h. c .before .loop .inv .1 j (omega (arith, h, c .loop-test .left))))
@@ -58,8 +49,7 @@ place-of-spec =
     Inv-loop
     μ-loop
     loop-holds
-    mul-l
-    array-copy-out-l
+    leg-at-requires
     returns
     add-i
     loop-less

@@ -1,59 +1,48 @@
-use Rattle.terms.specs.Terms.{none-more}
-use Rattle.rules.specs.Strategies.{twice, repeats, placeOf}
-use Rattle.base.specs.Walks.{any-holds, any-none}
-use borrow.Author.Tests.{lt-ltb, le-ltb}
-use mathlib.Core.Bool.{false}
-use mathlib.Core.Path.{_≡_, sym}
 use Prim.Native.Nat.{ℕ, _≤_, _<_, _-_}
+use mathlib.Core.Path.{_≡_, sym}
+use mathlib.Core.Bool.{false}
+use borrow.Author.Tests.{lt-ltb, le-ltb}
+use Rattle.base.specs.Walks.{any-holds, any-none}
+use Rattle.rules.specs.Strategies.{twice, repeats, placeOf}
+use Rattle.terms.specs.Terms.{none-more}
 use borrow.Author.Needs.{needs}
 use native.Mathlib.Omega.{arith}
 use Rattle.terms.proofs.twice.Statement.{statement}
 use Rattle.terms.proofs.twice.Tie as tie
 use Rattle.terms.proofs.twice.Reads as reads
 use Rattle.terms.proofs.twice.Lts as lts
+use Rattle.terms.proofs.leg_at.Reads as leg-at-reads
 use Rattle.terms.proofs.place_of.Reads as place-of-reads
 
 abbrev Inv-loop : tie.InvT-loop
-Inv-loop count legs i₀ i = (i ≤ count) × ((j : ℕ) → j < i → repeats legs j ≡ false)
+Inv-loop legs count i₀ i = (i ≤ count) × ((j : ℕ) → j < i → repeats legs j ≡ false)
 
 abbrev μ-loop : tie.MeasureT-loop
-μ-loop count legs i₀ i = count - i
+μ-loop legs count i₀ i = count - i
 
--- src/lib.rt:84:5
 loop-holds : tie.Need-loop-holds Inv-loop μ-loop
 loop-holds c = (omega arith, λ j h. absurd (omega arith))
 
--- src/lib.rt:85:17
-mul-l : tie.Need-mul-l Inv-loop μ-loop
-mul-l c = omega arith
+leg-at-requires : tie.Need-leg-at-requires Inv-loop μ-loop
+leg-at-requires c κs = search needs
 
--- src/lib.rt:85:17
-array-copy-out-l : tie.Need-array-copy-out-l Inv-loop μ-loop
-array-copy-out-l c = omega arith
-
--- src/lib.rt:86:12
 place-of-requires : tie.Need-place-of-requires Inv-loop μ-loop
 place-of-requires c κs = search needs
 
--- src/lib.rt:87:13
 returns : tie.Need-returns Inv-loop μ-loop
 unfolding twice placeOf
-returns c = sym (any-holds _ _ _ (c .before .before .before .loop-test .taken) (lt-ltb _ _ (rw (c .before .place-of .ensures) at (c .if1 .taken))))
+returns c = sym (any-holds _ _ _ (c .before .before .before .loop-test .taken) (lt-ltb _ _ (rw (c .before .before .leg-at .ensures) at (rw (c .before .place-of .ensures) at (c .if1 .taken)))))
 
--- src/lib.rt:89:9
 add-i : tie.Need-add-i Inv-loop μ-loop
 add-i c = omega arith
 
--- src/lib.rt:84:5
 loop-less : tie.Need-loop-less Inv-loop μ-loop
 loop-less c = omega arith
 
--- src/lib.rt:84:5
 loop-again : tie.Need-loop-again Inv-loop μ-loop
 unfolding placeOf
-loop-again c = (omega arith, none-more _ _ (c .before .before .before .before .loop .inv .1) (le-ltb _ _ (rw (c .before .place-of .ensures) at (c .if1 .left))))
+loop-again c = (omega arith, none-more _ _ (c .before .before .before .before .loop .inv .1) (le-ltb _ _ (rw (c .before .before .leg-at .ensures) at (rw (c .before .place-of .ensures) at (c .if1 .left)))))
 
--- src/lib.rt:79:1
 returns-2 : tie.Need-returns-2 Inv-loop μ-loop
 unfolding twice
 returns-2 c = sym (any-none _ _ (λ j h. c .before .loop .inv .1 j (omega (arith, h, c .loop-test .left))))
@@ -65,8 +54,7 @@ twice-spec =
     Inv-loop
     μ-loop
     loop-holds
-    mul-l
-    array-copy-out-l
+    leg-at-requires
     place-of-requires
     returns
     add-i

@@ -1,4 +1,5 @@
-use Rattle.trades.specs.Trades.{cancel-small, cancel-none, cancel-room, cancel-done}
+use lib.ListN.{length-map}
+use Rattle.trades.specs.Trades.{cancel-small, cancel-none, cancel-past, cancel-room, cancel-done}
 use Rattle.records.specs.Done.{done-still, done-of}
 use Rattle.ranges.specs.Fit.{fit-order}
 use borrow.Author.Needs.{needs}
@@ -10,47 +11,43 @@ use Rattle.records.proofs.push.Reads as push-reads
 use Rattle.trades.proofs.cancel_leg_record.Reads as cancel-leg-record-reads
 use Rattle.trades.proofs.cut_leg.Reads as cut-leg-reads
 
--- src/lib.rt:136:13
+returns : tie.Need-returns
+returns c = done-of (cancel-past _ _ (simp length-map at (c .before .good .0 .1 .1 .1 .1 .0 .1 .0 .1)) (c .if1 .taken)) (done-still _ _ _)
+
 mul-o : tie.Need-mul-o
 mul-o c = search needs
 
--- src/lib.rt:136:13
 element-copy-out-o : tie.Need-element-copy-out-o
 element-copy-out-o c = search needs
 
--- src/lib.rt:138:9
-returns : tie.Need-returns
-returns c = done-of (cancel-none _ _ (c .if1 .taken)) (done-still _ _ _)
+returns-2 : tie.Need-returns-2
+returns-2 c = done-of (cancel-none _ _ (c .if2 .taken)) (done-still _ _ _)
 
--- src/lib.rt:140:9
 cancel-leg-record-requires : tie.Need-cancel-leg-record-requires
 cancel-leg-record-requires c κs = search needs
 
--- src/lib.rt:141:9
 push-requires : tie.Need-push-requires
-push-requires c κs = (rw (c .before .cancel-leg-record .ensures) (cancel-room _ _ (c .before .before .if1 .left) (c .before .before .before .before .before .pre .1)), rw (c .before .cancel-leg-record .ensures) (cancel-small _ (fit-order (c .before .before .before .before .before .pre .0 .1) _)))
+push-requires c κs = (rw (c .before .cancel-leg-record .ensures) (cancel-room _ _ (c .before .before .if2 .left) (c .before .before .before .before .before .before .pre .1)), rw (c .before .cancel-leg-record .ensures) (cancel-small _ (fit-order (c .before .before .before .before .before .before .pre .0) _)))
 
--- src/lib.rt:142:9
 cut-leg-requires : tie.Need-cut-leg-requires
 cut-leg-requires c κs = search needs
 
--- src/lib.rt:131:1
 same-length : tie.Need-same-length
 same-length c = search needs
 
--- src/lib.rt:131:1
-returns-2 : tie.Need-returns-2
-returns-2 c = cancel-done _ _ (c .before .before .before .before .before .if1 .left) (rw (c .before .before .before .before .cancel-leg-record .ensures) at (c .before .before .push .ensures)) (c .cut-leg .ensures)
+returns-3 : tie.Need-returns-3
+returns-3 c = cancel-done _ _ (c .before .before .before .before .before .if2 .left) (rw (c .before .before .before .before .cancel-leg-record .ensures) at (c .before .before .push .ensures)) (c .cut-leg .ensures)
 
 pub cancel-order-spec : {M : Type 1} → statement M
 cancel-order-spec =
     tie.close
     (tie.spec
+    returns
     mul-o
     element-copy-out-o
-    returns
+    returns-2
     cancel-leg-record-requires
     push-requires
     cut-leg-requires
     same-length
-    returns-2)
+    returns-3)

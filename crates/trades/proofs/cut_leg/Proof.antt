@@ -7,27 +7,21 @@ use Rattle.trades.proofs.cut_leg.Reads as reads
 use Rattle.trades.proofs.cut_leg.Lts as lts
 use Rattle.trades.proofs.cut_order.Reads as cut-order-reads
 
--- src/lib.rt:50:13
 mul-o : tie.Need-mul-o
 mul-o c = search needs
 
--- src/lib.rt:50:13
 element-copy-out-o : tie.Need-element-copy-out-o
 element-copy-out-o c = search needs
 
--- src/lib.rt:52:19
 cut-order-requires : tie.Need-cut-order-requires
 cut-order-requires c κs = search needs
 
--- src/lib.rt:52:5
 mul-t7 : tie.Need-mul-t7
 mul-t7 c = search needs
 
--- src/lib.rt:52:5
 element-set-from-c : tie.Need-element-set-from-c
 element-set-from-c c = search needs
 
--- src/lib.rt:46:1
 returns : tie.Need-returns
 unfolding cutLeg withOrders
 returns c = rw (c .cut-order .ensures)

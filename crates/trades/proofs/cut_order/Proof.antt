@@ -5,11 +5,9 @@ use Rattle.trades.proofs.cut_order.Reads as reads
 use Rattle.trades.proofs.cut_order.Lts as lts
 use Rattle.records.proofs.less.Reads as less-reads
 
--- src/lib.rt:41:5
 less-requires : tie.Need-less-requires
 less-requires c κs = search needs
 
--- src/lib.rt:37:1
 returns : tie.Need-returns
 returns c = rw (c .less .ensures)
 

@@ -10,43 +10,33 @@ use Rattle.records.proofs.least.Reads as least-reads
 use Rattle.trades.proofs.cut_leg.Reads as cut-leg-reads
 use Rattle.trades.proofs.report.Reads as report-reads
 
--- src/lib.rt:74:13
 mul-o : tie.Need-mul-o
 mul-o c = search needs
 
--- src/lib.rt:74:13
 element-copy-out-o : tie.Need-element-copy-out-o
 element-copy-out-o c = search needs
 
--- src/lib.rt:75:13
 mul-p : tie.Need-mul-p
 mul-p c = search needs
 
--- src/lib.rt:75:13
 element-copy-out-p : tie.Need-element-copy-out-p
 element-copy-out-p c = search needs
 
--- src/lib.rt:76:9
 least-requires : tie.Need-least-requires
 least-requires c κs = search needs
 
--- src/lib.rt:77:9
 report-requires : tie.Need-report-requires
 report-requires c κs = ((fit-order (c .before .before .before .before .pre .0 .2) _, fit-order (c .before .before .before .before .pre .0 .2) _, trade-few (c .before .before .before .before .args .t1) _ _ (c .before .least .ensures) (c .before .before .before .before .pre .0 .2)), trade-room (c .before .before .before .before .args .t1) _ _ (c .before .least .ensures) (c .before .before .before .before .pre .1))
 
--- src/lib.rt:78:9
 cut-leg-requires : tie.Need-cut-leg-requires
 cut-leg-requires c κs = search needs
 
--- src/lib.rt:79:9
 cut-leg-requires-2 : tie.Need-cut-leg-requires-2
 cut-leg-requires-2 c κs = search needs
 
--- src/lib.rt:69:1
 same-length : tie.Need-same-length
 same-length c = wrote-length (c .before .before .before .report .ensures)
 
--- src/lib.rt:69:1
 returns : tie.Need-returns
 returns c = trade-done _ _ _ (c .before .before .before .before .before .least .ensures) (c .before .before .before .report .ensures) (c .before .cut-leg .ensures) (c .cut-leg2 .ensures)
 

@@ -9,27 +9,21 @@ use Rattle.trades.proofs.report.Lts as lts
 use Rattle.records.proofs.push.Reads as push-reads
 use Rattle.trades.proofs.order_record.Reads as order-record-reads
 
--- src/lib.rt:62:9
 order-record-requires : tie.Need-order-record-requires
 order-record-requires c κs = c .pre .0 .1 .price
 
--- src/lib.rt:63:9
 push-requires : tie.Need-push-requires
 push-requires c κs = (rw (c .before .order-record .ensures) (room-first (_ ∷ []) (_ ∷ []) (c .before .before .pre .1)), rw (c .before .order-record .ensures) (order-small _ _ _ (c .before .before .pre .0 .0) (c .before .before .pre .0 .2) (c .before .before .pre .0 .1 .price)))
 
--- src/lib.rt:64:9
 order-record-requires-2 : tie.Need-order-record-requires-2
 order-record-requires-2 c κs = c .before .before .before .before .pre .0 .1 .price
 
--- src/lib.rt:65:5
 push-requires-2 : tie.Need-push-requires-2
 push-requires-2 c κs = (rw (c .before .order-record2 .ensures) (room-next (_ ∷ []) (_ ∷ []) (c .before .before .before .before .before .before .pre .1) (rw (c .before .before .before .before .before .order-record .ensures) at (c .before .before .before .push .ensures))), rw (c .before .order-record2 .ensures) (order-small _ _ _ (c .before .before .before .before .before .before .pre .0 .1) (c .before .before .before .before .before .before .pre .0 .2) (c .before .before .before .before .before .before .pre .0 .1 .price)))
 
--- src/lib.rt:57:1
 same-length : tie.Need-same-length
 same-length c = search needs
 
--- src/lib.rt:57:1
 returns : tie.Need-returns
 returns c = wrote-append (rw (c .before .before .before .before .before .before .before .order-record .ensures) at (c .before .before .before .before .before .push .ensures)) (rw (c .before .before .before .order-record2 .ensures) at (c .before .push2 .ensures))
 

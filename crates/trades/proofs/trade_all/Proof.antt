@@ -1,4 +1,6 @@
-use Rattle.trades.specs.Trades.{next-most, trades-stop, trade-turn, fit-after}
+use lib.ListN.{length, length-map}
+use borrow.Author.Needs.{needs}
+use Rattle.trades.specs.Trades.{next-most, next-within, trades-stop, trade-turn, fit-after, rows-after}
 use Rattle.records.specs.Done.{Done, each-first, each-next, done-of, done-length, room-each, room-of}
 use Rattle.rules.specs.Events.{tradeOnce, tradeAll}
 use Rattle.rules.specs.Moves.{each}
@@ -18,44 +20,34 @@ Inv-loop a space₀ n c₀ m₀ i₀ space c m i = (i ≤ 32) × Done space₀ s
 abbrev μ-loop : tie.MeasureT-loop
 μ-loop a space₀ n c₀ m₀ i₀ space c m i = 32 - i
 
--- src/lib.rt:104:5
 loop-holds : tie.Need-loop-holds Inv-loop μ-loop
 loop-holds c = (omega arith, each-first _ _ _ _)
 
--- src/lib.rt:105:13
 next-trade-requires : tie.Need-next-trade-requires Inv-loop μ-loop
-next-trade-requires c κs = c .before .before .pre .0 .0
+next-trade-requires c κs = search needs
 
--- src/lib.rt:107:13
 same-length : tie.Need-same-length Inv-loop μ-loop
 same-length c = done-length (c .before .before .before .loop .inv .1)
 
--- src/lib.rt:107:13
 returns : tie.Need-returns Inv-loop μ-loop
 returns c = done-of (trades-stop _ _ _ _ (c .before .before .before .loop .inv .0) (c .before .before .before .loop .inv .1 .state) (c .before .next-trade .ensures) (c .if1 .taken)) (c .before .before .before .loop .inv .1)
 
--- src/lib.rt:109:13
 leg-trade-requires : tie.Need-leg-trade-requires Inv-loop μ-loop
 unfolding tradeAll
-leg-trade-requires c κs = ((c .before .before .before .before .before .pre .0 .0, rw (c .before .before .next-trade .ensures) (omega (arith, next-most (c .before .before .before .before .before .args .a) (c .before .before .before .before .loop .c), c .before .before .next-trade .ensures, c .before .if1 .left)), fit-after _ _ _ (c .before .before .before .before .before .pre .0 .1) (c .before .before .before .before .loop .inv .1)), room-of (trade-turn _ _ _ (c .before .before .next-trade .ensures) (c .before .if1 .left)) (room-each (tradeOnce (c .before .before .before .before .before .args .a)) 32 (c .before .before .before .before .loop .i) _ (c .before .before .before .before .before .pre .1) (c .before .before .before .loop-test .taken) (c .before .before .before .before .loop .inv .1)))
+leg-trade-requires c κs = let l : length (c .before .before .before .before .before .args .b .orders) ≡ 32 = simp length-map at (c .before .before .before .before .before .good .0 .1 .1 .1 .1 .0 .1 .0 .1) in ((next-within _ _ (rows-after _ _ _ l (c .before .before .before .before .loop .inv .1)) (c .before .before .next-trade .ensures) (c .before .if1 .left), rw (c .before .before .next-trade .ensures) (omega (arith, next-most (c .before .before .before .before .before .args .a) (c .before .before .before .before .loop .c), c .before .before .next-trade .ensures, c .before .if1 .left)), fit-after _ _ _ (c .before .before .before .before .before .pre .0) (c .before .before .before .before .loop .inv .1)), room-of (trade-turn _ _ _ (c .before .before .next-trade .ensures) (c .before .if1 .left)) (room-each (tradeOnce (c .before .before .before .before .before .args .a)) 32 (c .before .before .before .before .loop .i) _ (c .before .before .before .before .before .pre .1) (c .before .before .before .loop-test .taken) (c .before .before .before .before .loop .inv .1)))
 
--- src/lib.rt:112:9
 add-i : tie.Need-add-i Inv-loop μ-loop
 add-i c = omega arith
 
--- src/lib.rt:104:5
 loop-less : tie.Need-loop-less Inv-loop μ-loop
 loop-less c = omega arith
 
--- src/lib.rt:104:5
 loop-again : tie.Need-loop-again Inv-loop μ-loop
 loop-again c = (omega arith, each-next (tradeOnce (c .before .before .before .before .before .before .before .before .args .a)) _ _ (c .before .before .before .before .before .before .before .loop .inv .1) (done-of (trade-turn _ _ _ (c .before .before .before .before .before .next-trade .ensures) (c .before .before .before .before .if1 .left)) (c .before .before .leg-trade .ensures)))
 
--- src/lib.rt:96:1
 same-length-2 : tie.Need-same-length-2 Inv-loop μ-loop
 same-length-2 c = done-length (c .before .loop .inv .1)
 
--- src/lib.rt:96:1
 returns-2 : tie.Need-returns-2 Inv-loop μ-loop
 unfolding tradeAll
 returns-2 c = let e : c .before .loop .i ≡ 32 = omega arith in rw e at (c .before .loop .inv .1)

@@ -13,31 +13,24 @@ use Rattle.book.proofs.refuse.Reads as refuse-reads
 use Rattle.closing.proofs.cancel_number.Reads as cancel-number-reads
 use Rattle.refusals.proofs.cancel_refusal.Reads as cancel-refusal-reads
 
--- src/lib.rt:172:13
 cancel-refusal-requires : tie.Need-cancel-refusal-requires
 cancel-refusal-requires c κs = search needs
 
--- src/lib.rt:174:13
 refuse-requires : tie.Need-refuse-requires
 refuse-requires c κs = search needs
 
--- src/lib.rt:174:13
 returns : tie.Need-returns
 returns c = took-refused _ _ _ (c .before .before .before .before .pre .0) (c .before .before .before .before .pre .2) (c .before .before .cancel-refusal .ensures) (c .before .if1 .taken) (c .refuse .ensures)
 
--- src/lib.rt:176:13
 cancel-number-requires : tie.Need-cancel-number-requires
 cancel-number-requires c κs = (fit-sound (c .before .before .before .before .pre .0 .sound), room-of (cancel-accepts _ (c .before .before .before .before .args .e)) (room-event _ _ _ (c .before .before .before .before .pre .0) (c .before .before .before .before .pre .2)))
 
--- src/lib.rt:178:9
 admit-requires : tie.Need-admit-requires
 admit-requires c κs = search needs
 
--- src/lib.rt:167:5
 same-length : tie.Need-same-length
 same-length c = search needs
 
--- src/lib.rt:167:5
 returns-2 : tie.Need-returns-2
 returns-2 c = took _ _ _ (c .before .before .before .before .before .before .before .before .pre .0) (c .before .before .before .before .before .before .before .before .pre .2) (c .before .before .before .before .before .before .cancel-refusal .ensures) (c .before .before .before .before .before .if1 .left) (c .before .before .before .before .before .before .before .before .pre .1) (done-of (cancel-accepts _ _) (c .before .before .before .cancel-number .ensures)) (cancel-value _ _) (c .admit .ensures)
 

@@ -13,31 +13,24 @@ use Rattle.book.proofs.refuse.Reads as refuse-reads
 use Rattle.closing.proofs.on_clock.Reads as on-clock-reads
 use Rattle.refusals.proofs.clock_refusal.Reads as clock-refusal-reads
 
--- src/lib.rt:198:13
 clock-refusal-requires : tie.Need-clock-refusal-requires
 clock-refusal-requires c κs = search needs
 
--- src/lib.rt:200:13
 refuse-requires : tie.Need-refuse-requires
 refuse-requires c κs = search needs
 
--- src/lib.rt:200:13
 returns : tie.Need-returns
 returns c = took-refused _ _ _ (c .before .before .before .before .pre .0) (c .before .before .before .before .pre .2) (c .before .before .clock-refusal .ensures) (c .before .if1 .taken) (c .refuse .ensures)
 
--- src/lib.rt:202:13
 on-clock-requires : tie.Need-on-clock-requires
 on-clock-requires c κs = ((c .before .before .before .before .pre .1, ranged-sound (c .before .before .before .before .pre .0 .sound)), room-of (clock-accepts _ _) (room-event _ _ _ (c .before .before .before .before .pre .0) (c .before .before .before .before .pre .2)))
 
--- src/lib.rt:204:9
 admit-requires : tie.Need-admit-requires
 admit-requires c κs = search needs
 
--- src/lib.rt:193:5
 same-length : tie.Need-same-length
 same-length c = search needs
 
--- src/lib.rt:193:5
 returns-2 : tie.Need-returns-2
 returns-2 c = took _ _ _ (c .before .before .before .before .before .before .before .before .pre .0) (c .before .before .before .before .before .before .before .before .pre .2) (c .before .before .before .before .before .before .clock-refusal .ensures) (c .before .before .before .before .before .if1 .left) (c .before .before .before .before .before .before .before .before .pre .1) (done-of (clock-accepts _ _) (c .before .before .before .on-clock .ensures)) (clock-value _ _) (c .admit .ensures)
 

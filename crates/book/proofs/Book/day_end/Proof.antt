@@ -1,7 +1,6 @@
 use Rattle.book.specs.Premises.{day-end-none, day-end-accepts, day-end-value}
 use Rattle.book.specs.Outcomes.{took, room-event}
 use Rattle.records.specs.Done.{done-of, room-of}
-use Rattle.auctions.specs.Ranged.{ranged-sound}
 use mathlib.Core.Path.{refl}
 use borrow.Author.Needs.{needs}
 use Rattle.book.proofs.Book.day_end.Statement.{statement}
@@ -11,19 +10,15 @@ use Rattle.book.proofs.Book.day_end.Lts as lts
 use Rattle.book.proofs.admit.Reads as admit-reads
 use Rattle.closing.proofs.on_day_end.Reads as on-day-end-reads
 
--- src/lib.rt:213:13
 on-day-end-requires : tie.Need-on-day-end-requires
-on-day-end-requires c κs = (ranged-sound (c .before .before .pre .0 .sound), room-of (day-end-accepts _ _) (room-event _ _ _ (c .before .before .pre .0) (c .before .before .pre .2)))
+on-day-end-requires c κs = (c .before .before .pre .0, room-of (day-end-accepts _ _) (room-event _ _ _ (c .before .before .pre .0) (c .before .before .pre .2)))
 
--- src/lib.rt:215:9
 admit-requires : tie.Need-admit-requires
 admit-requires c κs = search needs
 
--- src/lib.rt:208:5
 same-length : tie.Need-same-length
 same-length c = search needs
 
--- src/lib.rt:208:5
 returns : tie.Need-returns
 returns c = took _ _ _ (c .before .before .before .before .before .before .pre .0) (c .before .before .before .before .before .before .pre .2) (day-end-none _ _) refl (c .before .before .before .before .before .before .pre .1) (done-of (day-end-accepts _ _) (c .before .before .before .on-day-end .ensures)) (day-end-value _ _) (c .admit .ensures)
 

@@ -5,11 +5,9 @@ use Rattle.book.proofs.Book.depth.Reads as reads
 use Rattle.book.proofs.Book.depth.Lts as lts
 use Rattle.lookups.proofs.depth.Reads as depth-reads
 
--- src/lib.rt:120:9
 depth-requires : tie.Need-depth-requires
 depth-requires c κs = let v = c .before .before .pre .sound in (v .orders, record { at = λ i l. v .liveOrder i l .price })
 
--- src/lib.rt:114:5
 returns : tie.Need-returns
 returns c = search needs
 

@@ -13,35 +13,27 @@ use Rattle.closing.proofs.on_leg_order.Reads as on-leg-order-reads
 use Rattle.given.proofs.leg_order_given.Reads as leg-order-given-reads
 use Rattle.refusals.proofs.leg_order_refusal.Reads as leg-order-refusal-reads
 
--- src/lib.rt:156:13
 leg-order-refusal-requires : tie.Need-leg-order-refusal-requires
 leg-order-refusal-requires c κs = search needs
 
--- src/lib.rt:158:13
 refuse-requires : tie.Need-refuse-requires
 refuse-requires c κs = search needs
 
--- src/lib.rt:158:13
 returns : tie.Need-returns
 returns c = took-refused _ _ _ (c .before .before .before .before .pre .0) (c .before .before .before .before .pre .2) (c .before .before .leg-order-refusal .ensures) (c .before .if1 .taken) (c .refuse .ensures)
 
--- src/lib.rt:160:13
 leg-order-given-requires : tie.Need-leg-order-given-requires
 leg-order-given-requires c κs = search needs
 
--- src/lib.rt:161:13
 on-leg-order-requires : tie.Need-on-leg-order-requires
 on-leg-order-requires c κs = (leg-premises _ _ (c .before .before .before .before .before .pre .0) (c .before .before .before .before .before .pre .1) (c .before .before .before .leg-order-refusal .ensures) (c .before .before .if1 .left) (c .before .leg-order-given .ensures), room-of (leg-accepts _ _ (c .before .leg-order-given .ensures)) (room-event _ _ _ (c .before .before .before .before .before .pre .0) (c .before .before .before .before .before .pre .2)))
 
--- src/lib.rt:163:9
 admit-requires : tie.Need-admit-requires
 admit-requires c κs = search needs
 
--- src/lib.rt:151:5
 same-length : tie.Need-same-length
 same-length c = search needs
 
--- src/lib.rt:151:5
 returns-2 : tie.Need-returns-2
 returns-2 c = took _ _ _ (c .before .before .before .before .before .before .before .before .before .pre .0) (c .before .before .before .before .before .before .before .before .before .pre .2) (c .before .before .before .before .before .before .before .leg-order-refusal .ensures) (c .before .before .before .before .before .before .if1 .left) (c .before .before .before .before .before .before .before .before .before .pre .1) (done-of (leg-accepts _ _ (c .before .before .before .before .before .leg-order-given .ensures)) (c .before .before .before .on-leg-order .ensures)) (leg-value _ _ (c .before .before .before .before .before .leg-order-given .ensures)) (c .admit .ensures)
 

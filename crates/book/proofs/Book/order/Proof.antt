@@ -13,35 +13,27 @@ use Rattle.book.proofs.refuse.Reads as refuse-reads
 use Rattle.given.proofs.order_given.Reads as order-given-reads
 use Rattle.refusals.proofs.order_refusal.Reads as order-refusal-reads
 
--- src/lib.rt:124:13
 order-refusal-requires : tie.Need-order-refusal-requires
 order-refusal-requires c κs = search needs
 
--- src/lib.rt:126:13
 refuse-requires : tie.Need-refuse-requires
 refuse-requires c κs = search needs
 
--- src/lib.rt:126:13
 returns : tie.Need-returns
 returns c = took-refused _ _ _ (c .before .before .before .before .pre .0) (c .before .before .before .before .pre .2) (c .before .before .order-refusal .ensures) (c .before .if1 .taken) (c .refuse .ensures)
 
--- src/lib.rt:128:13
 order-given-requires : tie.Need-order-given-requires
 order-given-requires c κs = search needs
 
--- src/lib.rt:129:13
 on-order-requires : tie.Need-on-order-requires
 on-order-requires c κs = (order-premises _ _ (c .before .before .before .before .before .pre .0) (c .before .before .before .before .before .pre .1) (c .before .before .before .order-refusal .ensures) (c .before .before .if1 .left) (c .before .order-given .ensures), room-of (order-accepts _ _ (c .before .order-given .ensures)) (room-event _ _ _ (c .before .before .before .before .before .pre .0) (c .before .before .before .before .before .pre .2)))
 
--- src/lib.rt:131:9
 admit-requires : tie.Need-admit-requires
 admit-requires c κs = search needs
 
--- src/lib.rt:119:5
 same-length : tie.Need-same-length
 same-length c = search needs
 
--- src/lib.rt:119:5
 returns-2 : tie.Need-returns-2
 returns-2 c = took _ _ _ (c .before .before .before .before .before .before .before .before .before .pre .0) (c .before .before .before .before .before .before .before .before .before .pre .2) (c .before .before .before .before .before .before .before .order-refusal .ensures) (c .before .before .before .before .before .before .if1 .left) (c .before .before .before .before .before .before .before .before .before .pre .1) (done-of (order-accepts _ _ (c .before .before .before .before .before .order-given .ensures)) (c .before .before .before .on-order .ensures)) (order-value _ _ (c .before .before .before .before .before .order-given .ensures)) (c .admit .ensures)
 

@@ -11,23 +11,18 @@ use Rattle.book.proofs.Book.series.Lts as lts
 use Rattle.book.proofs.admit.Reads as admit-reads
 use Rattle.closing.proofs.on_series.Reads as on-series-reads
 
--- src/lib.rt:187:30
 cast-on-series : tie.Need-cast-on-series
 cast-on-series c = search needs
 
--- src/lib.rt:187:13
 on-series-requires : tie.Need-on-series-requires
 on-series-requires c κs = ((c .before .before .before .pre .1, ranged-sound (c .before .before .before .pre .0 .sound)), room-of (series-accepts _ _) (room-event _ _ _ (c .before .before .before .pre .0) (c .before .before .before .pre .2)))
 
--- src/lib.rt:189:9
 admit-requires : tie.Need-admit-requires
 admit-requires c κs = search needs
 
--- src/lib.rt:182:5
 same-length : tie.Need-same-length
 same-length c = search needs
 
--- src/lib.rt:182:5
 returns : tie.Need-returns
 returns c = took _ _ _ (c .before .before .before .before .before .before .before .pre .0) (c .before .before .before .before .before .before .before .pre .2) (series-none _ _) refl (c .before .before .before .before .before .before .before .pre .1) (done-of (series-accepts _ _) (c .before .before .before .on-series .ensures)) (series-value _ _) (c .admit .ensures)
 

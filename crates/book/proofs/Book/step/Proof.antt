@@ -9,43 +9,33 @@ use Rattle.book.proofs.Book.take.Reads as take-reads
 use Rattle.book.proofs.refuse.Reads as refuse-reads
 use Rattle.frames.proofs.read.Reads as read-reads
 
--- src/lib.rt:243:13
 refuse-requires : tie.Need-refuse-requires
 refuse-requires c κs = search needs
 
--- src/lib.rt:243:13
 returns : tie.Need-returns
 returns c = stepped-short _ _ _ (c .before .before .before .before .pre) (c .before .before .if1 .taken) (c .refuse .ensures)
 
--- src/lib.rt:245:13
 read-requires : tie.Need-read-requires
 read-requires c κs = search needs
 
--- src/lib.rt:247:30
 enum-known-reading : tie.Need-enum-known-reading
 enum-known-reading c = search needs
 
--- src/lib.rt:247:36
 refuse-requires-2 : tie.Need-refuse-requires-2
 refuse-requires-2 c κs = search needs
 
--- src/lib.rt:248:28
 enum-known-reading-2 : tie.Need-enum-known-reading-2
 enum-known-reading-2 c = search needs
 
--- src/lib.rt:248:38
 take-requires : tie.Need-take-requires
 take-requires c κs = (c .before .before .before .before .before .before .before .pre, event-fit _ (sym (c .before .before .reading2 .given .1) ∙ c .before .before .before .before .read .ensures), c .before .before .before .before .before .if1 .left)
 
--- src/lib.rt:237:5
 returns-2 : tie.Need-returns-2
 returns-2 c = stepped-refused _ _ _ (c .before .before .before .before .before .before .before .before .pre) (c .before .before .before .before .before .before .if1 .left) (sym (c .before .before .before .reading .given .1) ∙ c .before .before .before .before .before .read .ensures) (c .refuse2 .ensures)
 
--- src/lib.rt:237:5
 same-length : tie.Need-same-length
 same-length c = search needs
 
--- src/lib.rt:237:5
 returns-3 : tie.Need-returns-3
 returns-3 c = stepped _ _ _ (sym (c .before .before .before .before .reading2 .given .1) ∙ c .before .before .before .before .before .before .read .ensures) (c .before .take .ensures)
 

@@ -14,39 +14,30 @@ use Rattle.book.proofs.refuse.Reads as refuse-reads
 use Rattle.given.proofs.sweep_given.Reads as sweep-given-reads
 use Rattle.refusals.proofs.sweep_refusal.Reads as sweep-refusal-reads
 
--- src/lib.rt:140:13
 sweep-refusal-requires : tie.Need-sweep-refusal-requires
 sweep-refusal-requires c κs = search needs
 
--- src/lib.rt:142:13
 refuse-requires : tie.Need-refuse-requires
 refuse-requires c κs = search needs
 
--- src/lib.rt:142:13
 returns : tie.Need-returns
 returns c = took-refused _ _ _ (c .before .before .before .before .pre .0) (c .before .before .before .before .pre .2) (c .before .before .sweep-refusal .ensures) (c .before .if1 .taken) (c .refuse .ensures)
 
--- src/lib.rt:144:13
 sweep-given-requires : tie.Need-sweep-given-requires
 sweep-given-requires c κs = search needs
 
--- src/lib.rt:145:13
 on-sweep-requires : tie.Need-on-sweep-requires
 on-sweep-requires c κs = (sweep-premises _ _ (c .before .before .before .before .before .pre .0) (c .before .before .before .before .before .pre .1) (c .before .before .before .sweep-refusal .ensures) (c .before .before .if1 .left) (c .before .sweep-given .ensures), room-of (sweep-accepts _ _ (c .before .sweep-given .ensures)) (room-event _ _ _ (c .before .before .before .before .before .pre .0) (c .before .before .before .before .before .pre .2)))
 
--- src/lib.rt:147:18
 number-taken-requires : tie.Need-number-taken-requires
 number-taken-requires c κs = search needs
 
--- src/lib.rt:147:9
 admit-requires : tie.Need-admit-requires
 admit-requires c κs = search needs
 
--- src/lib.rt:135:5
 same-length : tie.Need-same-length
 same-length c = search needs
 
--- src/lib.rt:135:5
 returns-2 : tie.Need-returns-2
 returns-2 c = took _ _ _ (c .before .before .before .before .before .before .before .before .before .before .pre .0) (c .before .before .before .before .before .before .before .before .before .before .pre .2) (c .before .before .before .before .before .before .before .before .sweep-refusal .ensures) (c .before .before .before .before .before .before .before .if1 .left) (c .before .before .before .before .before .before .before .before .before .before .pre .1) (done-of (sweep-accepts _ _ (c .before .before .before .before .before .before .sweep-given .ensures)) (c .before .before .before .before .on-sweep .ensures)) (sweep-value _ _ (c .before .before .before .before .before .before .sweep-given .ensures) (c .before .number-taken .ensures)) (c .admit .ensures)
 

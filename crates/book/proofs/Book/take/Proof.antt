@@ -15,131 +15,99 @@ use Rattle.book.proofs.Book.series.Reads as series-reads
 use Rattle.book.proofs.Book.strategy.Reads as strategy-reads
 use Rattle.book.proofs.Book.sweep.Reads as sweep-reads
 
--- src/lib.rt:224:29
 enum-known-event : tie.Need-enum-known-event
 enum-known-event c = search needs
 
--- src/lib.rt:224:35
 strategy-requires : tie.Need-strategy-requires
 strategy-requires c κs = (c .before .before .before .before .pre .0, subst FitEvent (c .before .before .event .given .1) (c .before .before .before .before .pre .1), c .before .before .before .before .pre .2)
 
--- src/lib.rt:225:26
 enum-known-event-2 : tie.Need-enum-known-event-2
 enum-known-event-2 c = search needs
 
--- src/lib.rt:225:32
 order-requires : tie.Need-order-requires
 order-requires c κs = (c .before .before .before .before .pre .0, subst FitEvent (c .before .before .event2 .given .1) (c .before .before .before .before .pre .1), c .before .before .before .before .pre .2)
 
--- src/lib.rt:226:26
 enum-known-event-3 : tie.Need-enum-known-event-3
 enum-known-event-3 c = search needs
 
--- src/lib.rt:226:32
 sweep-requires : tie.Need-sweep-requires
 sweep-requires c κs = (c .before .before .before .before .pre .0, subst FitEvent (c .before .before .event3 .given .1) (c .before .before .before .before .pre .1), c .before .before .before .before .pre .2)
 
--- src/lib.rt:227:29
 enum-known-event-4 : tie.Need-enum-known-event-4
 enum-known-event-4 c = search needs
 
--- src/lib.rt:227:35
 leg-order-requires : tie.Need-leg-order-requires
 leg-order-requires c κs = (c .before .before .before .before .pre .0, subst FitEvent (c .before .before .event4 .given .1) (c .before .before .before .before .pre .1), c .before .before .before .before .pre .2)
 
--- src/lib.rt:228:27
 enum-known-event-5 : tie.Need-enum-known-event-5
 enum-known-event-5 c = search needs
 
--- src/lib.rt:228:33
 cancel-requires : tie.Need-cancel-requires
 cancel-requires c κs = (c .before .before .before .before .pre .0, subst FitEvent (c .before .before .event5 .given .1) (c .before .before .before .before .pre .1), c .before .before .before .before .pre .2)
 
--- src/lib.rt:229:27
 enum-known-event-6 : tie.Need-enum-known-event-6
 enum-known-event-6 c = search needs
 
--- src/lib.rt:229:33
 series-requires : tie.Need-series-requires
 series-requires c κs = (c .before .before .before .before .pre .0, subst FitEvent (c .before .before .event6 .given .1) (c .before .before .before .before .pre .1), c .before .before .before .before .pre .2)
 
--- src/lib.rt:230:26
 enum-known-event-7 : tie.Need-enum-known-event-7
 enum-known-event-7 c = search needs
 
--- src/lib.rt:230:32
 clock-requires : tie.Need-clock-requires
 clock-requires c κs = (c .before .before .before .before .pre .0, subst FitEvent (c .before .before .event7 .given .1) (c .before .before .before .before .pre .1), c .before .before .before .before .pre .2)
 
--- src/lib.rt:231:27
 enum-known-event-8 : tie.Need-enum-known-event-8
 enum-known-event-8 c = search needs
 
--- src/lib.rt:231:33
 day-end-requires : tie.Need-day-end-requires
 day-end-requires c κs = (c .before .before .before .before .pre .0, subst FitEvent (c .before .before .event8 .given .1) (c .before .before .before .before .pre .1), c .before .before .before .before .pre .2)
 
--- src/lib.rt:219:5
 same-length : tie.Need-same-length
 same-length c = search needs
 
--- src/lib.rt:219:5
 returns : tie.Need-returns
 returns c = took-of _ _ (c .before .before .before .before .event .given .1) (c .before .strategy .ensures)
 
--- src/lib.rt:219:5
 same-length-2 : tie.Need-same-length-2
 same-length-2 c = search needs
 
--- src/lib.rt:219:5
 returns-2 : tie.Need-returns-2
 returns-2 c = took-of _ _ (c .before .before .before .before .event2 .given .1) (c .before .order .ensures)
 
--- src/lib.rt:219:5
 same-length-3 : tie.Need-same-length-3
 same-length-3 c = search needs
 
--- src/lib.rt:219:5
 returns-3 : tie.Need-returns-3
 returns-3 c = took-of _ _ (c .before .before .before .before .event3 .given .1) (c .before .sweep .ensures)
 
--- src/lib.rt:219:5
 same-length-4 : tie.Need-same-length-4
 same-length-4 c = search needs
 
--- src/lib.rt:219:5
 returns-4 : tie.Need-returns-4
 returns-4 c = took-of _ _ (c .before .before .before .before .event4 .given .1) (c .before .leg-order .ensures)
 
--- src/lib.rt:219:5
 same-length-5 : tie.Need-same-length-5
 same-length-5 c = search needs
 
--- src/lib.rt:219:5
 returns-5 : tie.Need-returns-5
 returns-5 c = took-of _ _ (c .before .before .before .before .event5 .given .1) (c .before .cancel .ensures)
 
--- src/lib.rt:219:5
 same-length-6 : tie.Need-same-length-6
 same-length-6 c = search needs
 
--- src/lib.rt:219:5
 returns-6 : tie.Need-returns-6
 returns-6 c = took-of _ _ (c .before .before .before .before .event6 .given .1) (c .before .series .ensures)
 
--- src/lib.rt:219:5
 same-length-7 : tie.Need-same-length-7
 same-length-7 c = search needs
 
--- src/lib.rt:219:5
 returns-7 : tie.Need-returns-7
 returns-7 c = took-of _ _ (c .before .before .before .before .event7 .given .1) (c .before .clock .ensures)
 
--- src/lib.rt:219:5
 same-length-8 : tie.Need-same-length-8
 same-length-8 c = search needs
 
--- src/lib.rt:219:5
 returns-8 : tie.Need-returns-8
 returns-8 c = took-of _ _ (c .before .before .before .before .event8 .given .1) (c .before .day-end .ensures)
 
