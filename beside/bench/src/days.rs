@@ -120,7 +120,7 @@ pub fn names() -> Vec<&'static str> {
 pub fn days(tail: usize) -> Vec<Day> {
     let day = |(name, kind, about, before, turn): &Row| {
         let tail = match kind {
-            6 | 8 => tail.div_ceil(10),
+            6 => tail.div_ceil(10),
             _ => tail,
         };
         let mut maker = Maker::busy();

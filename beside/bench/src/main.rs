@@ -18,7 +18,7 @@ usage: bench time PROVED RECKONING ROUNDS EVENTS TAIL FOLDER
        bench costs
 
 The first form times the two programs on the busy day of EVENTS events, and on
-the days of one kind with a tail of TAIL events each (a tenth for kinds 6 and 8),
+the days of one kind with a tail of TAIL events each (a tenth for kind 6),
 in ROUNDS rounds. The days are written to FOLDER. The second form writes the
 frames of a day to standard output, the busy day or that of one kind with its
 tail. The third writes the days of one kind to FOLDER, each as NAME.head and NAME,

@@ -69,11 +69,7 @@ fn the_events_of_a_tail_are_accepted_and_leave_the_book_as_busy() {
         } else {
             assert_eq!(after, before, "{name}");
         }
-        let least = if matches!(day.kind, 6 | 8) {
-            100
-        } else {
-            1_000
-        };
+        let least = if day.kind == 6 { 100 } else { 1_000 };
         assert!((least..least + 3).contains(&day.tail.len()), "{name}");
         let own = day.tail.iter().filter(|frame| frame[2] == day.kind).count();
         assert!(day.kind == 0 || 3 * own >= day.tail.len(), "{name}: {own}");

@@ -4,7 +4,7 @@ ghost use Rattle.rules.specs.Lookups.{liveQuantity, shutLegs};
 ghost use Rattle.rules.specs.Valid.{Valid};
 ghost use Rattle.lookups.specs.Lookups.{bookDepth};
 ghost use Rattle.events.specs.declared.Event.the-variants as E;
-ghost use Rattle.rules.specs.Fits.{FitGiven, FitOrderGiven, FitSweepGiven, FitLegOrderGiven, FitEvent};
+ghost use Rattle.rules.specs.Fits.{FitGiven, FitOrderGiven, FitSweepGiven, FitLegOrderGiven};
 ghost use Rattle.base.specs.Pick.{pick};
 ghost use lib.Dec.{eqb};
 ghost use lib.ListN.{length};
@@ -222,23 +222,6 @@ impl Book {
         admit(c, 0, t.count)
     }
 
-    // An event of any kind.
-    fn take(self, event: Event, space: &mut [i32]) -> Taken
-        requires { ⌜ Valid (self .state) × FitEvent event × (15360 ≤ length (now space)) ⌝ }
-        ensures { λ x. ⌜ Took (self .state) event (now (space .entry)) (now (space .exit)) x ⌝ }
-    {
-        match event {
-            Event::Strategy(e) => self.strategy(e, space),
-            Event::Order(e) => self.order(e, space),
-            Event::Sweep(e) => self.sweep(e, space),
-            Event::LegOrder(e) => self.leg_order(e, space),
-            Event::Cancel(e) => self.cancel(e, space),
-            Event::Series(e) => self.series(e, space),
-            Event::Clock(e) => self.clock(e, space),
-            Event::DayEnd(e) => self.day_end(e, space),
-        }
-    }
-
     // A frame of any bytes, with a record space of any length: the answer, the book, and the records in the space. A refused
     // event hands back the book that came, and leaves the space.
     pub fn step(self, frame: &[u8], space: &mut [i32]) -> Taken
@@ -255,7 +238,16 @@ impl Book {
                 let b = self.state;
                 refuse(b, n)
             }
-            Reading::Event(event) => self.take(event, space),
+            Reading::Event(event) => match event {
+                Event::Strategy(e) => self.strategy(e, space),
+                Event::Order(e) => self.order(e, space),
+                Event::Sweep(e) => self.sweep(e, space),
+                Event::LegOrder(e) => self.leg_order(e, space),
+                Event::Cancel(e) => self.cancel(e, space),
+                Event::Series(e) => self.series(e, space),
+                Event::Clock(e) => self.clock(e, space),
+                Event::DayEnd(e) => self.day_end(e, space),
+            },
         }
     }
 

@@ -1,11 +1,19 @@
-use Rattle.book.specs.Outcomes.{stepped-short, stepped-refused, stepped, event-fit}
-use mathlib.Core.Path.{sym, _∙_}
+use Rattle.book.specs.Outcomes.{stepped-short, stepped-refused, stepped, event-fit, took-of}
+use Rattle.rules.specs.Fits.{FitEvent}
+use mathlib.Core.Path.{sym, _∙_, subst}
 use borrow.Author.Needs.{needs}
 use Rattle.book.proofs.Book.step.Statement.{statement}
 use Rattle.book.proofs.Book.step.Tie as tie
 use Rattle.book.proofs.Book.step.Reads as reads
 use Rattle.book.proofs.Book.step.Lts as lts
-use Rattle.book.proofs.Book.take.Reads as take-reads
+use Rattle.book.proofs.Book.cancel.Reads as cancel-reads
+use Rattle.book.proofs.Book.clock.Reads as clock-reads
+use Rattle.book.proofs.Book.day_end.Reads as day-end-reads
+use Rattle.book.proofs.Book.leg_order.Reads as leg-order-reads
+use Rattle.book.proofs.Book.order.Reads as order-reads
+use Rattle.book.proofs.Book.series.Reads as series-reads
+use Rattle.book.proofs.Book.strategy.Reads as strategy-reads
+use Rattle.book.proofs.Book.sweep.Reads as sweep-reads
 use Rattle.book.proofs.refuse.Reads as refuse-reads
 use Rattle.frames.proofs.read.Reads as read-reads
 
@@ -27,8 +35,53 @@ refuse-requires-2 c κs = search needs
 enum-known-reading-2 : tie.Need-enum-known-reading-2
 enum-known-reading-2 c = search needs
 
-take-requires : tie.Need-take-requires
-take-requires c κs = (c .before .before .before .before .before .before .before .pre, event-fit _ (sym (c .before .before .reading2 .given .1) ∙ c .before .before .before .before .read .ensures), c .before .before .before .before .before .if1 .left)
+enum-known-event : tie.Need-enum-known-event
+enum-known-event c = search needs
+
+strategy-requires : tie.Need-strategy-requires
+strategy-requires c κs = (c .before .before .before .before .before .before .before .before .before .before .pre, subst FitEvent (c .before .before .event .given .1) (event-fit _ (sym (c .before .before .before .before .before .reading2 .given .1) ∙ c .before .before .before .before .before .before .before .read .ensures)), c .before .before .before .before .before .before .before .before .if1 .left)
+
+enum-known-event-2 : tie.Need-enum-known-event-2
+enum-known-event-2 c = search needs
+
+order-requires : tie.Need-order-requires
+order-requires c κs = (c .before .before .before .before .before .before .before .before .before .before .pre, subst FitEvent (c .before .before .event2 .given .1) (event-fit _ (sym (c .before .before .before .before .before .reading2 .given .1) ∙ c .before .before .before .before .before .before .before .read .ensures)), c .before .before .before .before .before .before .before .before .if1 .left)
+
+enum-known-event-3 : tie.Need-enum-known-event-3
+enum-known-event-3 c = search needs
+
+sweep-requires : tie.Need-sweep-requires
+sweep-requires c κs = (c .before .before .before .before .before .before .before .before .before .before .pre, subst FitEvent (c .before .before .event3 .given .1) (event-fit _ (sym (c .before .before .before .before .before .reading2 .given .1) ∙ c .before .before .before .before .before .before .before .read .ensures)), c .before .before .before .before .before .before .before .before .if1 .left)
+
+enum-known-event-4 : tie.Need-enum-known-event-4
+enum-known-event-4 c = search needs
+
+leg-order-requires : tie.Need-leg-order-requires
+leg-order-requires c κs = (c .before .before .before .before .before .before .before .before .before .before .pre, subst FitEvent (c .before .before .event4 .given .1) (event-fit _ (sym (c .before .before .before .before .before .reading2 .given .1) ∙ c .before .before .before .before .before .before .before .read .ensures)), c .before .before .before .before .before .before .before .before .if1 .left)
+
+enum-known-event-5 : tie.Need-enum-known-event-5
+enum-known-event-5 c = search needs
+
+cancel-requires : tie.Need-cancel-requires
+cancel-requires c κs = (c .before .before .before .before .before .before .before .before .before .before .pre, subst FitEvent (c .before .before .event5 .given .1) (event-fit _ (sym (c .before .before .before .before .before .reading2 .given .1) ∙ c .before .before .before .before .before .before .before .read .ensures)), c .before .before .before .before .before .before .before .before .if1 .left)
+
+enum-known-event-6 : tie.Need-enum-known-event-6
+enum-known-event-6 c = search needs
+
+series-requires : tie.Need-series-requires
+series-requires c κs = (c .before .before .before .before .before .before .before .before .before .before .pre, subst FitEvent (c .before .before .event6 .given .1) (event-fit _ (sym (c .before .before .before .before .before .reading2 .given .1) ∙ c .before .before .before .before .before .before .before .read .ensures)), c .before .before .before .before .before .before .before .before .if1 .left)
+
+enum-known-event-7 : tie.Need-enum-known-event-7
+enum-known-event-7 c = search needs
+
+clock-requires : tie.Need-clock-requires
+clock-requires c κs = (c .before .before .before .before .before .before .before .before .before .before .pre, subst FitEvent (c .before .before .event7 .given .1) (event-fit _ (sym (c .before .before .before .before .before .reading2 .given .1) ∙ c .before .before .before .before .before .before .before .read .ensures)), c .before .before .before .before .before .before .before .before .if1 .left)
+
+enum-known-event-8 : tie.Need-enum-known-event-8
+enum-known-event-8 c = search needs
+
+day-end-requires : tie.Need-day-end-requires
+day-end-requires c κs = (c .before .before .before .before .before .before .before .before .before .before .pre, subst FitEvent (c .before .before .event8 .given .1) (event-fit _ (sym (c .before .before .before .before .before .reading2 .given .1) ∙ c .before .before .before .before .before .before .before .read .ensures)), c .before .before .before .before .before .before .before .before .if1 .left)
 
 returns-2 : tie.Need-returns-2
 returns-2 c = stepped-refused _ _ _ (c .before .before .before .before .before .before .before .before .pre) (c .before .before .before .before .before .before .if1 .left) (sym (c .before .before .before .reading .given .1) ∙ c .before .before .before .before .before .read .ensures) (c .refuse2 .ensures)
@@ -37,7 +90,49 @@ same-length : tie.Need-same-length
 same-length c = search needs
 
 returns-3 : tie.Need-returns-3
-returns-3 c = stepped _ _ _ (sym (c .before .before .before .before .reading2 .given .1) ∙ c .before .before .before .before .before .before .read .ensures) (c .before .take .ensures)
+returns-3 c = stepped _ _ _ (sym (c .before .before .before .before .before .before .before .reading2 .given .1) ∙ c .before .before .before .before .before .before .before .before .before .read .ensures) (took-of _ _ (c .before .before .before .before .event .given .1) (c .before .strategy .ensures))
+
+same-length-2 : tie.Need-same-length-2
+same-length-2 c = search needs
+
+returns-4 : tie.Need-returns-4
+returns-4 c = stepped _ _ _ (sym (c .before .before .before .before .before .before .before .reading2 .given .1) ∙ c .before .before .before .before .before .before .before .before .before .read .ensures) (took-of _ _ (c .before .before .before .before .event2 .given .1) (c .before .order .ensures))
+
+same-length-3 : tie.Need-same-length-3
+same-length-3 c = search needs
+
+returns-5 : tie.Need-returns-5
+returns-5 c = stepped _ _ _ (sym (c .before .before .before .before .before .before .before .reading2 .given .1) ∙ c .before .before .before .before .before .before .before .before .before .read .ensures) (took-of _ _ (c .before .before .before .before .event3 .given .1) (c .before .sweep .ensures))
+
+same-length-4 : tie.Need-same-length-4
+same-length-4 c = search needs
+
+returns-6 : tie.Need-returns-6
+returns-6 c = stepped _ _ _ (sym (c .before .before .before .before .before .before .before .reading2 .given .1) ∙ c .before .before .before .before .before .before .before .before .before .read .ensures) (took-of _ _ (c .before .before .before .before .event4 .given .1) (c .before .leg-order .ensures))
+
+same-length-5 : tie.Need-same-length-5
+same-length-5 c = search needs
+
+returns-7 : tie.Need-returns-7
+returns-7 c = stepped _ _ _ (sym (c .before .before .before .before .before .before .before .reading2 .given .1) ∙ c .before .before .before .before .before .before .before .before .before .read .ensures) (took-of _ _ (c .before .before .before .before .event5 .given .1) (c .before .cancel .ensures))
+
+same-length-6 : tie.Need-same-length-6
+same-length-6 c = search needs
+
+returns-8 : tie.Need-returns-8
+returns-8 c = stepped _ _ _ (sym (c .before .before .before .before .before .before .before .reading2 .given .1) ∙ c .before .before .before .before .before .before .before .before .before .read .ensures) (took-of _ _ (c .before .before .before .before .event6 .given .1) (c .before .series .ensures))
+
+same-length-7 : tie.Need-same-length-7
+same-length-7 c = search needs
+
+returns-9 : tie.Need-returns-9
+returns-9 c = stepped _ _ _ (sym (c .before .before .before .before .before .before .before .reading2 .given .1) ∙ c .before .before .before .before .before .before .before .before .before .read .ensures) (took-of _ _ (c .before .before .before .before .event7 .given .1) (c .before .clock .ensures))
+
+same-length-8 : tie.Need-same-length-8
+same-length-8 c = search needs
+
+returns-10 : tie.Need-returns-10
+returns-10 c = stepped _ _ _ (sym (c .before .before .before .before .before .before .before .reading2 .given .1) ∙ c .before .before .before .before .before .before .before .before .before .read .ensures) (took-of _ _ (c .before .before .before .before .event8 .given .1) (c .before .day-end .ensures))
 
 pub step-spec : {M : Type 1} → statement M
 step-spec =
@@ -49,7 +144,36 @@ step-spec =
     enum-known-reading
     refuse-requires-2
     enum-known-reading-2
-    take-requires
+    enum-known-event
+    strategy-requires
+    enum-known-event-2
+    order-requires
+    enum-known-event-3
+    sweep-requires
+    enum-known-event-4
+    leg-order-requires
+    enum-known-event-5
+    cancel-requires
+    enum-known-event-6
+    series-requires
+    enum-known-event-7
+    clock-requires
+    enum-known-event-8
+    day-end-requires
     returns-2
     same-length
-    returns-3)
+    returns-3
+    same-length-2
+    returns-4
+    same-length-3
+    returns-5
+    same-length-4
+    returns-6
+    same-length-5
+    returns-7
+    same-length-6
+    returns-8
+    same-length-7
+    returns-9
+    same-length-8
+    returns-10)
