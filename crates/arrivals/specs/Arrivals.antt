@@ -9,18 +9,15 @@ use lib.ListN.{length, List·getD-eq-default}
 use Rattle.base.specs.Pick.{pick-false, tests}
 use Rattle.rules.specs.declared.Entry.{Entry}
 use Rattle.rules.specs.declared.State.{State}
-use Rattle.rules.specs.declared.Allocation.the-variants.{Shared}
 use Rattle.rules.specs.State.{noEntry, entryAt, withEntries, withLast}
 use Rattle.rules.specs.Moves.{still}
 use Rattle.rules.specs.Sides.{other, better}
 use Rattle.rules.specs.Nets.{legNet}
 use Rattle.rules.specs.Strategies.{allOpen}
 use Rattle.rules.specs.Fills.{cancelEntry}
-use Rattle.rules.specs.Passes.{pass}
 use Rattle.rules.specs.Auctions.{running, begin, answer}
 use Rattle.rules.specs.Events.{live, enter, freeSlot, restOrCancel, mayStart, starts, waits, trades, arrive, onOrder, oldSweep, enterSweep}
 use Rattle.rules.specs.Valid.{FitEntry}
-use Rattle.rules.proofs.Control.{pass-kept, shrinks-kept}
 use Rattle.rules.proofs.Entering.{fit-none}
 use Rattle.rules.proofs.Shrinks.{cancel-shrinks}
 use Rattle.rules.proofs.Tables.{behind-length, behind-all}
@@ -120,10 +117,7 @@ fit-enter e b g h f =
       orderRows = f .orderRows;
     })
 
--- the ranges after a pass, and after a cancel
-pub fit-pass : (legs : Bool) (i : ℕ) (b : State) {c : State} {sp sq : List ℤ} {n m : ℕ} → Fit b → Done sp sq n m c (pass Shared legs i b) → Fit c
-fit-pass legs i b f d = fit-done d (pass-kept shrinks-kept Shared legs i b (f .orderRows)) f
-
+-- the ranges after a cancel
 pub fit-cancel : (i : ℕ) (b : State) {c : State} {sp sq : List ℤ} {n m : ℕ} → Fit b → Done sp sq n m c (cancelEntry i b) → Fit c
 fit-cancel i b f d = fit-done d (cancel-shrinks b i) f
 

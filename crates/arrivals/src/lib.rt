@@ -31,7 +31,7 @@ use sides::other;
 
 // Day rests and others are cancelled.
 fn rest_or_cancel(b: State, i: usize, space: &mut [i32], n: usize) -> After
-    requires { ⌜ (i < 32) × Fit b ⌝ }
+    requires { ⌜ i < 32 ⌝ }
     requires { ⌜ Room (now space) n (restOrCancel i b .records) ⌝ }
     ensures { λ t. ⌜ Done (now (space .entry)) (now (space .exit)) n (t .count) (t .state) (restOrCancel i b) ⌝ }
 {
@@ -151,7 +151,6 @@ fn enter_sweep(e: Entry, b: State) -> State
 
 // The entry at a slot is cancelled; past the last there is none.
 fn cancel_at(b: State, i: usize, space: &mut [i32], n: usize) -> After
-    requires { ⌜ Fit b ⌝ }
     requires { ⌜ Room (now space) n (cancelEntry i b .records) ⌝ }
     ensures { λ t. ⌜ Done (now (space .entry)) (now (space .exit)) n (t .count) (t .state) (cancelEntry i b) ⌝ }
 {

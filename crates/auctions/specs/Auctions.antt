@@ -5,7 +5,6 @@ use mathlib.Core.Logic.{_⊎_, inl, inr}
 use mathlib.Core.List.{List}
 use Prim.Native.Nat.{ℕ, suc, _+_, _≤_, _<_}
 use native.Mathlib.Omega.{arith}
-use lib.IntN.{ℤ}
 use lib.ListN.{length, getD, List·getD-eq-default}
 use Rattle.base.specs.Pick.{tests}
 use Rattle.base.specs.Walks.{firstN, first-none, first-is, below}
@@ -14,16 +13,10 @@ use Rattle.rules.specs.declared.State.{State}
 use Rattle.rules.specs.declared.Record.{Record}
 use Rattle.rules.specs.declared.Kind.the-variants.{AuctionBegun, AuctionEnded}
 use Rattle.rules.specs.State.{noEntry, entryAt, strategyAt}
-use Rattle.rules.specs.Moves.{still, each}
+use Rattle.rules.specs.Moves.{still}
 use Rattle.rules.specs.Sides.{other}
 use Rattle.rules.specs.Fills.{cancelEntry}
 use Rattle.rules.specs.Auctions.{putAuction, starterSlot, answer, lapses, cancelLapsed}
-use Rattle.rules.specs.Valid.{FitEntry}
-use Rattle.rules.proofs.Control.{each-kept, cancelLapsed-kept, shrinks-kept}
-use Rattle.records.specs.Space.{Small}
-use Rattle.records.specs.Done.{Done}
-use Rattle.ranges.specs.Fit.{Fit, fit-done}
-use Rattle.auctions.specs.Ranged.{Ranged, ranged-kept, ranged-done}
 
 abbrev pub begunRecord : Entry → Record
 begunRecord e = record { kind = AuctionBegun; number = e .number; place = e .strategy; side = e .side; quantity = e .units; level = e .level }
@@ -53,12 +46,6 @@ passed-here f i k p h e = sym (first-is f k i h e (p .none))
 pub passed-all : (f : ℕ → Bool) (i k : ℕ) → Passed f i → i ≡ k → k ≡ firstN f k
 passed-all f i k p h = sym (first-none f k (λ j l. p .none j (omega arith)))
 
-pub begun-small : (e : Entry) → FitEntry e → Small (begunRecord e)
-begun-small e f = record { number = f .number; quantity = omega (arith, f .units); level = omega (arith, f .level) }
-
-pub ended-small : (n k : ℕ) → n ≤ 100_000 → Small (endedRecord n k)
-ended-small n k h = record { number = h; quantity = omega arith; level = omega arith }
-
 pub side-past : (es : List Entry) (i : ℕ) → length es ≡ 32 → 32 ≤ i → 0 ≡ getD es i noEntry .side
 side-past es i n h = rw (List·getD-eq-default es noEntry {n = i} (omega arith))
 
@@ -82,10 +69,3 @@ lapsed-none k i b e = search tests
 pub lapsed-some : (k i : ℕ) (b : State) → lapses k (entryAt b i) ≡ true → cancelLapsed k i b ≡ cancelEntry i b
 unfolding cancelLapsed
 lapsed-some k i b e = search tests
-
--- the ranges after some cancels
-pub fit-cancels : (k i : ℕ) (b : State) {c : State} {sp sq : List ℤ} {n m : ℕ} → Fit b → Done sp sq n m c (each (cancelLapsed k) i b) → Fit c
-fit-cancels k i b f d = fit-done d (each-kept shrinks-kept (cancelLapsed k) (cancelLapsed-kept shrinks-kept k) i b (f .orderRows)) f
-
-pub ranged-cancels : (k i : ℕ) (b : State) {c : State} {sp sq : List ℤ} {n m : ℕ} → Ranged b → Done sp sq n m c (each (cancelLapsed k) i b) → Ranged c
-ranged-cancels k i b r d = ranged-done d (each-kept ranged-kept (cancelLapsed k) (cancelLapsed-kept ranged-kept k) i b) r

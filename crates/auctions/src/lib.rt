@@ -1,17 +1,16 @@
 // Auctions: their start, their answer, what lapses at their end, and their end without fills.
 ghost use mathlib.Core.Path.{_≡_};
 ghost use mathlib.Core.Bool.{false};
-ghost use Prim.Native.Nat.{_+_, _-_, _<_, _≤_};
+ghost use Prim.Native.Nat.{_+_, _-_, _<_};
 ghost use lib.Dec.{eqb};
 ghost use Rattle.base.specs.Pick.{pick};
-ghost use Rattle.rules.specs.State.{entryAt, strategyAt};
+ghost use Rattle.rules.specs.State.{entryAt};
 ghost use Rattle.rules.specs.Moves.{each};
 ghost use Rattle.rules.specs.Auctions.{liveIn, putAuction, begin, close, starterSlot, answer, lapses, cancelLapsed, endUnfilled};
 ghost use Rattle.records.specs.Space.{Room};
 ghost use Rattle.records.specs.Done.{Done};
 ghost use Rattle.ranges.specs.Fit.{Fit};
 ghost use Rattle.auctions.specs.Auctions.{begunRecord, endedRecord};
-ghost use Rattle.auctions.specs.Ranged.{Ranged};
 use fills::cancel_entry;
 use records::After;
 use records::push;
@@ -116,7 +115,7 @@ fn ended_record(n: u32, k: u8) -> Record
 
 // The auction of strategy k is over.
 pub fn close(b: State, k: usize, space: &mut [i32], n: usize) -> After
-    requires { ⌜ (k < 16) × (strategyAt b k .starter ≤ 100000) ⌝ }
+    requires { ⌜ k < 16 ⌝ }
     requires { ⌜ Room (now space) n (close k b .records) ⌝ }
     ensures { λ t. ⌜ Done (now (space .entry)) (now (space .exit)) n (t .count) (t .state) (close k b) ⌝ }
 {
@@ -172,7 +171,6 @@ fn lapses(k: usize, e: Entry) -> bool
 
 // What lapses is cancelled, by number.
 fn cancel_lapses(b: State, k: usize, space: &mut [i32], n: usize) -> After
-    requires { ⌜ Fit b ⌝ }
     requires { ⌜ Room (now space) n (each (cancelLapsed k) 32 b .records) ⌝ }
     ensures { λ t. ⌜ Done (now (space .entry)) (now (space .exit)) n (t .count) (t .state) (each (cancelLapsed k) 32 b) ⌝ }
 {
@@ -193,7 +191,7 @@ fn cancel_lapses(b: State, k: usize, space: &mut [i32], n: usize) -> After
 
 // The auction of strategy k ends without fills: the cancels, then its record.
 pub fn end_unfilled(b: State, k: usize, space: &mut [i32], n: usize) -> After
-    requires { ⌜ (k < 16) × Ranged b ⌝ }
+    requires { ⌜ k < 16 ⌝ }
     requires { ⌜ Room (now space) n (endUnfilled k b .records) ⌝ }
     ensures { λ t. ⌜ Done (now (space .entry)) (now (space .exit)) n (t .count) (t .state) (endUnfilled k b) ⌝ }
 {

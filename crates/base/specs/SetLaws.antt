@@ -52,6 +52,9 @@ one-digit x s = pick-by (λ (n : ℕ). n ≡ digit x s) _ (λ e. sym (one-has x 
 pub has-small : (x i : ℕ) → x < 2 ^ i → has x i ≡ false
 has-small x i h = has-none x i (rw (div-eq-of-lt h))
 
+pub has-past : (x i : ℕ) → x < 2 ^ 32 → 32 ≤ i → has x i ≡ false
+has-past x i h l = has-small x i (le-trans h (pow-mono l))
+
 -- a power above i changes nothing at i
 pub has-low : (x s i : ℕ) → i < s → has (x + 2 ^ s) i ≡ has x i
 has-low x s i h =

@@ -1,4 +1,5 @@
 pub mod Books
 pub mod Calls
+pub mod Small
 pub mod Outcomes
 pub mod Premises

@@ -26,6 +26,7 @@ use Rattle.records.specs.Space.{Room, wrote-nil}
 use Rattle.records.specs.Done.{Done, done-length}
 use Rattle.book.specs.declared.Taken.{Taken}
 use Rattle.book.specs.Books.{Handed, Took, Stepped}
+use Rattle.book.specs.Small.{accept-small}
 
 -- what the two ends of a call make
 unfoldable pub refuse : State → ℕ → Taken
@@ -94,8 +95,8 @@ module _ (b : State) (e : Event) (s : List ℤ) (v : Valid b) (h : 15_360 ≤ le
       })
 
 -- room for the records of an event
-pub room-event : (b : State) (e : Event) (s : List ℤ) → Valid b → 15_360 ≤ length s → Room s 0 (accept b e .records)
-room-event b e s v h = record { count = omega (arith, accept-few b e (six-sound b (v .sound))); space = h }
+pub room-event : (b : State) (e : Event) (s : List ℤ) → Valid b → FitEvent e → 15_360 ≤ length s → {n : ℕ} → n ≡ first (causes b e) → n ≡ 0 → Room s 0 (accept b e .records)
+room-event b e s v f h c z = record { count = omega (arith, accept-few b e (six-sound b (v .sound))); space = h; small = accept-small b e v f (sym c ∙ z) }
 
 -- the entry: a short space, a frame that carries no event, and one that does
 pub stepped-short : (b : State) (f : List ℕ) (s : List ℤ) → Valid b → length s < 15_360 → {x : Taken} → x ≡ refuse b 1 → Stepped b f s s x

@@ -30,7 +30,7 @@ use Rattle.rules.proofs.Entering.{fit-no-order}
 use Rattle.rules.proofs.Tables.{behind-all, behind-length}
 use Rattle.records.specs.Done.{Done, done-still, done-of, done-then}
 use Rattle.ranges.specs.Fit.{Fit, fit-done}
-use Rattle.passes.specs.Passes.{idle}
+use Rattle.rules.proofs.Turns.{idle}
 use Rattle.auctions.specs.Ranged.{Ranged, ranged-kept, ranged-done}
 
 -- a row that has nothing live is not moved, whatever its number

@@ -1,7 +1,7 @@
 // Cancels, the clock, the series, the leg order, and the day's end.
 ghost use mathlib.Core.Path.{_≡_};
 ghost use mathlib.Core.Bool.{false, not};
-ghost use Prim.Native.Nat.{_+_, _-_, _%_, _^_, _<_, _≤_};
+ghost use Prim.Native.Nat.{_+_, _-_, _^_, _<_, _≤_};
 ghost use lib.Dec.{eqb, leb};
 ghost use Rattle.base.specs.Pick.{pick};
 ghost use Rattle.base.specs.Sets.{has, minus};
@@ -28,6 +28,7 @@ use records::less;
 use rules::LegOrder;
 use rules::State;
 use rules::Strategy;
+use strategies::has;
 use tables::NO_ENTRY;
 use tables::NO_LEG;
 use tables::NO_ORDER;
@@ -75,7 +76,6 @@ fn has_live(x: u32, quantity: u32, number: u32) -> bool
 }
 
 fn cancel_entries(b: State, number: u32, space: &mut [i32], n: usize) -> After
-    requires { ⌜ Fit b ⌝ }
     requires { ⌜ Room (now space) n (each (cancelEntryOf number) 32 b .records) ⌝ }
     ensures { λ t. ⌜ Done (now (space .entry)) (now (space .exit)) n (t .count) (t .state) (each (cancelEntryOf number) 32 b) ⌝ }
 {
@@ -95,7 +95,6 @@ fn cancel_entries(b: State, number: u32, space: &mut [i32], n: usize) -> After
 }
 
 fn cancel_orders(b: State, number: u32, space: &mut [i32], n: usize) -> After
-    requires { ⌜ Fit b ⌝ }
     requires { ⌜ Room (now space) n (each (cancelOrderOf number) 32 b .records) ⌝ }
     ensures { λ t. ⌜ Done (now (space .entry)) (now (space .exit)) n (t .count) (t .state) (each (cancelOrderOf number) 32 b) ⌝ }
 {
@@ -116,7 +115,6 @@ fn cancel_orders(b: State, number: u32, space: &mut [i32], n: usize) -> After
 
 // The cancel of what is live of a number, in both tables.
 pub fn cancel_number(b: State, number: u32, space: &mut [i32], n: usize) -> After
-    requires { ⌜ Fit b ⌝ }
     requires { ⌜ Room (now space) n (cancelNumber number b .records) ⌝ }
     ensures { λ t. ⌜ Done (now (space .entry)) (now (space .exit)) n (t .count) (t .state) (cancelNumber number b) ⌝ }
 {
@@ -169,7 +167,7 @@ fn lowest_live(b: State) -> u32
 
 // At the day's end: all that is live, by number, until nothing is.
 fn cancel_all(b: State, space: &mut [i32], n: usize) -> After
-    requires { ⌜ Fit b × Numbered b ⌝ }
+    requires { ⌜ Numbered b ⌝ }
     requires { ⌜ Room (now space) n (each cancelLowest 64 b .records) ⌝ }
     ensures { λ t. ⌜ Done (now (space .entry)) (now (space .exit)) n (t .count) (t .state) (each cancelLowest 64 b) ⌝ }
 {
@@ -191,7 +189,6 @@ fn cancel_all(b: State, space: &mut [i32], n: usize) -> After
 
 // At the day's end: the auctions, by strategy.
 fn close_all(b: State, space: &mut [i32], n: usize) -> After
-    requires { ⌜ Ranged b ⌝ }
     requires { ⌜ Room (now space) n (each closeRunning 16 b .records) ⌝ }
     ensures { λ t. ⌜ Done (now (space .entry)) (now (space .exit)) n (t .count) (t .state) (each closeRunning 16 b) ⌝ }
 {
@@ -274,18 +271,8 @@ fn with_opened(b: State, x: u32) -> State
     c
 }
 
-// Whether a set of series has a series.
-fn has(x: u32, s: u8) -> bool
-    requires { ⌜ s < 32 ⌝ }
-    ensures { λ r. ⌜ r ≡ has x s ⌝ }
-{
-    let y = (x >> s as u32) % 2;
-    y == 1
-}
-
 // Whether an auction runs in a strategy that holds a series.
 fn ends(h: Strategy, s: u8) -> bool
-    requires { ⌜ s < 32 ⌝ }
     ensures { λ r. ⌜ r ≡ pick (not (eqb (h .starter) 0)) (has (h .series) s) false ⌝ }
 {
     if h.starter == 0 {
@@ -296,7 +283,7 @@ fn ends(h: Strategy, s: u8) -> bool
 
 // A series shuts: the auctions of strategies that hold it end, by strategy.
 fn shut(b: State, s: u8, space: &mut [i32], n: usize) -> After
-    requires { ⌜ (s < 32) × Ranged b ⌝ }
+    requires { ⌜ s < 32 ⌝ }
     requires { ⌜ Room (now space) n (shut s b .records) ⌝ }
     ensures { λ t. ⌜ Done (now (space .entry)) (now (space .exit)) n (t .count) (t .state) (shut s b) ⌝ }
 {
@@ -318,7 +305,6 @@ fn shut(b: State, s: u8, space: &mut [i32], n: usize) -> After
 
 // Whether a strategy holds a series and no leg of it is shut.
 fn matches(h: Strategy, opened: u32, s: u8) -> bool
-    requires { ⌜ s < 32 ⌝ }
     ensures { λ r. ⌜ r ≡ pick (has (h .series) s) (eqb (minus (h .series) opened) 0) false ⌝ }
 {
     if has(h.series, s) {
@@ -370,7 +356,6 @@ fn reopen(b: State, s: u8, space: &mut [i32], n: usize) -> After
 
 // Whether a series is open.
 pub fn is_open(b: State, s: u8) -> bool
-    requires { ⌜ s < 32 ⌝ }
     ensures { λ r. ⌜ r ≡ has (b .opened) s ⌝ }
 {
     has(b.opened, s)
@@ -378,7 +363,7 @@ pub fn is_open(b: State, s: u8) -> bool
 
 // A series shuts (state 0), opens, or stays.
 pub fn on_series(b: State, s: u8, state: u32, space: &mut [i32], n: usize) -> After
-    requires { ⌜ (s < 32) × Ranged b ⌝ }
+    requires { ⌜ (s < 32) × Fit b ⌝ }
     requires { ⌜ Room (now space) n (onSeries s state b .records) ⌝ }
     ensures { λ t. ⌜ Done (now (space .entry)) (now (space .exit)) n (t .count) (t .state) (onSeries s state b) ⌝ }
 {

@@ -19,7 +19,6 @@ use Rattle.rules.specs.Auctions.{starterSlot, starterPass, later, laterPass}
 use Rattle.rules.proofs.Control.{each-kept, starterPass-kept, laterPass-kept, shrinks-kept}
 use Rattle.records.specs.Done.{Done}
 use Rattle.ranges.specs.Fit.{Fit, fit-done}
-use Rattle.auctions.specs.Ranged.{Ranged, ranged-kept, ranged-done}
 
 -- a pass of no entry
 pub pass-past : (way : Allocation) (legs : Bool) (a : ℕ) (b : State) → length (b .entries) ≡ 32 → 32 ≤ a → pass way legs a b ≡ still b
@@ -47,11 +46,8 @@ module _ (k n i : ℕ) (b : State) where
   later-yes e l = rw l (search tests)
 
 -- the ranges after the passes
+pub fit-starter : (k : ℕ) (b : State) {c : State} {sp sq : List ℤ} {p q : ℕ} → Fit b → Done sp sq p q c (starterPass k b) → Fit c
+fit-starter k b f d = fit-done d (starterPass-kept shrinks-kept k b (f .orderRows)) f
+
 pub fit-later : (k n i : ℕ) (b : State) {c : State} {sp sq : List ℤ} {p q : ℕ} → Fit b → Done sp sq p q c (each (laterPass k n) i b) → Fit c
 fit-later k n i b f d = fit-done d (each-kept shrinks-kept (laterPass k n) (laterPass-kept shrinks-kept k n) i b (f .orderRows)) f
-
-pub ranged-starter : (k : ℕ) (b : State) {c : State} {sp sq : List ℤ} {p q : ℕ} → Ranged b → Done sp sq p q c (starterPass k b) → Ranged c
-ranged-starter k b r d = ranged-done d (starterPass-kept ranged-kept k b) r
-
-pub ranged-later : (k n i : ℕ) (b : State) {c : State} {sp sq : List ℤ} {p q : ℕ} → Ranged b → Done sp sq p q c (each (laterPass k n) i b) → Ranged c
-ranged-later k n i b r d = ranged-done d (each-kept ranged-kept (laterPass k n) (laterPass-kept ranged-kept k n) i b) r

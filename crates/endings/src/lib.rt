@@ -9,7 +9,6 @@ ghost use Rattle.rules.specs.Auctions.{running, starterPass, later, laterPass, 
 ghost use Rattle.records.specs.Space.{Room};
 ghost use Rattle.records.specs.Done.{Done};
 ghost use Rattle.ranges.specs.Fit.{Fit};
-ghost use Rattle.auctions.specs.Ranged.{Ranged};
 use auctions::end_unfilled;
 use auctions::live_in;
 use auctions::starter_slot;
@@ -94,7 +93,7 @@ fn later_passes(b: State, k: usize, n: u32, space: &mut [i32], m: usize) -> Afte
 
 // The auction of strategy k ends.
 pub fn end_auction(b: State, k: usize, space: &mut [i32], n: usize) -> After
-    requires { ⌜ (k < 16) × Ranged b ⌝ }
+    requires { ⌜ (k < 16) × Fit b ⌝ }
     requires { ⌜ Room (now space) n (endAuction k b .records) ⌝ }
     ensures { λ t. ⌜ Done (now (space .entry)) (now (space .exit)) n (t .count) (t .state) (endAuction k b) ⌝ }
 {

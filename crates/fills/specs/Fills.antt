@@ -1,18 +1,12 @@
--- The rules of fills and cancels by what the code tests, and the ranges of their records.
+-- The rules of fills and cancels by what the code tests.
 use mathlib.Core.Path.{_≡_}
 use mathlib.Core.List.{[], _∷_, _++_}
-use Prim.Native.Nat.{ℕ, _*_, _≤_}
-use native.Mathlib.Nat.{mul-le-mul}
-use native.Mathlib.Omega.{arith}
+use Prim.Native.Nat.{ℕ}
 use Rattle.base.specs.Pick.{tests}
-use Rattle.rules.specs.declared.Leg.{Leg}
-use Rattle.rules.specs.declared.Entry.{Entry}
 use Rattle.rules.specs.declared.State.{State}
 use Rattle.rules.specs.State.{entryAt, strategyOf}
 use Rattle.rules.specs.Moves.{Moved, still}
-use Rattle.rules.specs.Fills.{wholeRecord, legRecord, partyRecords, noPrices, cut, wholeFill, cancelRecord, cancelEntry}
-use Rattle.rules.specs.Valid.{FitLeg, FitEntry}
-use Rattle.records.specs.Space.{Small}
+use Rattle.rules.specs.Fills.{partyRecords, noPrices, cut, wholeFill, cancelRecord, cancelEntry}
 
 -- a fill of some units
 unfoldable pub filled : State → ℕ → ℕ → ℕ → ℕ → Moved
@@ -36,17 +30,3 @@ cancel-none i b e = search tests
 pub cancel-live : (i : ℕ) (b : State) → (entryAt b i .units ≡ 0 → ⊥) → cancelEntry i b ≡ cancelled i b
 unfolding cancelEntry cancelled
 cancel-live i b e = search tests
-
--- the records fit their space
-
-pub leg-quantity : (ratio q : ℕ) → ratio ≤ 12 → q ≤ 9999 → ratio * q ≤ 119_988
-leg-quantity ratio q a b = mul-le-mul a b
-
-pub whole-small : (e : Entry) (q level : ℕ) → FitEntry e → q ≤ 9999 → level ≤ 20_000_000 → Small (wholeRecord e q level)
-whole-small e q level f a b = record { number = f .number; quantity = omega arith; level = b }
-
-pub leg-small : (e : Entry) (q price : ℕ) (l : Leg) → FitEntry e → q ≤ 9999 → price ≤ 99_999 → FitLeg l → Small (legRecord e q price l)
-leg-small e q price l f a b c = record { number = f .number; quantity = omega (arith, leg-quantity (l .ratio) q (c .ratio) a); level = omega arith }
-
-pub cancel-small : (e : Entry) → FitEntry e → Small (cancelRecord e)
-cancel-small e f = record { number = f .number; quantity = omega (arith, f .units); level = omega arith }

@@ -1,19 +1,13 @@
--- The ways that holders are met shrink the state, and their quotas are in range.
+-- The ways that holders are met shrink the state.
 use mathlib.Core.List.{List}
 use Prim.Native.Nat.{ℕ, zero, suc}
-use Rattle.base.specs.All.{All}
 use Rattle.base.specs.Walks.{slot}
-use Rattle.rules.specs.declared.Entry.{Entry}
 use Rattle.rules.specs.declared.State.{State}
 use Rattle.rules.specs.State.{entryAt}
 use Rattle.rules.specs.Moves.{each}
 use Rattle.rules.specs.Quotas.{inTurn, share}
 use Rattle.rules.specs.Passes.{sizes, giveAt, give, giveInTurn, giveGroup}
-use Rattle.rules.specs.Valid.{FitEntry}
-use Rattle.rules.proofs.Quotas.{inTurn-under, share-under}
 use Rattle.rules.proofs.Shrinks.{Shrinks, shrinks-refl, whole-shrinks, then-shrinks}
-use Rattle.ranges.specs.Most.{AtMost, under-most}
-use Rattle.quotas.specs.Bounds.{sizes-most}
 
 -- the first k slots
 pub slots-shrink : (a level : ℕ) (qs : List ℕ) (k : ℕ) (b : State) → Shrinks b (each (giveAt a level qs) k b .state)
@@ -29,9 +23,3 @@ inTurn-shrinks a level g b = slots-shrink a level (inTurn (entryAt b a .units) (
 pub group-shrinks : (a level g : ℕ) (b : State) → Shrinks b (giveGroup a level g b .state)
 unfolding giveGroup give
 group-shrinks a level g b = slots-shrink a level (share (entryAt b a .units) (sizes (b .entries) (entryAt b a) level g)) 32 b
-
-pub inTurn-most : (r : ℕ) (es : List Entry) (e : Entry) (level g : ℕ) → All FitEntry es → AtMost 9999 (inTurn r (sizes es e level g))
-inTurn-most r es e level g a = under-most 9999 (inTurn-under r (sizes es e level g)) (sizes-most es e level g a)
-
-pub share-most : (r : ℕ) (es : List Entry) (e : Entry) (level g : ℕ) → All FitEntry es → AtMost 9999 (share r (sizes es e level g))
-share-most r es e level g a = under-most 9999 (share-under r (sizes es e level g)) (sizes-most es e level g a)

@@ -5,11 +5,9 @@ ghost use Prim.Native.Nat.{_+_, _*_, _-_, _<_, _≤_};
 ghost use Rattle.base.specs.Walks.{joinN};
 ghost use Rattle.rules.specs.Fills.{wholeRecord, legRecord, legRecordAt, partyRecords, noPrices, cutEntry, cut, wholeFill, cancelRecord, cancelEntry};
 ghost use Rattle.rules.specs.Passes.{give, giveInTurn, giveGroup, giveShared};
-ghost use Rattle.rules.specs.Valid.{FitLeg, FitEntry};
 ghost use Rattle.records.specs.Space.{Wrote, Room};
 ghost use Rattle.records.specs.Done.{Done};
-ghost use Rattle.ranges.specs.Most.{AtMost};
-ghost use Rattle.ranges.specs.Fit.{FitLegs, Fit};
+ghost use Rattle.ranges.specs.Fit.{Fit};
 use quotas::in_turn;
 use quotas::share;
 use quotas::sizes;
@@ -38,7 +36,7 @@ fn whole_record(e: Entry, q: u32, level: u32) -> Record
 }
 
 fn leg_record(e: Entry, q: u32, price: u32, l: Leg) -> Record
-    requires { ⌜ (q ≤ 9999) × (price ≤ 99999) × FitLeg l ⌝ }
+    requires { ⌜ (l .ratio * q < 2147483648) × (10000000 + price < 2147483648) ⌝ }
     ensures { λ r. ⌜ r ≡ legRecord e q price l ⌝ }
 {
     let side = leg_side(e.side, l);
@@ -62,7 +60,7 @@ fn leg_records(
     q: u32,
     prices: [u32; 6],
 ) -> usize
-    requires { ⌜ FitEntry e × FitLegs s × (q ≤ 9999) × AtMost 99999 prices ⌝ }
+    requires { ⌜ s .count ≤ 6 ⌝ }
     requires { ⌜ Room (now space) n (joinN (legRecordAt e (s .legs) q prices) (s .count)) ⌝ }
     ensures { λ m. ⌜ Wrote (now (space .entry)) (now (space .exit)) n m (joinN (legRecordAt e (s .legs) q prices) (s .count)) ⌝ }
 {
@@ -88,7 +86,7 @@ pub fn party_records(
     level: u32,
     prices: [u32; 6],
 ) -> usize
-    requires { ⌜ FitEntry e × FitLegs s × (q ≤ 9999) × (level ≤ 20000000) × AtMost 99999 prices ⌝ }
+    requires { ⌜ s .count ≤ 6 ⌝ }
     requires { ⌜ Room (now space) n (partyRecords e s q level prices) ⌝ }
     ensures { λ m. ⌜ Wrote (now (space .entry)) (now (space .exit)) n m (partyRecords e s q level prices) ⌝ }
 {
@@ -126,7 +124,7 @@ fn fill_records(
     q: u32,
     level: u32,
 ) -> usize
-    requires { ⌜ FitEntry e × FitEntry f × FitLegs s × (q ≤ 9999) × (level ≤ 20000000) ⌝ }
+    requires { ⌜ s .count ≤ 6 ⌝ }
     requires { ⌜ Room (now space) n (partyRecords e s q level noPrices ++ partyRecords f s q level noPrices) ⌝ }
     ensures { λ m. ⌜ Wrote (now (space .entry)) (now (space .exit)) n m (partyRecords e s q level noPrices ++ partyRecords f s q level noPrices) ⌝ }
 {
@@ -145,7 +143,7 @@ pub fn whole_fill(
     space: &mut [i32],
     n: usize,
 ) -> After
-    requires { ⌜ (a < 32) × (h < 32) × Fit b × (level ≤ 20000000) × (q ≤ 9999) ⌝ }
+    requires { ⌜ (a < 32) × (h < 32) × Fit b ⌝ }
     requires { ⌜ Room (now space) n (wholeFill b a h level q .records) ⌝ }
     ensures { λ t. ⌜ Done (now (space .entry)) (now (space .exit)) n (t .count) (t .state) (wholeFill b a h level q) ⌝ }
 {
@@ -166,7 +164,7 @@ pub fn whole_fill(
 
 // Entry a meets each slot for its quota.
 fn give(b: State, a: usize, level: u32, qs: [u32; 32], space: &mut [i32], n: usize) -> After
-    requires { ⌜ (a < 32) × Fit b × (level ≤ 20000000) × AtMost 9999 qs ⌝ }
+    requires { ⌜ (a < 32) × Fit b ⌝ }
     requires { ⌜ Room (now space) n (give a level qs b .records) ⌝ }
     ensures { λ t. ⌜ Done (now (space .entry)) (now (space .exit)) n (t .count) (t .state) (give a level qs b) ⌝ }
 {
@@ -192,7 +190,7 @@ fn give(b: State, a: usize, level: u32, qs: [u32; 32], space: &mut [i32], n: usi
 
 // The holders of group g (3: all) by number.
 pub fn give_in_turn(b: State, a: usize, level: u32, g: u8, space: &mut [i32], n: usize) -> After
-    requires { ⌜ (a < 32) × Fit b × (level ≤ 20000000) ⌝ }
+    requires { ⌜ (a < 32) × Fit b ⌝ }
     requires { ⌜ Room (now space) n (giveInTurn a level g b .records) ⌝ }
     ensures { λ t. ⌜ Done (now (space .entry)) (now (space .exit)) n (t .count) (t .state) (giveInTurn a level g b) ⌝ }
 {
@@ -205,7 +203,7 @@ pub fn give_in_turn(b: State, a: usize, level: u32, g: u8, space: &mut [i32], n:
 
 // The holders of group g, shared where they hold more than what remains.
 fn give_group(b: State, a: usize, level: u32, g: u8, space: &mut [i32], n: usize) -> After
-    requires { ⌜ (a < 32) × Fit b × (level ≤ 20000000) ⌝ }
+    requires { ⌜ (a < 32) × Fit b ⌝ }
     requires { ⌜ Room (now space) n (giveGroup a level g b .records) ⌝ }
     ensures { λ t. ⌜ Done (now (space .entry)) (now (space .exit)) n (t .count) (t .state) (giveGroup a level g b) ⌝ }
 {
@@ -218,7 +216,7 @@ fn give_group(b: State, a: usize, level: u32, g: u8, space: &mut [i32], n: usize
 
 // Customers by number; then sweeps and market makers; then broker-dealers.
 pub fn give_shared(b: State, a: usize, level: u32, space: &mut [i32], n: usize) -> After
-    requires { ⌜ (a < 32) × Fit b × (level ≤ 20000000) ⌝ }
+    requires { ⌜ (a < 32) × Fit b ⌝ }
     requires { ⌜ Room (now space) n (giveShared a level b .records) ⌝ }
     ensures { λ t. ⌜ Done (now (space .entry)) (now (space .exit)) n (t .count) (t .state) (giveShared a level b) ⌝ }
 {
@@ -244,7 +242,7 @@ fn cancel_record(e: Entry) -> Record
 
 // All that is live of entry i.
 pub fn cancel_entry(b: State, i: usize, space: &mut [i32], n: usize) -> After
-    requires { ⌜ (i < 32) × Fit b ⌝ }
+    requires { ⌜ i < 32 ⌝ }
     requires { ⌜ Room (now space) n (cancelEntry i b .records) ⌝ }
     ensures { λ t. ⌜ Done (now (space .entry)) (now (space .exit)) n (t .count) (t .state) (cancelEntry i b) ⌝ }
 {

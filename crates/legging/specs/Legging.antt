@@ -1,26 +1,21 @@
--- What the code of the legs' part leaves, the ranges of its records, and the rules by what the code tests.
+-- What the code of the legs' part leaves, and the fill by what the code has found.
 use mathlib.Core.Path.{_≡_}
-use mathlib.Core.List.{List, [], _∷_}
-use Prim.Native.Nat.{ℕ, _+_, _*_, _-_, _≤_}
+use mathlib.Core.List.{List}
+use Prim.Native.Nat.{ℕ, _+_, _*_, _≤_}
 use native.Mathlib.Nat.{mul-le-mul}
-use native.Mathlib.Omega.{arith}
 use lib.IntN.{ℤ}
 use lib.ListN.{getD}
-use Rattle.base.specs.Pick.{tests}
 use Rattle.base.specs.Walks.{slot, joinN, walk-first, walk-next}
 use Rattle.rules.specs.declared.Leg.{Leg}
 use Rattle.rules.specs.declared.Strategy.{Strategy}
 use Rattle.rules.specs.declared.LegOrder.{LegOrder}
 use Rattle.rules.specs.declared.State.{State}
 use Rattle.rules.specs.State.{noLeg, entryAt, strategyOf}
-use Rattle.rules.specs.Quotas.{inTurn, inTurnAt}
-use Rattle.rules.specs.Nets.{prices, netOf, unitsOf}
-use Rattle.rules.specs.Fills.{legQuotas, orderRecord, orderRow, orderRows, cutOrders, orderRecords, cutStep, cutByLegs, takeLegs, legFill}
-use Rattle.rules.specs.Valid.{FitOrder}
-use Rattle.records.specs.Space.{Small, Wrote, wrote-first, wrote-next}
-use Rattle.ranges.specs.Most.{AtMost, table-most}
-use Rattle.ranges.specs.Fit.{FitLegs}
-use Rattle.nets.specs.Nets.{net-most}
+use Rattle.rules.specs.Nets.{netOf, unitsOf}
+use Rattle.rules.specs.Fills.{legQuotas, orderRows, cutOrders, orderRecords, cutStep, cutByLegs, takeLegs, legFill}
+use Rattle.records.specs.Space.{Wrote, wrote-first, wrote-next}
+use Rattle.nets.specs.declared.LegPrices.{LegPrices}
+use Rattle.nets.specs.Nets.{legPrices}
 
 -- one leg: its records are written, and its quotas taken from the rows
 pub record OneLeg (sp sq : List ℤ) (n m : ℕ) (rows rest os : List LegOrder) (side q price : ℕ) (l : Leg) : Type 0 where
@@ -44,30 +39,16 @@ unfolding cutByLegs
 legs-next {os = os} {side = side} {q = q} {legs = legs} {ps = ps} {i = i} g d =
     record { wrote = wrote-next (orderRecords os side q legs ps) i (g .wrote) (d .wrote); left = walk-next (cutStep os side q legs ps) os i (g .left) (d .left) }
 
-pub row-none : (o : LegOrder) (q price : ℕ) → q ≡ 0 → orderRow o q price ≡ []
-unfolding orderRow
-row-none o q price e = search tests
-
-pub row-some : (o : LegOrder) (q price : ℕ) → (q ≡ 0 → ⊥) → orderRow o q price ≡ orderRecord o q price ∷ []
-unfolding orderRow
-row-some o q price e = search tests
-
-pub order-small : (o : LegOrder) (q price : ℕ) → FitOrder o → q ≤ 200_000 → price ≤ 99_999 → Small (orderRecord o q price)
-order-small o q price f a b = record { number = f .number; quantity = a; level = omega arith }
-
 pub contracts-fit : (r q : ℕ) → r ≤ 12 → q ≤ 9999 → r * q ≤ 119_988
 contracts-fit r q a b = mul-le-mul a b
 
-pub quotas-most : (os : List LegOrder) (side c price : ℕ) (l : Leg) → c ≤ 200_000 → AtMost 200_000 (legQuotas os side c price l)
-unfolding legQuotas inTurn inTurnAt
-quotas-most os side c price l h = table-most _ 200_000 (λ i. omega arith) 32
-
 -- the fill by the prices and units that the code has found
-pub fill-is : (a : ℕ) (b : State) {ps : List ℕ} {q : ℕ} → ps ≡ prices (b .orders) (entryAt b a .side) (strategyOf b (entryAt b a) .legs)
-    → q ≡ unitsOf (b .orders) (entryAt b a .side) (strategyOf b (entryAt b a)) ps (entryAt b a .units)
-    → legFill a b ≡ takeLegs b a (strategyOf b (entryAt b a)) ps q
-unfolding legFill
-fill-is a b p u = rw (u, p)
+pub fill-is : (a : ℕ) (b : State) {p : LegPrices} {q : ℕ} → p ≡ legPrices (b .orders) (entryAt b a .side) (strategyOf b (entryAt b a))
+    → q ≡ unitsOf (b .orders) (entryAt b a .side) (strategyOf b (entryAt b a)) (p .prices) (entryAt b a .units)
+    → legFill a b ≡ takeLegs b a (strategyOf b (entryAt b a)) (p .prices) q
+unfolding legFill legPrices
+fill-is a b e u = rw (u, e)
 
-pub level-fits : (s : Strategy) (ps : List ℕ) → FitLegs s → AtMost 99_999 ps → netOf s ps ≤ 20_000_000
-level-fits s ps f m = omega (arith, net-most s ps f m)
+pub net-is : (os : List LegOrder) (side : ℕ) (s : Strategy) {p : LegPrices} → p ≡ legPrices os side s → p .net ≡ netOf s (p .prices)
+unfolding legPrices
+net-is os side s e = rw e

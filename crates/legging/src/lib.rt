@@ -1,33 +1,29 @@
 // Fills of whole against legs.
 ghost use mathlib.Core.Path.{_≡_};
 ghost use Prim.Native.Nat.{_+_, _*_, _-_, _<_, _≤_};
-ghost use Rattle.base.specs.All.{All};
 ghost use Rattle.base.specs.Walks.{joinN};
-ghost use Rattle.rules.specs.Fills.{legQuotas, orderRow, orderRows, orderRecords, cutOrders, takeLegs, legFill};
-ghost use Rattle.rules.specs.Valid.{FitOrder};
+ghost use Rattle.rules.specs.Nets.{netOf};
+ghost use Rattle.rules.specs.Fills.{legQuotas, orderRows, orderRecords, cutOrders, takeLegs, legFill};
 ghost use Rattle.records.specs.Space.{Wrote, Room};
 ghost use Rattle.records.specs.Done.{Done};
-ghost use Rattle.ranges.specs.Most.{AtMost};
 ghost use Rattle.ranges.specs.Fit.{FitLegs, Fit};
 ghost use Rattle.legging.specs.Legging.{OneLeg, AllLegs};
 use fills::cut;
 use fills::party_records;
+use nets::LegPrices;
+use nets::leg_prices;
 use nets::lots;
-use nets::net_of;
-use nets::prices;
 use nets::units_of;
 use quotas::in_turn;
 use records::After;
-use records::push;
 use rules::Leg;
 use rules::LegOrder;
-use rules::Record;
 use rules::State;
 use rules::Strategy;
 use sides::leg_side;
 use sides::other;
 use trades::cut_order;
-use trades::order_record;
+use trades::order_row;
 
 // The leg orders left, and the next free place for records.
 struct Cuts {
@@ -44,22 +40,8 @@ fn leg_quotas(os: [LegOrder; 32], side: u8, c: u32, price: u32, l: Leg) -> [u32;
     in_turn(c, xs)
 }
 
-// No record of 0 contracts.
-fn order_row(space: &mut [i32], n: usize, o: LegOrder, q: u32, price: u32) -> usize
-    requires { ⌜ FitOrder o × (q ≤ 200000) × (price ≤ 99999) ⌝ }
-    requires { ⌜ Room (now space) n (orderRow o q price) ⌝ }
-    ensures { λ m. ⌜ Wrote (now (space .entry)) (now (space .exit)) n m (orderRow o q price) ⌝ }
-{
-    if q == 0 {
-        return n;
-    }
-    let r = order_record(o, q, price);
-    push(space, n, r)
-}
-
 // The leg orders' records of one leg, by number.
 fn order_rows(space: &mut [i32], n: usize, os: [LegOrder; 32], qs: [u32; 32], price: u32) -> usize
-    requires { ⌜ All FitOrder os × AtMost 200000 qs × (price ≤ 99999) ⌝ }
     requires { ⌜ Room (now space) n (joinN (orderRows os qs price) 32) ⌝ }
     ensures { λ m. ⌜ Wrote (now (space .entry)) (now (space .exit)) n m (joinN (orderRows os qs price) 32) ⌝ }
 {
@@ -95,7 +77,7 @@ fn one_leg(
     l: Leg,
     space: &mut [i32],
 ) -> Cuts
-    requires { ⌜ All FitOrder os × (l .ratio ≤ 12) × (q ≤ 9999) × (price ≤ 99999) ⌝ }
+    requires { ⌜ (l .ratio ≤ 12) × (q ≤ 9999) ⌝ }
     requires { ⌜ Room (now space) (c .count) (joinN (orderRows os (legQuotas os side (l .ratio * q) price l) price) 32) ⌝ }
     ensures { λ d. ⌜ OneLeg (now (space .entry)) (now (space .exit)) (c .count) (d .count) (c .rows) (d .rows) os side q price l ⌝ }
 {
@@ -120,7 +102,7 @@ fn all_legs(
     space: &mut [i32],
     n: usize,
 ) -> Cuts
-    requires { ⌜ All FitOrder os × FitLegs s × (q ≤ 9999) × AtMost 99999 ps ⌝ }
+    requires { ⌜ FitLegs s × (q ≤ 9999) ⌝ }
     requires { ⌜ Room (now space) n (joinN (orderRecords os side q (s .legs) ps) (s .count)) ⌝ }
     ensures { λ c. ⌜ AllLegs (now (space .entry)) (now (space .exit)) n (c .count) (c .rows) os side q (s .legs) ps (s .count) ⌝ }
 {
@@ -140,19 +122,19 @@ fn take_legs(
     b: State,
     a: usize,
     s: Strategy,
-    ps: [u32; 6],
+    p: LegPrices,
     q: u32,
     space: &mut [i32],
     n: usize,
 ) -> After
-    requires { ⌜ (a < 32) × Fit b × FitLegs s × (q ≤ 9999) × AtMost 99999 ps ⌝ }
-    requires { ⌜ Room (now space) n (takeLegs b a s ps q .records) ⌝ }
-    ensures { λ t. ⌜ Done (now (space .entry)) (now (space .exit)) n (t .count) (t .state) (takeLegs b a s ps q) ⌝ }
+    requires { ⌜ (a < 32) × FitLegs s × (q ≤ 9999) × (p .net ≡ netOf s (p .prices)) ⌝ }
+    requires { ⌜ Room (now space) n (takeLegs b a s (p .prices) q .records) ⌝ }
+    ensures { λ t. ⌜ Done (now (space .entry)) (now (space .exit)) n (t .count) (t .state) (takeLegs b a s (p .prices) q) ⌝ }
 {
     let e = b.entries[a];
     let os = b.orders;
-    let level = net_of(s, ps);
-    let m = party_records(space, n, e, s, q, level, ps);
+    let ps = p.prices;
+    let m = party_records(space, n, e, s, q, p.net, ps);
     let c = all_legs(os, e.side, q, s, ps, space, m);
     let rows = c.rows;
     let mut d = cut(b, a, q);
@@ -173,8 +155,8 @@ pub fn leg_fill(b: State, a: usize, space: &mut [i32], n: usize) -> After
     let k = e.strategy as usize;
     let s = b.strategies[k];
     let os = b.orders;
-    let legs = s.legs;
-    let ps = prices(os, e.side, legs);
+    let p = leg_prices(os, e.side, s);
+    let ps = p.prices;
     let q = units_of(os, e.side, s, ps, e.units);
-    take_legs(b, a, s, ps, q, space, n)
+    take_legs(b, a, s, p, q, space, n)
 }

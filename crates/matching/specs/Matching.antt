@@ -25,10 +25,11 @@ use Rattle.rules.specs.Fills.{wholeFill}
 use Rattle.rules.specs.Passes.{turnAt, pass}
 use Rattle.rules.specs.Auctions.{liveIn, dayOrder, legPass, legPassesIn, ahead, bestSlot, crossed, matchOnce, matchAll, matchIn}
 use Rattle.rules.proofs.Control.{each-kept, legPass-kept, legPassesIn-kept, matchOnce-kept, shrinks-kept}
+use Rattle.rules.proofs.Turns.{idle}
 use Rattle.records.specs.Done.{Done}
-use Rattle.ranges.specs.Fit.{Fit, fit-entry, fit-done}
+use Rattle.ranges.specs.Fit.{Fit, fit-done}
 use Rattle.nets.specs.Ready.{netReady}
-use Rattle.passes.specs.Passes.{idle, stopsAt, legs-still}
+use Rattle.passes.specs.Passes.{stopsAt, legs-still}
 
 -- whether a strategy holds series s, is all open and has no auction
 unfoldable pub passesLegs : Strategy → ℕ → ℕ → Bool
@@ -149,12 +150,6 @@ module _ (b : State) (x y : ℕ) where
   pub match-sell : entryAt b y .number ≤ entryAt b x .number → {u : ℕ} → u ≡ min (entryAt b y .units) (entryAt b x .units) → matched b x y ≡ wholeFill b y x (entryAt b y .level) u
   unfolding matched pick
   match-sell h z = let t : ltb (entryAt b x .number) (entryAt b y .number) ≡ false = le-ltb _ _ h in rw (t, z)
-
-pub units-fit : {b : State} → Fit b → (x y : ℕ) → min (entryAt b x .units) (entryAt b y .units) ≤ 9999
-units-fit f x y = omega (arith, fit-entry (f .entries) x .units)
-
-pub limit-fits : {b : State} → Fit b → (x : ℕ) → entryAt b x .level ≤ 20_000_000
-limit-fits f x = omega (arith, fit-entry (f .entries) x .level)
 
 -- a match is the same at every turn
 match-turn : (k i j : ℕ) (b : State) → matchOnce k i b ≡ matchOnce k j b

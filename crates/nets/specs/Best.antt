@@ -6,8 +6,8 @@ use mathlib.Core.List.{List}
 use Prim.Native.Nat.{ℕ, zero, suc, _+_, _*_, _≤_, _<_}
 use native.Mathlib.Numerals.{add-one}
 use native.Mathlib.Omega.{arith}
-use borrow.Author.Tests.{eqb-true, eqb-false, eq-eqb, ne-eqb, ltb-true, ltb-false, le-ltb}
-use lib.Dec.{eqb, ltb}
+use borrow.Author.Tests.{eqb-true, eqb-false, eq-eqb, ne-eqb}
+use lib.Dec.{eqb}
 use lib.ListN.{getD}
 use Rattle.base.specs.Pick.{pick, pick-all, pick-by, pick-true, pick-false, pick-no, tests}
 use Rattle.base.specs.All.{All}
@@ -17,6 +17,7 @@ use Rattle.rules.specs.State.{noOrder}
 use Rattle.rules.specs.Sides.{better, bestPrice}
 use Rattle.rules.specs.Nets.{stands, priceWith, priceStep, priceOf, lot, lotAt}
 use Rattle.rules.specs.Valid.{FitOrder}
+use Rattle.rules.proofs.Firsts.{better-turn, better-past, better-alike}
 use Rattle.nets.specs.declared.Best.{Best}
 use Rattle.nets.specs.Nets.{contractsAt, contracts-most}
 
@@ -45,18 +46,13 @@ bestIn os s side k = record { price = priceIn os s side k; contracts = sumN (lot
 
 -- laws
 
-never-self : (side q : ℕ) → better side q q ≡ false
-unfolding better
-never-self side q = pick-all (λ (t : Bool). t ≡ false) _ (le-ltb q q (omega arith)) (le-ltb q q (omega arith))
-
 -- what is not better than p is not better than one that is better
 better-still : (side p q x : ℕ) → better side p q ≡ true → better side p x ≡ false → better side q x ≡ false
-unfolding better pick
-better-still side p q x = go (eqb side 0)
+better-still side p q x a b = by (better side q x) refl
   where
-    go : (t : Bool) → pick t (ltb p q) (ltb q p) ≡ true → pick t (ltb p x) (ltb x p) ≡ false → pick t (ltb q x) (ltb x q) ≡ false
-    go true h g = le-ltb q x (omega (arith, ltb-true p q h, ltb-false p x g))
-    go false h g = le-ltb x q (omega (arith, ltb-true q p h, ltb-false x p g))
+    by : (t : Bool) → better side q x ≡ t → better side q x ≡ false
+    by true e = absurd (clash (better-past side q x p e b) (better-turn side p q a))
+    by false e = e
 
 -- p is a price, and x is no better
 record Leads (side p x : ℕ) : Type 0 where
@@ -67,7 +63,7 @@ best-self : (side p q : ℕ) → 0 < q → Leads side (bestPrice side p q) q
 unfolding bestPrice
 best-self side p q h =
     let P : ℕ → Type 0 = λ (r : ℕ). Leads side r q in
-    let new : P q = record { some = h; not-better = never-self side q } in
+    let new : P q = record { some = h; not-better = better-alike side q } in
     pick-by P _ (λ e. new) (λ e. pick-by P _ (λ g. new) (λ g. record { some = (let n : ¬ (p ≡ 0) = eqb-false p 0 e in omega arith); not-better = g }))
 
 best-keeps : (side p q x : ℕ) → 0 < q → Leads side p x → Leads side (bestPrice side p q) x

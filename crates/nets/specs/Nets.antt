@@ -19,12 +19,17 @@ use Rattle.rules.specs.Nets.{priceWith, priceStep, priceOf, lot, lotAt, lots, l
 use Rattle.rules.specs.Valid.{FitLeg, FitOrder}
 use Rattle.ranges.specs.Most.{AtMost, table-most}
 use Rattle.ranges.specs.Fit.{FitLegs, fit-leg, fit-order}
+use Rattle.nets.specs.declared.LegPrices.{LegPrices}
 
 -- the contracts of a series and side at a price
 unfoldable pub contractsAt : List LegOrder → ℕ → ℕ → ℕ → ℕ
 contractsAt os s side price = sumN (lotAt os s side price) 32
 
--- they are the sum over the lots
+-- the best prices that a complex party of that side meets on the legs of a strategy, and their net
+unfoldable pub legPrices : List LegOrder → ℕ → Strategy → LegPrices
+legPrices os side s = record { prices = prices os side (s .legs); net = netOf s (prices os side (s .legs)) }
+
+-- the contracts at a price are the sum over the lots
 pub contracts-lots : (os : List LegOrder) (s side price : ℕ) → contractsAt os s side price ≡ sumN (slot (lots os s side price)) 32
 unfolding contractsAt lots
 contracts-lots os s side price = sum-same _ _ 32 (λ i h. sym (table-slot (lotAt os s side price) 0 32 i h))

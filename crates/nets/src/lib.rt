@@ -6,7 +6,7 @@ ghost use Rattle.rules.specs.Nets.{stands, priceWith, priceOf, lot, lots, legPr
 ghost use Rattle.rules.specs.Valid.{FitLeg, FitOrder};
 ghost use Rattle.ranges.specs.Most.{AtMost};
 ghost use Rattle.ranges.specs.Fit.{FitLegs};
-ghost use Rattle.nets.specs.Nets.{contractsAt};
+ghost use Rattle.nets.specs.Nets.{contractsAt, legPrices};
 ghost use Rattle.nets.specs.Best.{Priced, bestOf, bestWith};
 ghost use Rattle.nets.specs.Ready.{netReady};
 use records::least;
@@ -22,6 +22,12 @@ use sides::other;
 pub struct Best {
     pub price: u32,
     pub contracts: u32,
+}
+
+// The best price that a complex party meets on each leg (0: none), and the net of them, as a level (0: unknown).
+pub struct LegPrices {
+    pub prices: [u32; 6],
+    pub net: u32,
 }
 
 // Whether a leg order stands in that series and side.
@@ -106,7 +112,7 @@ fn leg_price(os: [LegOrder; 32], side: u8, l: Leg) -> u32
     price_of(os, l.series, on)
 }
 
-pub fn prices(os: [LegOrder; 32], side: u8, legs: [Leg; 6]) -> [u32; 6]
+fn prices(os: [LegOrder; 32], side: u8, legs: [Leg; 6]) -> [u32; 6]
     ensures { λ ps. ⌜ ps ≡ prices os side legs ⌝ }
 {
     let mut ps: [u32; 6] = [0; 6];
@@ -166,7 +172,7 @@ fn weighed(w: u8, legs: [Leg; 6], ps: [u32; 6], count: usize) -> u32
 }
 
 // The net of the buy legs less the sell legs, as a level; 0 where it is unknown.
-pub fn net_of(s: Strategy, ps: [u32; 6]) -> u32
+fn net_of(s: Strategy, ps: [u32; 6]) -> u32
     requires { ⌜ FitLegs s × AtMost 99999 ps ⌝ }
     ensures { λ r. ⌜ r ≡ netOf s ps ⌝ }
 {
@@ -178,6 +184,20 @@ pub fn net_of(s: Strategy, ps: [u32; 6]) -> u32
         return 10000000 + buys - sells;
     }
     0
+}
+
+// The best prices that a complex party of that side meets on the legs of a strategy, and their net.
+pub fn leg_prices(os: [LegOrder; 32], side: u8, s: Strategy) -> LegPrices
+    requires { ⌜ All FitOrder os × FitLegs s ⌝ }
+    ensures { λ r. ⌜ r ≡ legPrices os side s ⌝ }
+{
+    let legs = s.legs;
+    let ps = prices(os, side, legs);
+    let net = net_of(s, ps);
+    LegPrices {
+        prices: ps,
+        net: net,
+    }
 }
 
 // Rounded down.
@@ -266,9 +286,8 @@ pub fn leg_net(b: State, side: u8, k: usize) -> u32
     }
     let s = b.strategies[k];
     let os = b.orders;
-    let legs = s.legs;
-    let ps = prices(os, side, legs);
-    net_of(s, ps)
+    let p = leg_prices(os, side, s);
+    p.net
 }
 
 // The leg net that a complex party of that side meets where the legs give one unit, else 0.

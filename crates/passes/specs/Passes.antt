@@ -1,15 +1,12 @@
--- The turns of a pass: their levels are in range, they shrink the state, and none moves after one that stops.
+-- The turns of a pass: they shrink the state, and none moves after one that stops.
 use mathlib.Core.Path.{_≡_, refl, sym, ap}
 use mathlib.Core.Bool.{Bool, true, false, not}
 use mathlib.Core.List.{List}
-use Prim.Native.Nat.{ℕ, zero, suc, _+_, _-_, _≤_}
-use native.Mathlib.Nat.{zero-add, suc-add}
+use Prim.Native.Nat.{ℕ, _+_, _-_, _≤_}
 use native.Mathlib.Omega.{arith}
-use borrow.Author.Tests.{eqb-true, eqb-false, eq-eqb}
-use lib.Dec.{eqb}
+use borrow.Author.Tests.{eq-eqb}
 use lib.IntN.{ℤ}
-use Rattle.base.specs.Pick.{pick, pick-all, pick-true}
-use Rattle.base.specs.All.{All}
+use Rattle.base.specs.Pick.{pick, pick-true}
 use Rattle.rules.specs.declared.Entry.{Entry}
 use Rattle.rules.specs.declared.Strategy.{Strategy}
 use Rattle.rules.specs.declared.LegOrder.{LegOrder}
@@ -19,24 +16,18 @@ use Rattle.rules.specs.declared.Allocation.the-variants.{LegsOnly, Shared, Numb
 use Rattle.rules.specs.declared.Turn.{Turn}
 use Rattle.rules.specs.declared.Turn.the-variants.{Stop, ByLegs, AtLimit}
 use Rattle.rules.specs.State.{entryAt, strategyOf}
-use Rattle.rules.specs.Moves.{Moved, still, each}
+use Rattle.rules.specs.Moves.{still, each}
 use Rattle.rules.specs.Passes.{bestOpposite, opposite, ready, readyNet, turnAt, turnOf, take, turn, pass}
-use Rattle.rules.specs.Valid.{FitEntry}
 use Rattle.rules.proofs.Control.{each-kept, turn-kept, shrinks-kept}
-use Rattle.rules.proofs.Turns.{then-still, opposite-holder}
+use Rattle.rules.proofs.Turns.{idle}
 use Rattle.records.specs.Done.{Done}
-use Rattle.ranges.specs.Fit.{Fit, fit-entry, fit-done}
+use Rattle.ranges.specs.Fit.{Fit, fit-done}
 use Rattle.nets.specs.Ready.{netReady}
 
 unfoldable pub stopsAt : Turn → Bool
 stopsAt Stop = true
 stopsAt ByLegs = false
 stopsAt (AtLimit level) = false
-
-unfoldable pub turnLevel : Turn → ℕ
-turnLevel Stop = 0
-turnLevel ByLegs = 0
-turnLevel (AtLimit level) = level
 
 -- the best limit that a pass looks at, opposite e
 unfoldable pub oppositeIn : Allocation → List Entry → Entry → ℕ
@@ -75,26 +66,6 @@ pub turn-empty : (e : Entry) (x net : ℕ) → e .units ≡ 0 → Stop ≡ turnA
 unfolding turnAt
 turn-empty e x net z = sym (pick-true _ _ _ (eq-eqb _ _ z))
 
-best-most : (es : List Entry) (e : Entry) → All FitEntry es → bestOpposite es e ≤ 20_000_000
-best-most es e a = by (eqb (bestOpposite es e) 0) refl
-  where
-    by : (t : Bool) → eqb (bestOpposite es e) 0 ≡ t → bestOpposite es e ≤ 20_000_000
-    by true g = omega (arith, eqb-true (bestOpposite es e) 0 g)
-    by false g = let h = opposite-holder es e (eqb-false (bestOpposite es e) 0 g) in omega (arith, h .level, fit-entry a (h .at) .level)
-
-opposite-most : (way : Allocation) (a : ℕ) (b : State) → Fit b → opposite way a b ≤ 20_000_000
-unfolding opposite
-opposite-most LegsOnly a b f = omega arith
-opposite-most Shared a b f = best-most (b .entries) (entryAt b a) (f .entries)
-opposite-most Numbered a b f = best-most (b .entries) (entryAt b a) (f .entries)
-
-pub turn-most : (way : Allocation) (legs : Bool) (a : ℕ) (b : State) → Fit b → turnLevel (turnOf way legs a b) ≤ 20_000_000
-unfolding turnOf turnAt turnLevel
-turn-most way legs a b f =
-    let P : Turn → Type 0 = λ (t : Turn). turnLevel t ≤ 20_000_000 in
-    pick-all P _ (omega arith)
-    (pick-all P _ (pick-all P _ (omega arith) (omega arith)) (pick-all P _ (omega arith) (pick-all P _ (opposite-most way a b f) (omega arith))))
-
 -- the ranges after some turns
 pub fit-turns : (way : Allocation) (legs : Bool) (a i : ℕ) (b : State) {c : State} {sp sq : List ℤ} {n m : ℕ} → Fit b → Done sp sq n m c (each (turn way legs a) i b) → Fit c
 fit-turns way legs a i b f d = fit-done d (each-kept shrinks-kept (turn way legs a) (turn-kept shrinks-kept way legs a) i b (f .orderRows)) f
@@ -104,12 +75,6 @@ unfolding stopsAt take
 stop-still way a b Stop e = refl
 stop-still way a b ByLegs e = absurd (let z : _≡_ {A = ℕ} 0 1 = cc in omega arith)
 stop-still way a b (AtLimit level) e = absurd (let z : _≡_ {A = ℕ} 0 1 = cc in omega arith)
-
--- where nothing moves at any later slot
-pub idle : (f : ℕ → State → Moved) (b : State) (i : ℕ) → ((j : ℕ) → f j (each f i b .state) ≡ still (each f i b .state)) → (d : ℕ) → each f (d + i) b ≡ each f i b
-unfolding each
-idle f b i h zero = rw zero-add
-idle f b i h (suc d) = let e = idle f b i h d in rw (suc-add, e) (then-still (each f i b) (f (d + i)) (h (d + i)))
 
 -- from a turn that stops nothing moves
 pub pass-stops : (way : Allocation) (legs : Bool) (a k i : ℕ) (b c : State) → i ≤ k → c ≡ each (turn way legs a) i b .state → stopsAt (turnOf way legs a c) ≡ true

@@ -1,13 +1,13 @@
 // Passes: an active entry is filled at the best opposite limits of its strategy, by its legs, or by both.
 ghost use mathlib.Core.Path.{_≡_};
-ghost use Prim.Native.Nat.{_+_, _-_, _<_, _≤_};
+ghost use Prim.Native.Nat.{_+_, _-_, _<_};
 ghost use Rattle.base.specs.All.{All};
 ghost use Rattle.rules.specs.Valid.{FitOrder};
 ghost use Rattle.rules.specs.Passes.{legsFirst, turnAt, meetLimit, take, pass};
 ghost use Rattle.records.specs.Space.{Room};
 ghost use Rattle.records.specs.Done.{Done};
 ghost use Rattle.ranges.specs.Fit.{FitLegs, Fit};
-ghost use Rattle.passes.specs.Passes.{stopsAt, turnLevel, oppositeIn, netIn};
+ghost use Rattle.passes.specs.Passes.{stopsAt, oppositeIn, netIn};
 use fills::give_in_turn;
 use fills::give_shared;
 use legging::leg_fill;
@@ -102,7 +102,7 @@ fn turn_of(
 
 // The holders of a limit are met.
 fn meet_limit(way: Allocation, b: State, a: usize, level: u32, space: &mut [i32], n: usize) -> After
-    requires { ⌜ (a < 32) × Fit b × (level ≤ 20000000) ⌝ }
+    requires { ⌜ (a < 32) × Fit b ⌝ }
     requires { ⌜ Room (now space) n (meetLimit way a level b .records) ⌝ }
     ensures { λ t. ⌜ Done (now (space .entry)) (now (space .exit)) n (t .count) (t .state) (meetLimit way a level b) ⌝ }
 {
@@ -114,7 +114,7 @@ fn meet_limit(way: Allocation, b: State, a: usize, level: u32, space: &mut [i32]
 }
 
 fn take(way: Allocation, b: State, a: usize, t: Turn, space: &mut [i32], n: usize) -> After
-    requires { ⌜ (a < 32) × Fit b × (turnLevel t ≤ 20000000) ⌝ }
+    requires { ⌜ (a < 32) × Fit b ⌝ }
     requires { ⌜ Room (now space) n (take way a t b .records) ⌝ }
     ensures { λ r. ⌜ Done (now (space .entry)) (now (space .exit)) n (r .count) (r .state) (take way a t b) ⌝ }
 {

@@ -1,5 +1,6 @@
 -- What a function that follows a rule leaves: the rule's records in the space, the next place, and the rule's state.
 use mathlib.Core.Path.{_≡_, refl, ap, subst}
+use mathlib.Core.Logic.{⊎-elim}
 use mathlib.Core.List.{List}
 use Prim.Native.Nat.{ℕ, zero, suc, _+_, _-_, _≤_, _<_}
 use native.Mathlib.Nat.{zero-add, suc-add}
@@ -9,7 +10,9 @@ use lib.IntN.{ℤ}
 use lib.ListN.{length, length-append}
 use Rattle.rules.specs.declared.State.{State}
 use Rattle.rules.specs.Moves.{Moved, still, and-then, each}
-use Rattle.records.specs.Space.{Wrote, Room, wrote-nil, wrote-append, wrote-length}
+use Rattle.base.specs.All.{All, all-first, all-rest}
+use Rattle.base.specs.Walks.{below}
+use Rattle.records.specs.Space.{Small, Wrote, Room, wrote-nil, wrote-append, wrote-length, room-first, room-next}
 
 -- A function that follows a rule x: from place n of the space sp it wrote the rule's records, up to place m, and ends in its book.
 pub record Done (sp sq : List ℤ) (n m : ℕ) (b : State) (x : Moved) : Type 0 where
@@ -33,12 +36,11 @@ done-then x f d e = let g = rw (d .state) at e in record { wrote = wrote-append 
 
 pub room-then : (x : Moved) (f : State → Moved) {sp : List ℤ} {n : ℕ} → Room sp n (and-then x f .records) → Room sp n (x .records)
 unfolding and-then
-room-then x f r = record { count = omega (arith, r .count, length-append (x .records) (f (x .state) .records)); space = r .space }
+room-then x f r = room-first (x .records) (f (x .state) .records) r
 
 pub room-after : (x : Moved) (f : State → Moved) {sp sq : List ℤ} {n m : ℕ} {b : State} → Room sp n (and-then x f .records) → Done sp sq n m b x → Room sq m (f b .records)
 unfolding and-then
-room-after x f r d =
-    rw (d .state) (record { count = omega (arith, r .count, d .wrote .count, length-append (x .records) (f (x .state) .records)); space = omega (arith, r .space, done-length d) })
+room-after x f r d = rw (d .state) (room-next (x .records) (f (x .state) .records) r (d .wrote))
 
 -- the loop over the slots: none passed yet, and one more
 pub each-first : (sp : List ℤ) (n : ℕ) (f : ℕ → State → Moved) (b : State) → Done sp sp n n b (each f 0 b)
@@ -54,6 +56,11 @@ unfolding each and-then
 each-rise f b i zero = rw zero-add (omega arith)
 each-rise f b i (suc j) = let h = each-rise f b i j in rw (suc-add, length-append) (omega arith)
 
+each-small : (f : ℕ → State → Moved) (b : State) (k i : ℕ) → i < k → All Small (each f k b .records) → All Small (f i (each f i b .state) .records)
+unfolding each and-then
+each-small f b zero i h a = absurd (omega arith)
+each-small f b (suc k) i h a = ⊎-elim (λ e. rw e (all-rest (each f k b .records) _ a)) (λ l. each-small f b k i l (all-first (each f k b .records) _ a)) (below h)
+
 -- room for all slots is room for the next one
 pub room-each : (f : ℕ → State → Moved) (k i : ℕ) (b₀ : State) {sp sq : List ℤ} {n m : ℕ} {b : State} → Room sp n (each f k b₀ .records) → i < k → Done sp sq n m b (each f i b₀) → Room sq m (f i b .records)
 unfolding each and-then
@@ -64,6 +71,7 @@ room-each f k i b₀ r h d =
     (record {
       count = omega (arith, r .count, d .wrote .count, length-append (each f i b₀ .records) (f i (each f i b₀ .state) .records), each-rise f b₀ (suc i) (k - suc i), e);
       space = omega (arith, r .space, done-length d);
+      small = each-small f b₀ k i h (r .small);
     })
 
 pub room-of : {sp : List ℤ} {n : ℕ} {x y : Moved} → x ≡ y → Room sp n (x .records) → Room sp n (y .records)

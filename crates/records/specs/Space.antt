@@ -14,7 +14,8 @@ use lib.Signed.{mag}
 use lib.IntN.{ℤ, pos, negsuc, _-ℤ_}
 use lib.ListN.{length, set, length-append}
 use lib.Seq.{sets, length-sets}
-use Rattle.base.specs.Walks.{joinN}
+use Rattle.base.specs.All.{All, all-first, all-rest}
+use Rattle.base.specs.Walks.{joinN, join-all}
 use Rattle.rules.specs.declared.Kind.{Kind}
 use Rattle.rules.specs.declared.Kind.the-variants.{WholeFill, LegFill, LegOrderFill, Cancelled, LegOrderCancelled, AuctionBegun, AuctionEnded}
 use Rattle.rules.specs.declared.Record.{Record}
@@ -34,16 +35,17 @@ pub record Wrote (s t : List ℤ) (n m : ℕ) (rs : List Record) : Type 0 where
   pub count : m ≡ n + length rs
   pub space : t ≡ laid s n rs
 
--- there is room for rs from place n on: "Each event is lent space for 2,560 records"
+-- "Six signed 32-bit numbers each": a record's numbers fit (kind, place and side are smaller by their types)
+pub record Small (r : Record) : Type 0 where
+  pub number : r .number < 2_147_483_648
+  pub quantity : r .quantity < 2_147_483_648
+  pub level : r .level < 2_147_483_648
+
+-- there is room for rs from place n on: "Each event is lent space for 2,560 records", and each of them fits it
 pub record Room (s : List ℤ) (n : ℕ) (rs : List Record) : Type 0 where
   pub count : n + length rs ≤ 2560
   pub space : 15_360 ≤ length s
-
--- a record whose numbers fit 32 bits
-pub record Small (r : Record) : Type 0 where
-  pub number : r .number ≤ 100_000
-  pub quantity : r .quantity ≤ 200_000
-  pub level : r .level ≤ 20_000_000
+  pub small : All Small rs
 
 -- laws
 
@@ -58,11 +60,11 @@ kind-small AuctionBegun = omega arith
 kind-small AuctionEnded = omega arith
 
 -- a level's price in signed arithmetic
-pub cents-is : (l : ℕ) → l ≤ 20_000_000 → toZ w32 l -ℤ toZ w32 10_000_000 ≡ cents l
+pub cents-is : (l : ℕ) → l < 2_147_483_648 → toZ w32 l -ℤ toZ w32 10_000_000 ≡ cents l
 unfolding cents
 cents-is l h = rw (toZ-pos w32 {n = l} (omega arith))
 
-pub cents-fits : (l : ℕ) → l ≤ 20_000_000 → SFits w32 (cents l)
+pub cents-fits : (l : ℕ) → l < 2_147_483_648 → SFits w32 (cents l)
 unfolding cents
 cents-fits l h = record { sfits = by (ltb l 10_000_000) }
   where
@@ -147,10 +149,11 @@ wrote-next f i a b = rw (add-one i) (wrote-append a b)
 
 -- room for two lists is room for the first, and then for the second
 pub room-first : (rs qs : List Record) {s : List ℤ} {n : ℕ} → Room s n (rs ++ qs) → Room s n rs
-room-first rs qs r = record { count = omega (arith, r .count, length-append rs qs); space = r .space }
+room-first rs qs r = record { count = omega (arith, r .count, length-append rs qs); space = r .space; small = all-first rs qs (r .small) }
 
 pub room-next : (rs qs : List Record) {s t : List ℤ} {n m : ℕ} → Room s n (rs ++ qs) → Wrote s t n m rs → Room t m qs
-room-next rs qs r w = record { count = omega (arith, r .count, w .count, length-append rs qs); space = omega (arith, r .space, wrote-length w) }
+room-next rs qs r w =
+    record { count = omega (arith, r .count, w .count, length-append rs qs); space = omega (arith, r .space, wrote-length w); small = all-rest rs qs (r .small) }
 
 join-rise : (f : ℕ → List Record) (i j : ℕ) → length (joinN f i) ≤ length (joinN f (j + i))
 unfolding joinN
@@ -163,4 +166,8 @@ unfolding joinN
 room-row f k i r h w =
     let q : k ≡ k - suc i + suc i = omega arith in
     let e : length (joinN f k) ≡ length (joinN f (k - suc i + suc i)) = ap (λ (j : ℕ). length (joinN f j)) q in
-    record { count = omega (arith, r .count, w .count, length-append (joinN f i) (f i), join-rise f (suc i) (k - suc i), e); space = omega (arith, r .space, wrote-length w) }
+    record {
+      count = omega (arith, r .count, w .count, length-append (joinN f i) (f i), join-rise f (suc i) (k - suc i), e);
+      space = omega (arith, r .space, wrote-length w);
+      small = join-all f k i h (r .small);
+    }

@@ -1,10 +1,10 @@
 // Records written into a space that the caller lends, and what every function that moves the state hands back.
 ghost use mathlib.Core.Path.{_≡_};
 ghost use mathlib.Core.List.{[], _∷_};
-ghost use Prim.Native.Nat.{_+_, _*_, _-_, _<_, _≤_, min};
+ghost use Prim.Native.Nat.{_+_, _*_, _-_, _<_, min};
 ghost use Rattle.rules.specs.Records.{kindNumber, cents};
 ghost use Rattle.rules.specs.State.{withOrders};
-ghost use Rattle.records.specs.Space.{Small, Wrote, Room};
+ghost use Rattle.records.specs.Space.{Wrote, Room};
 use rules::Entry;
 use rules::Kind;
 use rules::LegOrder;
@@ -34,7 +34,7 @@ fn kind_number(kind: Kind) -> u32
 
 // A level's price in cents.
 fn cents(level: u32) -> i32
-    requires { ⌜ level ≤ 20000000 ⌝ }
+    requires { ⌜ level < 2147483648 ⌝ }
     ensures { λ r. ⌜ r ≡ cents level ⌝ }
 {
     level as i32 - 10000000
@@ -43,7 +43,6 @@ fn cents(level: u32) -> i32
 // One record at place n of the space, counted in records; answers the next place.
 pub fn push(space: &mut [i32], n: usize, r: Record) -> usize
     requires { ⌜ Room (now space) n (r ∷ []) ⌝ }
-    requires { ⌜ Small r ⌝ }
     ensures { λ m. ⌜ Wrote (now (space .entry)) (now (space .exit)) n m (r ∷ []) ⌝ }
 {
     let k = r.kind;

@@ -88,7 +88,7 @@ fit-none = record { number = omega arith; member = omega arith; strategy = omega
 pub fit-no-order : FitOrder noOrder
 fit-no-order = record { number = omega arith; member = omega arith; series = omega arith; side = omega arith; contracts = omega arith; price = omega arith }
 
-fit-no-leg : FitLeg noLeg
+pub fit-no-leg : FitLeg noLeg
 fit-no-leg = record { series = omega arith; side = omega arith; ratio = omega arith }
 
 no-ones : sizeOf 0 ≡ 0
@@ -373,8 +373,8 @@ sound-opened b o s h = sound-set b (b .clock) o s (s .clock) h
 
 -- Rows that have lost at most a quantity.
 
-fit-entry : {e f : Entry} → SameEntry e f → FitEntry e → FitEntry f
-fit-entry h f = record {
+pub entry-fits : {e f : Entry} → SameEntry e f → FitEntry e → FitEntry f
+entry-fits h f = record {
   number = omega (arith, h .number, f .number);
   member = omega (arith, h .member, f .member);
   strategy = omega (arith, h .strategy, f .strategy);
@@ -385,8 +385,8 @@ fit-entry h f = record {
   level = omega (arith, h .level, f .level);
 }
 
-fit-order : {o p : LegOrder} → SameOrder o p → FitOrder o → FitOrder p
-fit-order h f = record {
+pub order-fits : {o p : LegOrder} → SameOrder o p → FitOrder o → FitOrder p
+order-fits h f = record {
   number = omega (arith, h .number, f .number);
   member = omega (arith, h .member, f .member);
   series = omega (arith, h .series, f .series);
@@ -450,8 +450,8 @@ sound-auctions b s = record {
 pub sound-shrinks : {b c : State} → Shrinks b c → Auctions c → Sound b → Sound c
 sound-shrinks {b} {c} h a s = record {
   strategies = all-of FitStrategy noStrategy (c .strategies) (λ k. fit-strategy (h .strategy k) (a .starter k) (a .begun k) (fit-at b s k));
-  entries = all-of FitEntry noEntry (c .entries) (λ i. fit-entry (h .entry i) (fit-entry-at b s i));
-  orders = all-of FitOrder noOrder (c .orders) (λ i. fit-order (h .order i) (fit-order-at b s i));
+  entries = all-of FitEntry noEntry (c .entries) (λ i. entry-fits (h .entry i) (fit-entry-at b s i));
+  orders = all-of FitOrder noOrder (c .orders) (λ i. order-fits (h .order i) (fit-order-at b s i));
   strategyRows = h .strategyRows ∙ s .strategyRows;
   entryRows = h .entryRows ∙ s .entryRows;
   orderRows = h .orderRows ∙ s .orderRows;

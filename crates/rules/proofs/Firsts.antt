@@ -43,7 +43,7 @@ better-turn side x y = by (eqb side 0)
     by true e = le-ltb y x (omega (arith, ltb-true x y e))
     by false e = le-ltb x y (omega (arith, ltb-true y x e))
 
-better-past : (side x y z : ℕ) → better side x y ≡ true → better side z y ≡ false → better side x z ≡ true
+pub better-past : (side x y z : ℕ) → better side x y ≡ true → better side z y ≡ false → better side x z ≡ true
 unfolding better pick
 better-past side x y z = by (eqb side 0)
   where
@@ -51,7 +51,7 @@ better-past side x y z = by (eqb side 0)
     by true e f = lt-ltb x z (omega (arith, ltb-true x y e, ltb-false z y f))
     by false e f = lt-ltb z x (omega (arith, ltb-true y x e, ltb-false y z f))
 
-better-alike : (side x : ℕ) → better side x x ≡ false
+pub better-alike : (side x : ℕ) → better side x x ≡ false
 unfolding better
 better-alike side x = pick-all (λ (t : Bool). t ≡ false) _ (le-ltb x x (omega arith)) (le-ltb x x (omega arith))
 

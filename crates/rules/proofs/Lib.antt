@@ -22,6 +22,7 @@ pub mod LegLoad
 pub mod PassLoad
 pub mod Bound
 pub mod Room
+pub mod Told
 pub mod Positive
 pub mod Laws
 pub mod Accounts

@@ -6,10 +6,10 @@ use native.Mathlib.Nat.{mul-le-mul}
 use native.Mathlib.Omega.{arith}
 use borrow.Author.Tests.{eqb-false}
 use lib.Dec.{eqb}
-use lib.ListN.{getD, length, replicate}
+use lib.ListN.{getD, length}
 use Rattle.base.specs.Pick.{pick-by, pick-all}
 use Rattle.base.specs.All.{All, all-nil, all-cons, all-append, all-at}
-use Rattle.base.specs.Walks.{slot, joinN}
+use Rattle.base.specs.Walks.{slot, all-join}
 use Rattle.rules.specs.declared.Strategy.{Strategy}
 use Rattle.rules.specs.declared.Entry.{Entry}
 use Rattle.rules.specs.declared.LegOrder.{LegOrder}
@@ -17,14 +17,14 @@ use Rattle.rules.specs.declared.State.{State}
 use Rattle.rules.specs.declared.Record.{Record}
 use Rattle.rules.specs.declared.Kind.{Kind}
 use Rattle.rules.specs.declared.Kind.the-variants.{WholeFill, LegFill, LegOrderFill, Cancelled, LegOrderCancelled, AuctionBegun, AuctionEnded}
-use Rattle.rules.specs.State.{noStrategy, freeStrategy, noOrder, fresh, entryAt, orderAt, strategyAt, strategyOf, legAt, withEntries, withOrders, withOpened, withClock, withLast}
-use Rattle.rules.specs.Moves.{Moved, still, and-then, each}
+use Rattle.rules.specs.State.{noStrategy, noOrder, entryAt, orderAt, strategyAt, strategyOf, legAt, withEntries, withOrders, withOpened, withClock, withLast}
+use Rattle.rules.specs.Moves.{Moved}
 use Rattle.rules.specs.Nets.{prices, netOf, unitsOf}
 use Rattle.rules.specs.Fills.{partyRecords, legRecordAt, noPrices, wholeFill, orderRow, orderRows, orderRecords, quotasAt, takeLegs, legFill, legTrade, cancelEntry, cancelOrder}
 use Rattle.rules.specs.Auctions.{begin, close}
-use Rattle.rules.specs.Events.{liveOrder, enter, enterOrder, onSweep, enterSweep, onSeries, closeRunning, cancelLowest, restart, onDayEnd}
-use Rattle.rules.specs.Given.{orderGiven, sweepGiven, legOrderGiven}
-use Rattle.rules.specs.Step.{Outcome, accept, refused, perform, decide, step}
+use Rattle.rules.specs.Events.{liveOrder, enter, enterOrder}
+use Rattle.rules.specs.Given.{orderGiven, legOrderGiven}
+use Rattle.rules.specs.Step.{Outcome, refused, perform, decide, step}
 use Rattle.rules.specs.Valid.{Sound}
 use Rattle.events.specs.declared.Event.{Event}
 use Rattle.events.specs.declared.Event.the-variants as E
@@ -34,7 +34,8 @@ use Rattle.frames.specs.Frames.{readOf}
 use Rattle.rules.proofs.Tables.{behind-length}
 use Rattle.rules.proofs.Entering.{fit-past}
 use Rattle.rules.proofs.Shrinks.{Shrinks, whole-shrinks, legs-shrinks, trade-shrinks, cancel-shrinks, cancelOrder-shrinks, begin-shrinks, close-shrinks, answer-shrinks}
-use Rattle.rules.proofs.Control.{Legged, Trading, Kept, meets-standing, legged-some, each-kept, closeRunning-kept, cancelLowest-kept, shut-kept, reopen-kept, onOrder-kept, onLegOrder-kept, cancelNumber-kept, onClock-kept}
+use Rattle.rules.proofs.Control.{Legged, Trading, Kept, meets-standing, legged-some}
+use Rattle.rules.proofs.Told.{Told, Starts, told-nothing, told-both, accept-told}
 
 -- a record of a fill has some quantity
 unfoldable pub Filled : Record → Type 0
@@ -58,14 +59,8 @@ ratios-shrink : {b c : State} → Shrinks b c → Ratios b → Ratios c
 ratios-shrink h r = record { used = λ k i l. rw (h .strategy k .legs) (r .used k i (rw (h .strategy k .count) at l)); rows = h .orderRows ∙ r .rows }
 
 -- the move's fills have some quantity, and leave the ratios
-pub record Positive (b : State) (m : Moved) : Type 0 where
-  pub fills : Ratios b → All Filled (m .records)
-  pub ratios : Ratios b → Ratios (m .state)
-
-all-join : (f : ℕ → List Record) (k : ℕ) → ((i : ℕ) → i < k → All Filled (f i)) → All Filled (joinN f k)
-unfolding joinN
-all-join f zero h = all-nil
-all-join f (suc k) h = all-append (all-join f k (λ i l. h i (omega arith))) (h k (omega arith))
+abbrev Positive : State → Moved → Type 0
+Positive = Told Ratios Filled
 
 some-times : (r q : ℕ) → 0 < r → 0 < q → 0 < r * q
 some-times r q a b = let h : 1 * 1 ≤ r * q = mul-le-mul a b in h
@@ -82,9 +77,6 @@ row-filled o q price = pick-by (All Filled) (eqb q 0) (λ _. all-nil) (λ t. all
     some : (q : ℕ) → (q ≡ 0 → ⊥) → 0 < q
     some zero n = absurd (n refl)
     some (suc q) n = omega arith
-
-nothing-positive : (b : State) → Positive b (still b)
-nothing-positive b = record { fills = λ _. all-nil; ratios = λ r. r }
 
 whole-filled : (b : State) (a h level q : ℕ) → 0 < q → Ratios b → All Filled (wholeFill b a h level q .records)
 unfolding wholeFill
@@ -130,48 +122,25 @@ close-filled : (b : State) (k : ℕ) → All Filled (close k b .records)
 unfolding close Filled
 close-filled b k = all-cons tt all-nil
 
-both : (b : State) (x : Moved) (f : State → Moved) → Positive b x → Positive (x .state) (f (x .state)) → Positive b (and-then x f)
-unfolding and-then
-both b x f h k = record { fills = λ r. all-append (h .fills r) (k .fills (h .ratios r)); ratios = λ r. k .ratios (h .ratios r) }
-
 -- every proper fill is such, so every rule is
 pub positive-kept : Kept Positive
 positive-kept = record {
-  nothing = nothing-positive;
-  both = both;
-  whole = λ b a h level q p. record { fills = whole-filled b a h level q (p .some); ratios = ratios-shrink (whole-shrinks b a h level q) };
-  legs = λ b a l. record { fills = legs-filled b a l; ratios = λ r. ratios-shrink (legs-shrinks b (r .rows) a) r };
-  trade = λ b a h t. record { fills = λ _. trade-filled b a h t; ratios = ratios-shrink (trade-shrinks b a h) };
-  cancel = λ b i. record { fills = λ _. cancel-filled b i; ratios = ratios-shrink (cancel-shrinks b i) };
-  cancelOrder = λ b i. record { fills = λ _. cancelOrder-filled b i; ratios = ratios-shrink (cancelOrder-shrinks b i) };
-  begins = λ b i. record { fills = λ _. begin-filled b i; ratios = ratios-shrink (begin-shrinks b i) };
-  closes = λ b k. record { fills = λ _. close-filled b k; ratios = ratios-shrink (close-shrinks b k) };
-  answers = λ b k side. record { fills = λ _. all-nil; ratios = ratios-shrink (answer-shrinks b k side) };
+  nothing = told-nothing;
+  both = told-both;
+  whole = λ b a h level q p. record { records = whole-filled b a h level q (p .some); state = ratios-shrink (whole-shrinks b a h level q) };
+  legs = λ b a l. record { records = legs-filled b a l; state = λ r. ratios-shrink (legs-shrinks b (r .rows) a) r };
+  trade = λ b a h t. record { records = λ _. trade-filled b a h t; state = ratios-shrink (trade-shrinks b a h) };
+  cancel = λ b i. record { records = λ _. cancel-filled b i; state = ratios-shrink (cancel-shrinks b i) };
+  cancelOrder = λ b i. record { records = λ _. cancelOrder-filled b i; state = ratios-shrink (cancelOrder-shrinks b i) };
+  begins = λ b i. record { records = λ _. begin-filled b i; state = ratios-shrink (begin-shrinks b i) };
+  closes = λ b k. record { records = λ _. close-filled b k; state = ratios-shrink (close-shrinks b k) };
+  answers = λ b k side. record { records = λ _. all-nil; state = ratios-shrink (answer-shrinks b k side) };
 }
 
 -- Every event of a sound state.
 
 pub sound-ratios : {b : State} → Sound b → Ratios b
 sound-ratios s = record { used = λ k. all-at noStrategy fit-past (s .strategies) k .used; rows = s .orderRows }
-
-count-none : (n k : ℕ) → getD (replicate n freeStrategy) k noStrategy .count ≡ 0
-count-none zero k = refl
-count-none (suc n) zero = refl
-count-none (suc n) (suc k) = count-none n k
-
-fresh-ratios : (t : ℕ) → Ratios (fresh t)
-unfolding fresh
-fresh-ratios t = record { used = λ k i h. absurd (none k h); rows = refl }
-  where
-    none : (k : ℕ) {i : ℕ} → i < getD (replicate 16 freeStrategy) k noStrategy .count → ⊥
-    none k h = omega (arith, count-none 16 k)
-
-day-end : (t : ℕ) (b : State) → Positive b (onDayEnd t b)
-unfolding onDayEnd restart
-day-end t b =
-    both b (each closeRunning 16 b) _ (each-kept positive-kept closeRunning (closeRunning-kept positive-kept) 16 b)
-    (both _ (each cancelLowest 64 _) _ (each-kept positive-kept cancelLowest (cancelLowest-kept positive-kept) 64 _)
-    (record { fills = λ _. all-nil; ratios = λ _. fresh-ratios t }))
 
 entered : (e : Entry) (b : State) → Ratios b → Ratios (enter e b)
 unfolding enter withLast withEntries
@@ -181,40 +150,21 @@ orderEntered : (o : LegOrder) (b : State) → Ratios b → Ratios (enterOrder o 
 unfolding enterOrder withLast withOrders
 orderEntered o b r = record { used = r .used; rows = behind-length liveOrder noOrder o (b .orders) }
 
-clocked : (t : ℕ) (b : State) → Ratios b → Ratios (withClock b t)
-unfolding withClock
-clocked t b r = record { used = r .used; rows = r .rows }
-
-opened : (x : ℕ) (b : State) → Ratios b → Ratios (withOpened b x)
-unfolding withOpened
-opened x b r = record { used = r .used; rows = r .rows }
-
-series-filled : (s state : ℕ) (b : State) → Ratios b → All Filled (onSeries s state b .records)
-unfolding onSeries
-series-filled s state b r =
-    let P : Moved → Type 0 = λ (m : Moved). All Filled (m .records) in
-    pick-all P _ (pick-all P _ (shut-kept positive-kept s b .fills (opened _ b r)) all-nil)
-    (pick-all P _ all-nil (reopen-kept positive-kept s b .fills (opened _ b r)))
-
-sweep-filled : (e : Entry) (b : State) → All Filled (onSweep e b .records)
-unfolding onSweep and-then enterSweep
-sweep-filled e b = all-append (cancel-filled b _) (pick-all (λ (m : Moved). All Filled (m .records)) _ all-nil all-nil)
-
-accept-filled : (b : State) (e : Event) → Ratios b → All Filled (accept b e .records)
-unfolding accept
-accept-filled b (E.Strategy e) r = all-nil
-accept-filled b (E.Order e) r = onOrder-kept positive-kept (orderGiven b e) b .fills (entered (orderGiven b e) b r)
-accept-filled b (E.Sweep e) r = sweep-filled (sweepGiven b e) b
-accept-filled b (E.LegOrder e) r = onLegOrder-kept positive-kept (legOrderGiven b e) b .fills (orderEntered (legOrderGiven b e) b r)
-accept-filled b (E.Cancel e) r = cancelNumber-kept positive-kept (e .number) b .fills r
-accept-filled b (E.Series e) r = series-filled (e .series) (e .state) b r
-accept-filled b (E.Clock e) r = onClock-kept positive-kept (e .time) b .fills (clocked (e .time) b r)
-accept-filled b (E.DayEnd e) r = day-end (e .timer) b .fills r
+starts : (b : State) (e : Event) → Ratios b → Starts Ratios b e
+unfolding withOpened withClock
+starts b (E.Strategy e) r = tt
+starts b (E.Order e) r = entered (orderGiven b e) b r
+starts b (E.Sweep e) r = r
+starts b (E.LegOrder e) r = orderEntered (legOrderGiven b e) b r
+starts b (E.Cancel e) r = r
+starts b (E.Series e) r = λ x. record { used = r .used; rows = r .rows }
+starts b (E.Clock e) r = record { used = r .used; rows = r .rows }
+starts b (E.DayEnd e) r = r
 
 perform-filled : (b : State) (r : Reading) → Ratios b → All Filled (perform b r .moved .records)
 unfolding perform refused
 perform-filled b (R.Refused n) r = all-nil
-perform-filled b (R.Event e) r = accept-filled b e r
+perform-filled b (R.Event e) r = accept-told positive-kept b e (starts b e r)
 
 pub fills-positive : (b : State) → Sound b → (frame : List ℕ) (space : ℕ) → All Filled (step b frame space .moved .records)
 unfolding step decide refused

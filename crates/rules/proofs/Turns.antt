@@ -4,6 +4,7 @@ use mathlib.Core.Bool.{Bool, true, false}
 use mathlib.Core.List.{List, append-nil}
 use mathlib.Core.Logic.{_⊎_, inl, inr, ⊎-elim}
 use Prim.Native.Nat.{ℕ, zero, suc, _+_, _-_, _≤_, _<_}
+use native.Mathlib.Nat.{zero-add, suc-add}
 use native.Mathlib.Omega.{arith}
 use borrow.Author.Tests.{eqb-false}
 use lib.Dec.{eqb}
@@ -24,6 +25,12 @@ use Rattle.rules.specs.Passes.{opposes, limitWith, limitStep, bestOpposi
 pub then-still : (x : Moved) (f : State → Moved) → f (x .state) ≡ still (x .state) → and-then x f ≡ x
 unfolding and-then
 then-still x f e = rw (e, append-nil)
+
+-- where nothing moves at any later slot
+pub idle : (f : ℕ → State → Moved) (b : State) (i : ℕ) → ((j : ℕ) → f j (each f i b .state) ≡ still (each f i b .state)) → (d : ℕ) → each f (d + i) b ≡ each f i b
+unfolding each
+idle f b i h zero = rw zero-add
+idle f b i h (suc d) = let e = idle f b i h d in rw (suc-add, e) (then-still (each f i b) (f (d + i)) (h (d + i)))
 
 -- A turn repeated: it stops, and then moves nothing, or it lowers a number that is left.
 module _ (turn : ℕ → State → Moved) (stops : State → Bool) (left : State → ℕ)

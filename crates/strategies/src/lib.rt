@@ -33,10 +33,12 @@ fn put_leg(o: Ordered, l: Leg) -> Ordered
 }
 
 // Whether a set of series has a series.
-fn has(x: u32, s: u8) -> bool
-    requires { ⌜ s < 32 ⌝ }
+pub fn has(x: u32, s: u8) -> bool
     ensures { λ r. ⌜ r ≡ has x s ⌝ }
 {
+    if 31 < s {
+        return false;
+    }
     let y = (x >> s as u32) % 2;
     y == 1
 }

@@ -2,28 +2,25 @@
 use mathlib.Core.Path.{_≡_, refl, sym, _∙_, ap}
 use mathlib.Core.Bool.{Bool, true, false}
 use mathlib.Core.Logic.{⊎-elim}
-use mathlib.Core.List.{List, [], _∷_, append-nil}
+use mathlib.Core.List.{List, [], _∷_}
 use Prim.Native.Nat.{ℕ, zero, suc, _+_, _-_, _≤_, _<_, min}
-use native.Mathlib.Nat.{zero-add, suc-add}
 use native.Mathlib.Omega.{arith}
 use borrow.Author.Tests.{eq-eqb, ne-eqb, lt-ltb, le-ltb}
 use lib.Dec.{eqb, ltb}
 use lib.IntN.{ℤ}
 use lib.ListN.{length, getD, set, length-set, List·getD-eq-default}
-use Rattle.base.specs.Pick.{pick, pick-all, pick-true, pick-false}
-use Rattle.base.specs.All.{All, all-set}
+use Rattle.base.specs.Pick.{pick, pick-all, pick-true, pick-false, tests}
 use Rattle.base.specs.Walks.{lt-or-le}
 use Rattle.rules.specs.declared.LegOrder.{LegOrder}
 use Rattle.rules.specs.declared.Record.{Record}
 use Rattle.rules.specs.declared.State.{State}
 use Rattle.rules.specs.State.{noOrder, orderAt, withOrders}
 use Rattle.rules.specs.Moves.{Moved, still, and-then, each}
-use Rattle.rules.specs.Fills.{orderRecord, cutOrder, cutLeg, legTrade, cancelLegRecord, cancelOrder}
+use Rattle.rules.specs.Fills.{orderRecord, orderRow, cutOrder, cutLeg, legTrade, cancelLegRecord, cancelOrder}
 use Rattle.rules.specs.Events.{bestOrder, tradeOnce, tradeAll}
-use Rattle.rules.specs.Valid.{FitOrder}
-use Rattle.records.specs.Space.{Small, Wrote, Room}
+use Rattle.rules.proofs.Turns.{idle}
+use Rattle.records.specs.Space.{Wrote, Room}
 use Rattle.records.specs.Done.{Done, done-of, room-of}
-use Rattle.ranges.specs.Fit.{fit-order}
 use Rattle.legs.specs.Search.{best-order-most}
 
 -- the records of a trade of q contracts at the resting price
@@ -36,15 +33,14 @@ nextTrade a b = pick (eqb (orderAt b a .contracts) 0) 32 (bestOrder b (orderAt b
 
 -- laws
 
-pub order-small : (o : LegOrder) (q price : ℕ) → FitOrder o → q ≤ 9999 → price ≤ 99_999 → Small (orderRecord o q price)
-order-small o q price f g h = record { number = f .number; quantity = omega arith; level = omega arith }
+-- a fill of leg orders: none of 0 contracts
+pub row-none : (o : LegOrder) (q price : ℕ) → q ≡ 0 → orderRow o q price ≡ []
+unfolding orderRow
+row-none o q price e = search tests
 
-pub cancel-small : (o : LegOrder) → FitOrder o → Small (cancelLegRecord o)
-cancel-small o f = record { number = f .number; quantity = omega (arith, f .contracts); level = omega arith }
-
--- orders that fit still fit when contracts are taken
-cut-order-fits : (o : LegOrder) (q : ℕ) → FitOrder o → FitOrder (cutOrder o q)
-cut-order-fits o q f = record { number = f .number; member = f .member; series = f .series; side = f .side; contracts = omega (arith, f .contracts); price = f .price }
+pub row-some : (o : LegOrder) (q price : ℕ) → (q ≡ 0 → ⊥) → orderRow o q price ≡ orderRecord o q price ∷ []
+unfolding orderRow
+row-some o q price e = search tests
 
 -- what cuts keep, the trades keep
 module _ (P : List LegOrder → Type 0) (kept : (os : List LegOrder) (i q : ℕ) → P os → P (set os i (cutOrder (getD os i noOrder) q))) where
@@ -67,9 +63,6 @@ module _ (P : List LegOrder → Type 0) (kept : (os : List LegOrder) (i q : ℕ)
   trades-keep a zero b p = p
   trades-keep a (suc i) b p = once-keeps a i _ (trades-keep a i b p)
 
-trades-fit : (a i : ℕ) (b : State) → All FitOrder (b .orders) → All FitOrder (each (tradeOnce a) i b .state .orders)
-trades-fit = trades-keep (All FitOrder) (λ os i q f. all-set _ (cut-order-fits (getD os i noOrder) q (fit-order f i)) f i)
-
 trades-rows : (a i : ℕ) (b : State) → length (b .orders) ≡ 32 → length (each (tradeOnce a) i b .state .orders) ≡ 32
 trades-rows = trades-keep (λ (os : List LegOrder). length os ≡ 32) (λ os i q n. length-set os i _ ∙ n)
 
@@ -87,9 +80,6 @@ module _ (b : State) (a h : ℕ) {q : ℕ} (e : q ≡ min (orderAt b a .contract
       → Done sp sq n m d (legTrade b a h)
   unfolding legTrade
   trade-done w f g = record { wrote = rw e at w; state = g ∙ ap (λ (x : State). cutLeg x h q) f ∙ ap (λ (x : ℕ). cutLeg (cutLeg b a x) h x) e }
-
-  pub trade-few : All FitOrder (b .orders) → q ≤ 9999
-  trade-few f = omega (arith, e, fit-order f a .contracts)
 
 -- ALL TRADES
 pub next-none : (a : ℕ) (b : State) → orderAt b a .contracts ≡ 0 → 32 ≡ nextTrade a b
@@ -129,15 +119,6 @@ once-still a i b = go (eqb (orderAt b a .contracts) 0)
     go true l = refl
     go false l = pick-false _ _ _ (le-ltb _ 32 l)
 
-then-still : (x : Moved) (f : State → Moved) → f (x .state) ≡ still (x .state) → and-then x f ≡ x
-unfolding and-then
-then-still x f e = rw (e, append-nil)
-
-idle : (f : ℕ → State → Moved) (b : State) (i : ℕ) → ((j : ℕ) → f j (each f i b .state) ≡ still (each f i b .state)) → (d : ℕ) → each f (d + i) b ≡ each f i b
-unfolding each
-idle f b i h zero = rw zero-add
-idle f b i h (suc d) = let e = idle f b i h d in rw (suc-add, e) (then-still (each f i b) (f (d + i)) (h (d + i)))
-
 -- from the first turn on that does not trade nothing moves
 pub trades-stop : (a i : ℕ) (b c : State) {h : ℕ} → i ≤ 32 → c ≡ each (tradeOnce a) i b .state → h ≡ nextTrade a c → h ≡ 32 → tradeAll a b ≡ each (tradeOnce a) i b
 unfolding tradeAll
@@ -170,10 +151,6 @@ pub cancel-done : (i : ℕ) (b : State) {sp sq : List ℤ} {n m : ℕ} {c : Stat
     → Wrote sp sq n m (cancelLegRecord (orderAt b i) ∷ []) → c ≡ cutLeg b i (orderAt b i .contracts) → Done sp sq n m c (cancelOrder i b)
 cancel-done i b e w g = done-of (cancel-is i b e) (record { wrote = w; state = g })
 
--- the orders of a state that turns have led to fit
-pub fit-after : (a i : ℕ) (b : State) {sp sq : List ℤ} {n m : ℕ} {c : State} → All FitOrder (b .orders) → Done sp sq n m c (each (tradeOnce a) i b) → All FitOrder (c .orders)
-fit-after a i b f d = rw (d .state) (trades-fit a i b f)
-
--- .. and are 32
+-- the orders of a state that turns have led to are 32
 pub rows-after : (a i : ℕ) (b : State) {sp sq : List ℤ} {n m : ℕ} {c : State} → length (b .orders) ≡ 32 → Done sp sq n m c (each (tradeOnce a) i b) → length (c .orders) ≡ 32
 rows-after a i b l d = rw (d .state) (trades-rows a i b l)

@@ -1,10 +1,8 @@
 // Trades of a leg order with opposite ones, and its cancel, with their records.
 ghost use mathlib.Core.Path.{_≡_};
-ghost use Prim.Native.Nat.{_+_, _<_, _≤_};
-ghost use Rattle.base.specs.All.{All};
-ghost use Rattle.rules.specs.Fills.{orderRecord, cutOrder, cutLeg, legTrade, cancelLegRecord, cancelOrder};
+ghost use Prim.Native.Nat.{_+_, _<_};
+ghost use Rattle.rules.specs.Fills.{orderRecord, orderRow, cutOrder, cutLeg, legTrade, cancelLegRecord, cancelOrder};
 ghost use Rattle.rules.specs.Events.{tradeAll};
-ghost use Rattle.rules.specs.Valid.{FitOrder};
 ghost use Rattle.records.specs.Space.{Wrote, Room};
 ghost use Rattle.records.specs.Done.{Done};
 ghost use Rattle.trades.specs.Trades.{tradeRecords, nextTrade};
@@ -19,8 +17,8 @@ use rules::Record;
 use rules::State;
 
 // A leg order's record of a fill of q contracts.
-pub fn order_record(o: LegOrder, q: u32, price: u32) -> Record
-    requires { ⌜ price ≤ 99999 ⌝ }
+fn order_record(o: LegOrder, q: u32, price: u32) -> Record
+    requires { ⌜ 10000000 + price < 2147483648 ⌝ }
     ensures { λ r. ⌜ r ≡ orderRecord o q price ⌝ }
 {
     Record {
@@ -31,6 +29,18 @@ pub fn order_record(o: LegOrder, q: u32, price: u32) -> Record
         quantity: q,
         level: 10000000 + price,
     }
+}
+
+// The record of a leg order's fill; none of 0 contracts.
+pub fn order_row(space: &mut [i32], n: usize, o: LegOrder, q: u32, price: u32) -> usize
+    requires { ⌜ Room (now space) n (orderRow o q price) ⌝ }
+    ensures { λ m. ⌜ Wrote (now (space .entry)) (now (space .exit)) n m (orderRow o q price) ⌝ }
+{
+    if q == 0 {
+        return n;
+    }
+    let r = order_record(o, q, price);
+    push(space, n, r)
 }
 
 pub fn cut_order(o: LegOrder, q: u32) -> LegOrder
@@ -54,7 +64,6 @@ fn cut_leg(b: State, i: usize, q: u32) -> State
 
 // The two records of a trade at the resting price, the incoming order's first.
 fn report(space: &mut [i32], n: usize, o: LegOrder, p: LegOrder, q: u32) -> usize
-    requires { ⌜ FitOrder o × FitOrder p × (q ≤ 9999) ⌝ }
     requires { ⌜ Room (now space) n (tradeRecords o p q) ⌝ }
     ensures { λ m. ⌜ Wrote (now (space .entry)) (now (space .exit)) n m (tradeRecords o p q) ⌝ }
 {
@@ -66,7 +75,7 @@ fn report(space: &mut [i32], n: usize, o: LegOrder, p: LegOrder, q: u32) -> usiz
 
 // One trade of the leg order at slot a with the one at slot h.
 fn leg_trade(b: State, a: usize, h: usize, space: &mut [i32], n: usize) -> After
-    requires { ⌜ (a < 32) × (h < 32) × All FitOrder (b .orders) ⌝ }
+    requires { ⌜ (a < 32) × (h < 32) ⌝ }
     requires { ⌜ Room (now space) n (legTrade b a h .records) ⌝ }
     ensures { λ t. ⌜ Done (now (space .entry)) (now (space .exit)) n (t .count) (t .state) (legTrade b a h) ⌝ }
 {
@@ -95,7 +104,6 @@ fn next_trade(b: State, a: usize) -> usize
 
 // The trades of the leg order at slot a, until none meets it or nothing of it is left.
 pub fn trade_all(b: State, a: usize, space: &mut [i32], n: usize) -> After
-    requires { ⌜ All FitOrder (b .orders) ⌝ }
     requires { ⌜ Room (now space) n (tradeAll a b .records) ⌝ }
     ensures { λ t. ⌜ Done (now (space .entry)) (now (space .exit)) n (t .count) (t .state) (tradeAll a b) ⌝ }
 {
@@ -130,7 +138,6 @@ fn cancel_leg_record(o: LegOrder) -> Record
 
 // The cancel of all that is live of the leg order at slot i; past the last slot there is none.
 pub fn cancel_order(b: State, i: usize, space: &mut [i32], n: usize) -> After
-    requires { ⌜ All FitOrder (b .orders) ⌝ }
     requires { ⌜ Room (now space) n (cancelOrder i b .records) ⌝ }
     ensures { λ t. ⌜ Done (now (space .entry)) (now (space .exit)) n (t .count) (t .state) (cancelOrder i b) ⌝ }
 {

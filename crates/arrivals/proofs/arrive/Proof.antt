@@ -61,7 +61,7 @@ returns-3 : tie.Need-returns-3
 returns-3 c = done-of (arrive-trades _ _ (told (c .before .before .before .before .before .before .before .before .all-open .ensures) (c .before .before .before .before .before .before .before .if1 .taken)) (told (c .before .before .before .before .before .before .running .ensures) (c .before .before .before .before .before .if2 .left)) (told (c .before .before .before .before .starts .ensures) (c .before .before .before .if3 .left))) (c .before .trades .ensures)
 
 rest-or-cancel-requires : tie.Need-rest-or-cancel-requires
-rest-or-cancel-requires c κs = (c .before .before .before .before .before .pre .0, room-of (arrive-shut _ _ (told (c .before .before .all-open .ensures) (c .before .if1 .left))) (c .before .before .before .before .before .pre .1))
+rest-or-cancel-requires c κs = (c .before .before .before .before .before .pre .0 .0, room-of (arrive-shut _ _ (told (c .before .before .all-open .ensures) (c .before .if1 .left))) (c .before .before .before .before .before .pre .1))
 
 same-length-4 : tie.Need-same-length-4
 same-length-4 c = search needs

@@ -1,3 +1,4 @@
+use lib.ListN.{length-map}
 use Rattle.arrivals.specs.Arrivals.{cancel-past}
 use Rattle.records.specs.Done.{done-still, done-of}
 use borrow.Author.Needs.{needs}
@@ -17,7 +18,7 @@ returns : tie.Need-returns
 returns c = search needs
 
 returns-2 : tie.Need-returns-2
-returns-2 c = done-of (cancel-past _ _ (c .before .pre .0 .entryRows) (c .if1 .left)) (done-still _ _ _)
+returns-2 c = done-of (cancel-past _ _ (simp length-map at (c .before .good .0 .1 .1 .1 .0 .1 .0 .1)) (c .if1 .left)) (done-still _ _ _)
 
 pub cancel-at-spec : {M : Type 1} → statement M
 cancel-at-spec = tie.close (tie.spec cancel-entry-requires same-length returns returns-2)

@@ -16,7 +16,7 @@ old-sweep-requires c κs = search needs
 
 cancel-at-requires : tie.Need-cancel-at-requires
 unfolding onSweep
-cancel-at-requires c κs = (c .before .before .pre .0 .1, room-of (old-is _ _ (c .before .old-sweep .ensures)) (room-then _ _ (c .before .before .pre .1)))
+cancel-at-requires c κs = room-of (old-is _ _ (c .before .old-sweep .ensures)) (room-then _ _ (c .before .before .pre .1))
 
 enter-sweep-requires : tie.Need-enter-sweep-requires
 enter-sweep-requires c κs = (c .before .before .before .before .before .pre .0 .0, fit-cancel _ _ (c .before .before .before .before .before .pre .0 .1) (c .before .before .cancel-at .ensures))

@@ -1,5 +1,4 @@
 use Rattle.rules.specs.Events.{trades}
-use Rattle.arrivals.specs.Arrivals.{fit-pass}
 use Rattle.records.specs.Done.{done-then, room-then, room-after}
 use borrow.Author.Needs.{needs}
 use Rattle.arrivals.proofs.trades.Statement.{statement}
@@ -15,7 +14,7 @@ pass-requires c κs = (c .before .pre .0, room-then _ _ (c .before .pre .1))
 
 rest-or-cancel-requires : tie.Need-rest-or-cancel-requires
 unfolding trades
-rest-or-cancel-requires c κs = ((c .before .before .before .before .before .pre .0 .0, fit-pass _ _ _ (c .before .before .before .before .before .pre .0 .1) (c .before .before .before .pass .ensures)), room-after _ _ (c .before .before .before .before .before .pre .1) (c .before .before .before .pass .ensures))
+rest-or-cancel-requires c κs = (c .before .before .before .before .before .pre .0 .0, room-after _ _ (c .before .before .before .before .before .pre .1) (c .before .before .before .pass .ensures))
 
 same-length : tie.Need-same-length
 same-length c = search needs

@@ -16,7 +16,7 @@ element-copy-out-e : tie.Need-element-copy-out-e
 element-copy-out-e c = search needs
 
 cancel-entry-requires : tie.Need-cancel-entry-requires
-cancel-entry-requires c κs = (c .before .before .before .before .pre .0, room-of (waits-not _ _ (c .before .if1 .taken)) (c .before .before .before .before .pre .1))
+cancel-entry-requires c κs = (c .before .before .before .before .pre .0 .0, room-of (waits-not _ _ (c .before .if1 .taken)) (c .before .before .before .before .pre .1))
 
 same-length : tie.Need-same-length
 same-length c = search needs

@@ -1,4 +1,3 @@
-use Rattle.auctions.specs.Auctions.{begun-small}
 use Rattle.ranges.specs.Fit.{fit-entry}
 use Rattle.rules.specs.Auctions.{begin}
 use borrow.Author.Needs.{needs}
@@ -21,7 +20,7 @@ begun-record-requires c κs = search needs
 
 push-requires : tie.Need-push-requires
 unfolding begin
-push-requires c κs = rw (c .before .begun-record .ensures) (c .before .before .before .pre .1, begun-small _ (fit-entry (c .before .before .before .pre .0 .1 .entries) _))
+push-requires c κs = rw (c .before .begun-record .ensures) (c .before .before .before .pre .1)
 
 cast-k : tie.Need-cast-k
 cast-k c = search needs

@@ -1,4 +1,4 @@
-use Rattle.auctions.specs.Auctions.{lapsed-none, lapsed-some, fit-cancels}
+use Rattle.auctions.specs.Auctions.{lapsed-none, lapsed-some}
 use Rattle.records.specs.Done.{Done, each-first, each-next, room-each, done-length, done-still, done-of, room-of}
 use Rattle.rules.specs.Auctions.{cancelLapsed}
 use Rattle.rules.specs.Moves.{each}
@@ -34,7 +34,7 @@ lapses-requires : tie.Need-lapses-requires Inv-loop μ-loop
 lapses-requires c κs = search needs
 
 cancel-entry-requires : tie.Need-cancel-entry-requires Inv-loop μ-loop
-cancel-entry-requires c κs = ((c .before .before .before .before .loop-test .taken, fit-cancels _ _ _ (c .before .before .before .before .before .before .pre .0) (c .before .before .before .before .before .loop .inv .1)), room-of (lapsed-some _ _ _ (told (c .before .before .lapses .ensures) (c .before .if1 .taken))) (room-each (cancelLapsed (c .before .before .before .before .before .before .args .k)) 32 _ _ (c .before .before .before .before .before .before .pre .1) (c .before .before .before .before .loop-test .taken) (c .before .before .before .before .before .loop .inv .1)))
+cancel-entry-requires c κs = (c .before .before .before .before .loop-test .taken, room-of (lapsed-some _ _ _ (told (c .before .before .lapses .ensures) (c .before .if1 .taken))) (room-each (cancelLapsed (c .before .before .before .before .before .before .args .k)) 32 _ _ (c .before .before .before .before .before .before .pre) (c .before .before .before .before .loop-test .taken) (c .before .before .before .before .before .loop .inv .1)))
 
 add-i : tie.Need-add-i Inv-loop μ-loop
 add-i c = omega arith

@@ -1,4 +1,3 @@
-use Rattle.auctions.specs.Auctions.{ended-small}
 use Rattle.rules.specs.Auctions.{close}
 use borrow.Author.Needs.{needs}
 use Rattle.auctions.proofs.close.Statement.{statement}
@@ -23,7 +22,7 @@ ended-record-requires c κs = search needs
 
 push-requires : tie.Need-push-requires
 unfolding close
-push-requires c κs = rw (c .before .ended-record .ensures) (c .before .before .before .pre .1, ended-small _ _ (c .before .before .before .pre .0 .1))
+push-requires c κs = rw (c .before .ended-record .ensures) (c .before .before .before .pre .1)
 
 put-auction-requires : tie.Need-put-auction-requires
 put-auction-requires c κs = search needs

@@ -1,6 +1,5 @@
-use Rattle.closing.specs.Closing.{fit-each, numbered-each, low-is, lowest-stops}
+use Rattle.closing.specs.Closing.{numbered-each, low-is, lowest-stops}
 use Rattle.records.specs.Done.{Done, each-first, each-next, room-each, done-length, done-of, room-of}
-use Rattle.rules.proofs.Control.{cancelLowest-kept, shrinks-kept}
 use Rattle.rules.proofs.DayEnd.{lowest-shrinks, lowest-none}
 use Rattle.rules.specs.Events.{cancelLowest}
 use Rattle.rules.specs.Moves.{each}
@@ -33,12 +32,12 @@ same-length c = done-length (c .before .before .before .loop .inv .1)
 returns : tie.Need-returns Inv-loop μ-loop
 returns c =
     let k = c .before .before .before in
-    lowest-stops _ _ (c .before .before .loop-test .taken) (k .loop .inv .1) (lowest-none (numbered-each cancelLowest lowest-shrinks _ _ (k .before .pre .0 .1) (k .loop .inv .1)) (sym (c .before .lowest-live .ensures) ∙ c .if1 .taken))
+    lowest-stops _ _ (c .before .before .loop-test .taken) (k .loop .inv .1) (lowest-none (numbered-each cancelLowest lowest-shrinks _ _ (k .before .pre .0) (k .loop .inv .1)) (sym (c .before .lowest-live .ensures) ∙ c .if1 .taken))
 
 cancel-number-requires : tie.Need-cancel-number-requires Inv-loop μ-loop
 cancel-number-requires c κs =
     let k = c .before .before .before .before in
-    (fit-each cancelLowest (cancelLowest-kept shrinks-kept) _ _ (k .before .pre .0 .0) (k .loop .inv .1), room-of (low-is _ _ (c .before .before .lowest-live .ensures)) (room-each cancelLowest 64 _ _ (k .before .pre .1) (c .before .before .before .loop-test .taken) (k .loop .inv .1)))
+    room-of (low-is _ _ (c .before .before .lowest-live .ensures)) (room-each cancelLowest 64 _ _ (k .before .pre .1) (c .before .before .before .loop-test .taken) (k .loop .inv .1))
 
 add-i : tie.Need-add-i Inv-loop μ-loop
 add-i c = omega arith

@@ -1,7 +1,5 @@
 use Rattle.records.specs.Done.{done-then, room-then, room-after}
-use Rattle.rules.specs.Events.{cancelEntryOf, cancelNumber}
-use Rattle.rules.proofs.Control.{cancelEntryOf-kept, shrinks-kept}
-use Rattle.closing.specs.Closing.{fit-each}
+use Rattle.rules.specs.Events.{cancelNumber}
 use borrow.Author.Needs.{needs}
 use Rattle.closing.proofs.cancel_number.Statement.{statement}
 use Rattle.closing.proofs.cancel_number.Tie as tie
@@ -10,14 +8,14 @@ use Rattle.closing.proofs.cancel_number.Lts as lts
 
 cancel-entries-requires : tie.Need-cancel-entries-requires
 unfolding cancelNumber
-cancel-entries-requires c κs = (c .before .pre .0, room-then _ _ (c .before .pre .1))
+cancel-entries-requires c κs = room-then _ _ (c .before .pre)
 
 cancel-orders-requires : tie.Need-cancel-orders-requires
 unfolding cancelNumber
 cancel-orders-requires c κs =
     let k = c .before .before .before .before .before in
     let x = c .before .before .before .cancel-entries .ensures in
-    (fit-each (cancelEntryOf (k .args .number)) (cancelEntryOf-kept shrinks-kept (k .args .number)) 32 _ (k .pre .0) x, room-after _ _ (k .pre .1) x)
+    room-after _ _ (k .pre) x
 
 same-length : tie.Need-same-length
 same-length c = search needs

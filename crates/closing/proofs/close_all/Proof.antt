@@ -1,6 +1,4 @@
-use Rattle.rules.proofs.Control.{closeRunning-kept}
-use Rattle.auctions.specs.Ranged.{ranged-kept}
-use Rattle.closing.specs.Closing.{ranged-each, close-yes, close-not}
+use Rattle.closing.specs.Closing.{close-yes, close-not}
 use Rattle.rules.specs.Events.{closeRunning}
 use mathlib.Core.Logic.{⊎-elim}
 use Rattle.records.specs.Done.{Done, each-first, each-next, room-each, done-length, done-still, done-of, room-of}
@@ -31,7 +29,7 @@ element-copy-out-s : tie.Need-element-copy-out-s Inv-loop μ-loop
 element-copy-out-s c = c .loop-test .taken
 
 close-requires : tie.Need-close-requires Inv-loop μ-loop
-close-requires c κs = ((c .before .before .before .before .loop-test .taken, ranged-each closeRunning (closeRunning-kept ranged-kept) _ _ (c .before .before .before .before .before .before .pre .0) (c .before .before .before .before .before .loop .inv .1) .auction _ .starter), room-of (close-yes _ _ (c .before .if1 .taken)) (room-each closeRunning 16 _ _ (c .before .before .before .before .before .before .pre .1) (c .before .before .before .before .loop-test .taken) (c .before .before .before .before .before .loop .inv .1)))
+close-requires c κs = (c .before .before .before .before .loop-test .taken, room-of (close-yes _ _ (c .before .if1 .taken)) (room-each closeRunning 16 _ _ (c .before .before .before .before .before .before .pre) (c .before .before .before .before .loop-test .taken) (c .before .before .before .before .before .loop .inv .1)))
 
 add-k : tie.Need-add-k Inv-loop μ-loop
 add-k c = omega arith

@@ -5,7 +5,7 @@ use Rattle.closing.proofs.ends.Statement.{statement}
 use Rattle.closing.proofs.ends.Tie as tie
 use Rattle.closing.proofs.ends.Reads as reads
 use Rattle.closing.proofs.ends.Lts as lts
-use Rattle.closing.proofs.has.Reads as has-reads
+use Rattle.strategies.proofs.has.Reads as has-reads
 
 returns : tie.Need-returns
 returns c = some-not _ _ _ (c .if1 .taken)

@@ -40,7 +40,7 @@ due-requires : tie.Need-due-requires Inv-loop μ-loop
 due-requires c κs = due-fits _ _ (ranged-each endDue (endDue-kept ranged-kept) _ _ (ranged-clock _ _ (c .before .before .before .with-clock .ensures) (c .before .before .before .before .pre .0 .0) (c .before .before .before .before .pre .0 .1)) (c .before .before .loop .inv .1))
 
 end-auction-requires : tie.Need-end-auction-requires Inv-loop μ-loop
-end-auction-requires c κs = ((c .before .before .before .before .loop-test .taken, ranged-each endDue (endDue-kept ranged-kept) _ _ (ranged-clock _ _ (c .before .before .before .before .before .before .with-clock .ensures) (c .before .before .before .before .before .before .before .pre .0 .0) (c .before .before .before .before .before .before .before .pre .0 .1)) (c .before .before .before .before .before .loop .inv .1)), room-of (due-yes _ _ (told (c .before .before .due .ensures) (c .before .if1 .taken))) (room-each endDue 16 _ _ (room-of (clock-is _ _ (c .before .before .before .before .before .before .with-clock .ensures)) (c .before .before .before .before .before .before .before .pre .1)) (c .before .before .before .before .loop-test .taken) (c .before .before .before .before .before .loop .inv .1)))
+end-auction-requires c κs = ((c .before .before .before .before .loop-test .taken, ranged-each endDue (endDue-kept ranged-kept) _ _ (ranged-clock _ _ (c .before .before .before .before .before .before .with-clock .ensures) (c .before .before .before .before .before .before .before .pre .0 .0) (c .before .before .before .before .before .before .before .pre .0 .1)) (c .before .before .before .before .before .loop .inv .1) .fit), room-of (due-yes _ _ (told (c .before .before .due .ensures) (c .before .if1 .taken))) (room-each endDue 16 _ _ (room-of (clock-is _ _ (c .before .before .before .before .before .before .with-clock .ensures)) (c .before .before .before .before .before .before .before .pre .1)) (c .before .before .before .before .loop-test .taken) (c .before .before .before .before .before .loop .inv .1)))
 
 add-k : tie.Need-add-k Inv-loop μ-loop
 add-k c = omega arith

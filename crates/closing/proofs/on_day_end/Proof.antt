@@ -1,7 +1,5 @@
-use Rattle.closing.specs.Closing.{ranged-each, numbered-each, day-end}
-use Rattle.auctions.specs.Ranged.{ranged-kept, ranged-sound}
+use Rattle.closing.specs.Closing.{numbered-each, day-end}
 use Rattle.rules.proofs.DayEnd.{numbered-sound, running-shrinks}
-use Rattle.rules.proofs.Control.{closeRunning-kept}
 use Rattle.rules.specs.Events.{closeRunning, onDayEnd}
 use Rattle.records.specs.Done.{room-then, room-after}
 use borrow.Author.Needs.{needs}
@@ -15,14 +13,14 @@ use Rattle.closing.proofs.fresh.Reads as fresh-reads
 
 close-all-requires : tie.Need-close-all-requires
 unfolding onDayEnd
-close-all-requires c κs = (ranged-sound (c .before .pre .0 .sound), room-then _ _ (c .before .pre .1))
+close-all-requires c κs = room-then _ _ (c .before .pre .1)
 
 cancel-all-requires : tie.Need-cancel-all-requires
 unfolding onDayEnd
 cancel-all-requires c κs =
     let x = c .before .before .before .close-all .ensures in
     let p = c .before .before .before .before .before .pre in
-    ((ranged-each closeRunning (closeRunning-kept ranged-kept) 16 _ (ranged-sound (p .0 .sound)) x .fit, numbered-each closeRunning running-shrinks 16 _ (numbered-sound (p .0 .sound)) x), room-then _ _ (room-after _ _ (p .1) x))
+    (numbered-each closeRunning running-shrinks 16 _ (numbered-sound (p .0 .sound)) x, room-then _ _ (room-after _ _ (p .1) x))
 
 fresh-requires : tie.Need-fresh-requires
 fresh-requires c κs = search needs

@@ -13,7 +13,7 @@ is-open-requires c κs = search needs
 shut-requires : tie.Need-shut-requires
 shut-requires c κs =
     let k = c .before .before .before in
-    (k .before .pre .0, room-of (series-shuts _ _ _ (told (k .is-open .ensures) (c .before .before .if1 .taken)) (c .before .if2 .taken)) (k .before .pre .1))
+    (k .before .pre .0 .0, room-of (series-shuts _ _ _ (told (k .is-open .ensures) (c .before .before .if1 .taken)) (c .before .if2 .taken)) (k .before .pre .1))
 
 same-length : tie.Need-same-length
 same-length c = search needs
@@ -33,7 +33,7 @@ reopen-requires : tie.Need-reopen-requires
 reopen-requires c κs =
     let k = c .before .before .before in
     let o = told (k .is-open .ensures) (c .before .before .if1 .left) in
-    ((k .before .pre .0 .0, k .before .pre .0 .1 .fit, o), room-of (series-opens _ _ _ o (c .before .if3 .left)) (k .before .pre .1))
+    ((k .before .pre .0 .0, k .before .pre .0 .1, o), room-of (series-opens _ _ _ o (c .before .if3 .left)) (k .before .pre .1))
 
 same-length-2 : tie.Need-same-length-2
 same-length-2 c = search needs

@@ -1,8 +1,6 @@
 use Rattle.strategies.specs.Order.{shifted}
-use Rattle.rules.proofs.Control.{endHolding-kept}
 use Rattle.base.specs.Pick.{told}
-use Rattle.auctions.specs.Ranged.{ranged-kept}
-use Rattle.closing.specs.Closing.{shut-is, ranged-opened, ranged-each, holding-yes, holding-not}
+use Rattle.closing.specs.Closing.{shut-is, holding-yes, holding-not}
 use Rattle.rules.specs.Auctions.{endHolding}
 use mathlib.Core.Logic.{⊎-elim}
 use Rattle.records.specs.Done.{Done, each-first, each-next, room-each, done-length, done-still, done-of, room-of}
@@ -48,7 +46,7 @@ ends-requires : tie.Need-ends-requires Inv-loop μ-loop
 ends-requires c κs = search needs
 
 end-unfilled-requires : tie.Need-end-unfilled-requires Inv-loop μ-loop
-end-unfilled-requires c κs = ((c .before .before .before .before .loop-test .taken, ranged-each (endHolding (c .before .before .before .before .before .before .before .before .args .s)) (endHolding-kept ranged-kept (c .before .before .before .before .before .before .before .before .args .s)) _ _ (ranged-opened _ _ (c .before .before .before .before .before .before .with-opened .ensures) (c .before .before .before .before .before .before .before .before .pre .0 .1)) (c .before .before .before .before .before .loop .inv .1)), room-of (holding-yes _ _ _ (told (c .before .before .ends .ensures) (c .before .if1 .taken))) (room-each (endHolding (c .before .before .before .before .before .before .before .before .args .s)) 16 _ _ (room-of (shut-is _ _ (shifted _ (c .before .before .before .before .before .before .before .before .pre .0 .0)) (c .before .before .before .before .before .before .before .less .ensures) (c .before .before .before .before .before .before .with-opened .ensures)) (c .before .before .before .before .before .before .before .before .pre .1)) (c .before .before .before .before .loop-test .taken) (c .before .before .before .before .before .loop .inv .1)))
+end-unfilled-requires c κs = (c .before .before .before .before .loop-test .taken, room-of (holding-yes _ _ _ (told (c .before .before .ends .ensures) (c .before .if1 .taken))) (room-each (endHolding (c .before .before .before .before .before .before .before .before .args .s)) 16 _ _ (room-of (shut-is _ _ (shifted _ (c .before .before .before .before .before .before .before .before .pre .0)) (c .before .before .before .before .before .before .before .less .ensures) (c .before .before .before .before .before .before .with-opened .ensures)) (c .before .before .before .before .before .before .before .before .pre .1)) (c .before .before .before .before .loop-test .taken) (c .before .before .before .before .before .loop .inv .1)))
 
 add-k : tie.Need-add-k Inv-loop μ-loop
 add-k c = omega arith
@@ -63,7 +61,7 @@ same-length : tie.Need-same-length Inv-loop μ-loop
 same-length c = done-length (c .before .loop .inv .1)
 
 returns : tie.Need-returns Inv-loop μ-loop
-returns c = let e : c .before .loop .k ≡ 16 = omega arith in done-of (shut-is _ _ (shifted _ (c .before .before .before .before .pre .0 .0)) (c .before .before .before .less .ensures) (c .before .before .with-opened .ensures)) (rw e at (c .before .loop .inv .1))
+returns c = let e : c .before .loop .k ≡ 16 = omega arith in done-of (shut-is _ _ (shifted _ (c .before .before .before .before .pre .0)) (c .before .before .before .less .ensures) (c .before .before .with-opened .ensures)) (rw e at (c .before .loop .inv .1))
 
 pub shut-spec : {M : Type 1} → statement M
 shut-spec =

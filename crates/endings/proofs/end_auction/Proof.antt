@@ -1,4 +1,4 @@
-use Rattle.endings.specs.Endings.{ranged-starter, ranged-later}
+use Rattle.endings.specs.Endings.{fit-starter}
 use Rattle.records.specs.Done.{done-then, room-then, room-after}
 use Rattle.rules.specs.Auctions.{endAuction}
 use borrow.Author.Needs.{needs}
@@ -18,15 +18,15 @@ element-copy-out-s c = search needs
 
 starter-pass-requires : tie.Need-starter-pass-requires
 unfolding endAuction
-starter-pass-requires c κs = ((c .before .before .pre .0 .0, c .before .before .pre .0 .1 .fit), room-then _ _ (c .before .before .pre .1))
+starter-pass-requires c κs = (c .before .before .pre .0, room-then _ _ (c .before .before .pre .1))
 
 later-passes-requires : tie.Need-later-passes-requires
 unfolding endAuction
-later-passes-requires c κs = (ranged-starter _ _ (c .before .before .before .before .before .before .pre .0 .1) (c .before .before .before .starter-pass .ensures) .fit, room-then _ _ (room-after _ _ (c .before .before .before .before .before .before .pre .1) (c .before .before .before .starter-pass .ensures)))
+later-passes-requires c κs = (fit-starter _ _ (c .before .before .before .before .before .before .pre .0 .1) (c .before .before .before .starter-pass .ensures), room-then _ _ (room-after _ _ (c .before .before .before .before .before .before .pre .1) (c .before .before .before .starter-pass .ensures)))
 
 end-unfilled-requires : tie.Need-end-unfilled-requires
 unfolding endAuction
-end-unfilled-requires c κs = ((c .before .before .before .before .before .before .before .before .before .before .pre .0 .0, ranged-later _ _ 32 _ (ranged-starter _ _ (c .before .before .before .before .before .before .before .before .before .before .pre .0 .1) (c .before .before .before .before .before .before .before .starter-pass .ensures)) (c .before .before .before .later-passes .ensures)), room-after _ _ (room-after _ _ (c .before .before .before .before .before .before .before .before .before .before .pre .1) (c .before .before .before .before .before .before .before .starter-pass .ensures)) (c .before .before .before .later-passes .ensures))
+end-unfilled-requires c κs = (c .before .before .before .before .before .before .before .before .before .before .pre .0 .0, room-after _ _ (room-after _ _ (c .before .before .before .before .before .before .before .before .before .before .pre .1) (c .before .before .before .before .before .before .before .starter-pass .ensures)) (c .before .before .before .later-passes .ensures))
 
 same-length : tie.Need-same-length
 same-length c = search needs

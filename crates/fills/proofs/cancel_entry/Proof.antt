@@ -1,5 +1,4 @@
-use Rattle.fills.specs.Fills.{cancelled, cancel-none, cancel-live, cancel-small}
-use Rattle.ranges.specs.Fit.{fit-entry}
+use Rattle.fills.specs.Fills.{cancelled, cancel-none, cancel-live}
 use Rattle.records.specs.Done.{done-still, done-of, room-of}
 use Rattle.rules.specs.State.{withEntries}
 use Rattle.rules.specs.Fills.{cut}
@@ -26,7 +25,7 @@ cancel-record-requires c κs = search needs
 
 push-requires : tie.Need-push-requires
 unfolding cancelled
-push-requires c κs = rw (c .before .cancel-record .ensures) (room-of (cancel-live _ _ (c .before .before .if1 .left)) (c .before .before .before .before .before .pre .1), cancel-small _ (fit-entry (c .before .before .before .before .before .pre .0 .1 .entries) _))
+push-requires c κs = rw (c .before .cancel-record .ensures) (room-of (cancel-live _ _ (c .before .before .if1 .left)) (c .before .before .before .before .before .pre .1))
 
 cut-entry-requires : tie.Need-cut-entry-requires
 cut-entry-requires c κs = search needs

@@ -1,4 +1,3 @@
-use Rattle.ranges.specs.Most.{zeros-most}
 use Rattle.records.specs.Space.{wrote-append, room-first, room-next}
 use borrow.Author.Needs.{needs}
 use Rattle.fills.proofs.fill_records.Statement.{statement}
@@ -8,10 +7,10 @@ use Rattle.fills.proofs.fill_records.Lts as lts
 use Rattle.fills.proofs.party_records.Reads as party-records-reads
 
 party-records-requires : tie.Need-party-records-requires
-party-records-requires c κs = ((c .before .pre .0 .0, c .before .pre .0 .2, c .before .pre .0 .3, c .before .pre .0 .4, zeros-most 99999 6), room-first _ _ (c .before .pre .1))
+party-records-requires c κs = (c .before .pre .0, room-first _ _ (c .before .pre .1))
 
 party-records-requires-2 : tie.Need-party-records-requires-2
-party-records-requires-2 c κs = ((c .before .before .before .before .pre .0 .1, c .before .before .before .before .pre .0 .2, c .before .before .before .before .pre .0 .3, c .before .before .before .before .pre .0 .4, zeros-most 99999 6), room-next _ _ (c .before .before .before .before .pre .1) (c .before .before .party-records .ensures))
+party-records-requires-2 c κs = (c .before .before .before .before .pre .0, room-next _ _ (c .before .before .before .before .pre .1) (c .before .before .party-records .ensures))
 
 same-length : tie.Need-same-length
 same-length c = search needs

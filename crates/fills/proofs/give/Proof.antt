@@ -62,7 +62,7 @@ fill-records-requires c κs = let p = c .before .before .before .before .before 
     let l = c .before .before .before .before .before .before .before .loop in
     let t = c .before .before .before .before .before .before .loop-test .taken in
     let fit = fit-done (l .inv .1) (slots-shrink (s .a) (s .level) (s .t4) (l .i) _) (p .0 .1) in
-    ((fit-entry (fit .entries) _, fit-entry (fit .entries) _, fit-legs (fit .strategies) _, p .0 .3 .at _, p .0 .2), room-of (whole-some _ _ _ _ _ (c .before .before .before .before .before .if1 .taken)) (room-each _ 32 _ _ (p .1) t (l .inv .1)))
+    (fit-legs (fit .strategies) _ .count, room-of (whole-some _ _ _ _ _ (c .before .before .before .before .before .if1 .taken)) (room-each _ 32 _ _ (p .1) t (l .inv .1)))
 
 cut-entry-requires : tie.Need-cut-entry-requires Inv-loop μ-loop
 cut-entry-requires c κs = search needs

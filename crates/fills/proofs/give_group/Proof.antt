@@ -2,7 +2,6 @@ use borrow.Author.Needs.{needs}
 use Rattle.rules.specs.Passes.{giveGroup}
 use Rattle.ranges.specs.Fit.{fit-entry}
 use Rattle.quotas.specs.Bounds.{sizes-most}
-use Rattle.fills.specs.Gives.{share-most}
 use Rattle.fills.proofs.give_group.Statement.{statement}
 use Rattle.fills.proofs.give_group.Tie as tie
 use Rattle.fills.proofs.give_group.Reads as reads
@@ -27,7 +26,7 @@ share-requires c κs = let p = c .before .before .before .pre .0 in
 give-requires : tie.Need-give-requires
 unfolding giveGroup
 give-requires c κs = let p = c .before .before .before .before .before .pre in
-    rw (c .before .share .ensures, c .before .before .sizes .ensures) ((p .0 .0, p .0 .1, p .0 .2, share-most _ _ _ _ _ (p .0 .1 .entries)), p .1)
+    rw (c .before .share .ensures, c .before .before .sizes .ensures) p
 
 same-length : tie.Need-same-length
 same-length c = search needs

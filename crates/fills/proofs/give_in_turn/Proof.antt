@@ -1,6 +1,5 @@
 use borrow.Author.Needs.{needs}
 use Rattle.rules.specs.Passes.{giveInTurn}
-use Rattle.fills.specs.Gives.{inTurn-most}
 use Rattle.fills.proofs.give_in_turn.Statement.{statement}
 use Rattle.fills.proofs.give_in_turn.Tie as tie
 use Rattle.fills.proofs.give_in_turn.Reads as reads
@@ -24,7 +23,7 @@ in-turn-requires c κs = search needs
 give-requires : tie.Need-give-requires
 unfolding giveInTurn
 give-requires c κs = let p = c .before .before .before .before .before .pre in
-    rw (c .before .in-turn .ensures, c .before .before .sizes .ensures) ((p .0 .0, p .0 .1, p .0 .2, inTurn-most _ _ _ _ _ (p .0 .1 .entries)), p .1)
+    rw (c .before .in-turn .ensures, c .before .before .sizes .ensures) p
 
 same-length : tie.Need-same-length
 same-length c = search needs

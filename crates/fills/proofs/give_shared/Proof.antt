@@ -18,7 +18,7 @@ give-group-requires : tie.Need-give-group-requires
 unfolding giveShared
 give-group-requires c κs = let p = c .before .before .before .before .before .pre in
     let x = c .before .before .before .give-in-turn .ensures in
-    ((p .0 .0, fit-done x (inTurn-shrinks _ _ _ _) (p .0 .1), p .0 .2), room-then _ _ (room-after _ _ (p .1) x))
+    ((p .0 .0, fit-done x (inTurn-shrinks _ _ _ _) (p .0 .1)), room-then _ _ (room-after _ _ (p .1) x))
 
 give-group-requires-2 : tie.Need-give-group-requires-2
 unfolding giveShared
@@ -26,7 +26,7 @@ give-group-requires-2 c κs = let p = c .before .before .before .before .before 
     let x = c .before .before .before .before .before .before .before .give-in-turn .ensures in
     let y = c .before .before .before .give-group .ensures in
     let fit = fit-done y (group-shrinks _ _ _ _) (fit-done x (inTurn-shrinks _ _ _ _) (p .0 .1)) in
-    ((p .0 .0, fit, p .0 .2), room-after _ _ (room-after _ _ (p .1) x) y)
+    ((p .0 .0, fit), room-after _ _ (room-after _ _ (p .1) x) y)
 
 same-length : tie.Need-same-length
 same-length c = search needs

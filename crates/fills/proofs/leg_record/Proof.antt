@@ -1,6 +1,5 @@
 use native.Mathlib.Omega.{arith}
 use borrow.Author.Needs.{needs}
-use Rattle.fills.specs.Fills.{leg-quantity}
 use Rattle.fills.proofs.leg_record.Statement.{statement}
 use Rattle.fills.proofs.leg_record.Tie as tie
 use Rattle.fills.proofs.leg_record.Reads as reads
@@ -14,7 +13,7 @@ cast-ratio : tie.Need-cast-ratio
 cast-ratio c = search needs
 
 mul-t8 : tie.Need-mul-t8
-mul-t8 c = omega (arith, leg-quantity _ _ (c .before .before .pre .2 .ratio) (c .before .before .pre .0))
+mul-t8 c = omega (arith, c .before .before .pre .0)
 
 add-t9 : tie.Need-add-t9
 add-t9 c = search needs

@@ -4,8 +4,7 @@ use native.Mathlib.Omega.{arith}
 use Rattle.base.specs.Walks.{joinN}
 use Rattle.rules.specs.Fills.{legRecordAt}
 use Rattle.records.specs.Space.{Wrote, wrote-first, wrote-next, wrote-length, room-row}
-use Rattle.ranges.specs.Fit.{fit-leg}
-use Rattle.fills.specs.Fills.{leg-small}
+use Rattle.base.specs.All.{all-head}
 use Rattle.fills.proofs.leg_records.Statement.{statement}
 use Rattle.fills.proofs.leg_records.Tie as tie
 use Rattle.fills.proofs.leg_records.Reads as reads
@@ -38,12 +37,14 @@ array-copy-out-leg-record : tie.Need-array-copy-out-leg-record Inv-loop μ-loop
 array-copy-out-leg-record c = omega arith
 
 leg-record-requires : tie.Need-leg-record-requires Inv-loop μ-loop
-leg-record-requires c κs = let p = c .before .before .before .before .before .pre .0 in (p .2, p .3 .at _, fit-leg (p .1 .legs) _)
+leg-record-requires c κs =
+    let room = room-row _ _ _ (c .before .before .before .before .before .pre .1) (c .before .loop-test .taken) (c .before .before .loop .inv .1) in
+    (all-head (room .small) .quantity, all-head (room .small) .level)
 
 push-requires : tie.Need-push-requires Inv-loop μ-loop
-push-requires c κs = let p = c .before .before .before .before .before .before .before .pre in
-    let room = room-row _ _ _ (p .1) (c .before .before .before .loop-test .taken) (c .before .before .before .before .loop .inv .1) in
-    rw (c .before .leg-record .ensures) (room, leg-small _ _ _ _ (p .0 .0) (p .0 .2) (p .0 .3 .at _) (fit-leg (p .0 .1 .legs) _))
+push-requires c κs =
+    rw (c .before .leg-record .ensures)
+    (room-row _ _ _ (c .before .before .before .before .before .before .before .pre .1) (c .before .before .before .loop-test .taken) (c .before .before .before .before .loop .inv .1))
 
 add-i : tie.Need-add-i Inv-loop μ-loop
 add-i c = omega arith

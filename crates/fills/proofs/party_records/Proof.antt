@@ -1,7 +1,6 @@
 use borrow.Author.Needs.{needs}
 use Rattle.rules.specs.Fills.{partyRecords}
 use Rattle.records.specs.Space.{wrote-append, room-first, room-next}
-use Rattle.fills.specs.Fills.{whole-small}
 use Rattle.fills.proofs.party_records.Statement.{statement}
 use Rattle.fills.proofs.party_records.Tie as tie
 use Rattle.fills.proofs.party_records.Reads as reads
@@ -15,14 +14,13 @@ whole-record-requires c κs = search needs
 
 push-requires : tie.Need-push-requires
 unfolding partyRecords
-push-requires c κs = let p = c .before .before .pre in
-    rw (c .before .whole-record .ensures) (room-first _ _ (p .1), whole-small _ _ _ (p .0 .0) (p .0 .2) (p .0 .3))
+push-requires c κs = rw (c .before .whole-record .ensures) (room-first _ _ (c .before .before .pre .1))
 
 leg-records-requires : tie.Need-leg-records-requires
 unfolding partyRecords
 leg-records-requires c κs = let p = c .before .before .before .before .before .pre in
     let first = rw (c .before .before .before .before .whole-record .ensures) at (c .before .before .push .ensures) in
-    ((p .0 .0, p .0 .1, p .0 .2, p .0 .4), room-next _ _ (p .1) first)
+    (p .0, room-next _ _ (p .1) first)
 
 same-length : tie.Need-same-length
 same-length c = search needs

@@ -38,7 +38,7 @@ element-copy-out-s c = fit-entry (c .before .before .before .before .pre .0 .2 .
 
 fill-records-requires : tie.Need-fill-records-requires
 unfolding filled
-fill-records-requires c κs = let p = c .before .before .before .before .before .before .pre in ((fit-entry (p .0 .2 .entries) _, fit-entry (p .0 .2 .entries) _, fit-legs (p .0 .2 .strategies) _, p .0 .4, p .0 .3), room-of (whole-some _ _ _ _ _ (c .before .before .before .before .before .if1 .left)) (p .1))
+fill-records-requires c κs = let p = c .before .before .before .before .before .before .pre in (fit-legs (p .0 .2 .strategies) _ .count, room-of (whole-some _ _ _ _ _ (c .before .before .before .before .before .if1 .left)) (p .1))
 
 cut-entry-requires : tie.Need-cut-entry-requires
 cut-entry-requires c κs = search needs

@@ -35,7 +35,7 @@ array-copy-out-one-leg : tie.Need-array-copy-out-one-leg Inv-loop μ-loop
 array-copy-out-one-leg c = omega arith
 
 one-leg-requires : tie.Need-one-leg-requires Inv-loop μ-loop
-one-leg-requires c κs = ((c .before .before .before .before .before .before .pre .0 .0, fit-leg (c .before .before .before .before .before .before .pre .0 .1 .legs) _ .ratio, c .before .before .before .before .before .before .pre .0 .2, c .before .before .before .before .before .before .pre .0 .3 .at _), room-row _ _ _ (c .before .before .before .before .before .before .pre .1) (c .before .before .loop-test .taken) (c .before .before .before .loop .inv .1 .wrote))
+one-leg-requires c κs = ((fit-leg (c .before .before .before .before .before .before .pre .0 .0 .legs) _ .ratio, c .before .before .before .before .before .before .pre .0 .1), room-row _ _ _ (c .before .before .before .before .before .before .pre .1) (c .before .before .loop-test .taken) (c .before .before .before .loop .inv .1 .wrote))
 
 add-i : tie.Need-add-i Inv-loop μ-loop
 add-i c = omega arith

@@ -1,8 +1,8 @@
-use Rattle.legging.specs.Legging.{fill-is}
-use Rattle.nets.specs.Nets.{prices-most}
+use Rattle.legging.specs.Legging.{fill-is, net-is}
 use Rattle.ranges.specs.Fit.{fit-entry, fit-legs}
 use Rattle.records.specs.Done.{done-of, room-of}
 use Rattle.rules.proofs.Turns.{units-most}
+use Prim.Native.Nat.{_≤_}
 use native.Mathlib.Nat.{le-trans}
 use borrow.Author.Needs.{needs}
 use Rattle.legging.proofs.leg_fill.Statement.{statement}
@@ -10,7 +10,7 @@ use Rattle.legging.proofs.leg_fill.Tie as tie
 use Rattle.legging.proofs.leg_fill.Reads as reads
 use Rattle.legging.proofs.leg_fill.Lts as lts
 use Rattle.legging.proofs.take_legs.Reads as take-legs-reads
-use Rattle.nets.proofs.prices.Reads as prices-reads
+use Rattle.nets.proofs.leg_prices.Reads as leg-prices-reads
 use Rattle.nets.proofs.units_of.Reads as units-of-reads
 
 mul-e : tie.Need-mul-e
@@ -28,20 +28,24 @@ mul-s c = search needs
 element-copy-out-s : tie.Need-element-copy-out-s
 element-copy-out-s c = fit-entry (c .before .before .pre .0 .1 .entries) (c .before .before .args .a) .strategy
 
-prices-requires : tie.Need-prices-requires
-prices-requires c κs = search needs
+leg-prices-requires : tie.Need-leg-prices-requires
+leg-prices-requires c κs = let f = c .before .before .before .before .pre .0 .1 in (f .orders, fit-legs (f .strategies) _)
 
 units-of-requires : tie.Need-units-of-requires
-units-of-requires c κs = (c .before .before .before .before .before .before .pre .0 .1 .orders, fit-legs (c .before .before .before .before .before .before .pre .0 .1 .strategies) _)
+units-of-requires c κs = let f = c .before .before .before .before .before .before .pre .0 .1 in (f .orders, fit-legs (f .strategies) _)
 
 take-legs-requires : tie.Need-take-legs-requires
-take-legs-requires c κs = ((c .before .before .before .before .before .before .before .before .pre .0 .0, c .before .before .before .before .before .before .before .before .pre .0 .1, fit-legs (c .before .before .before .before .before .before .before .before .pre .0 .1 .strategies) _, rw (c .before .units-of .ensures) (le-trans (units-most _ _ _ _ _) (fit-entry (c .before .before .before .before .before .before .before .before .pre .0 .1 .entries) (c .before .before .before .before .before .before .before .before .args .a) .units)), rw (c .before .before .prices .ensures) (prices-most _ _ _ (c .before .before .before .before .before .before .before .before .pre .0 .1 .orders))), room-of (fill-is _ _ (c .before .before .prices .ensures) (c .before .units-of .ensures)) (c .before .before .before .before .before .before .before .before .pre .1))
+take-legs-requires c κs =
+    let x = c .before .before .before .before .before .before .before .before in
+    let p = c .before .before .before .leg-prices .ensures in
+    let few : c .before .units-of .result ≤ 9999 = rw (c .before .units-of .ensures) (le-trans (units-most _ _ _ _ _) (fit-entry (x .pre .0 .1 .entries) (x .args .a) .units)) in
+    ((x .pre .0 .0, fit-legs (x .pre .0 .1 .strategies) _, few, net-is _ _ _ p), room-of (fill-is _ _ p (c .before .units-of .ensures)) (x .pre .1))
 
 same-length : tie.Need-same-length
 same-length c = search needs
 
 returns : tie.Need-returns
-returns c = done-of (fill-is _ _ (c .before .before .before .before .prices .ensures) (c .before .before .before .units-of .ensures)) (c .before .take-legs .ensures)
+returns c = done-of (fill-is _ _ (c .before .before .before .before .before .leg-prices .ensures) (c .before .before .before .units-of .ensures)) (c .before .take-legs .ensures)
 
 pub leg-fill-spec : {M : Type 1} → statement M
 leg-fill-spec =
@@ -52,7 +56,7 @@ leg-fill-spec =
     cast-k
     mul-s
     element-copy-out-s
-    prices-requires
+    leg-prices-requires
     units-of-requires
     take-legs-requires
     same-length

@@ -1,4 +1,4 @@
-use Rattle.legging.specs.Legging.{contracts-fit, quotas-most}
+use Rattle.legging.specs.Legging.{contracts-fit}
 use native.Mathlib.Omega.{arith}
 use borrow.Author.Needs.{needs}
 use Rattle.legging.proofs.one_leg.Statement.{statement}
@@ -13,13 +13,13 @@ cast-ratio : tie.Need-cast-ratio
 cast-ratio c = search needs
 
 mul-leg-quotas : tie.Need-mul-leg-quotas
-mul-leg-quotas c = omega (arith, contracts-fit _ _ (c .before .pre .0 .1) (c .before .pre .0 .2))
+mul-leg-quotas c = omega (arith, contracts-fit _ _ (c .before .pre .0 .0) (c .before .pre .0 .1))
 
 leg-quotas-requires : tie.Need-leg-quotas-requires
 leg-quotas-requires c κs = search needs
 
 order-rows-requires : tie.Need-order-rows-requires
-order-rows-requires c κs = rw (c .before .leg-quotas .ensures) ((c .before .before .before .pre .0 .0, quotas-most _ _ _ _ _ (omega (arith, contracts-fit _ _ (c .before .before .before .pre .0 .1) (c .before .before .before .pre .0 .2))), c .before .before .before .pre .0 .3), c .before .before .before .pre .1)
+order-rows-requires c κs = rw (c .before .leg-quotas .ensures) (c .before .before .before .pre .1)
 
 cut-orders-requires : tie.Need-cut-orders-requires
 cut-orders-requires c κs = search needs

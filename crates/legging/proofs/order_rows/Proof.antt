@@ -1,5 +1,4 @@
 use Rattle.rules.specs.Fills.{orderRows}
-use Rattle.ranges.specs.Fit.{fit-order}
 use Rattle.base.specs.Walks.{joinN}
 use Rattle.records.specs.Space.{Wrote, wrote-first, wrote-next, wrote-length, room-row}
 use Prim.Native.Nat.{_≤_, _-_}
@@ -9,7 +8,7 @@ use Rattle.legging.proofs.order_rows.Statement.{statement}
 use Rattle.legging.proofs.order_rows.Tie as tie
 use Rattle.legging.proofs.order_rows.Reads as reads
 use Rattle.legging.proofs.order_rows.Lts as lts
-use Rattle.legging.proofs.order_row.Reads as order-row-reads
+use Rattle.trades.proofs.order_row.Reads as order-row-reads
 
 abbrev Inv-loop : tie.InvT-loop
 Inv-loop space₀ n price os qs m₀ i₀ space m i = (i ≤ 32) × Wrote space₀ space n m (joinN (orderRows os qs price) i)
@@ -33,7 +32,7 @@ array-read-order-row : tie.Need-array-read-order-row Inv-loop μ-loop
 array-read-order-row c = omega arith
 
 order-row-requires : tie.Need-order-row-requires Inv-loop μ-loop
-order-row-requires c κs = ((fit-order (c .before .before .before .before .pre .0 .0) _, c .before .before .before .before .pre .0 .1 .at _, c .before .before .before .before .pre .0 .2), room-row _ 32 _ (c .before .before .before .before .pre .1) (c .before .before .loop-test .taken) (c .before .before .before .loop .inv .1))
+order-row-requires c κs = room-row _ 32 _ (c .before .before .before .before .pre) (c .before .before .loop-test .taken) (c .before .before .before .loop .inv .1)
 
 add-i : tie.Need-add-i Inv-loop μ-loop
 add-i c = omega arith

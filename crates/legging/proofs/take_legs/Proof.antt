@@ -1,6 +1,4 @@
 use Rattle.records.specs.Space.{wrote-append, room-first, room-next}
-use Rattle.legging.specs.Legging.{level-fits}
-use Rattle.ranges.specs.Fit.{fit-entry}
 use Rattle.rules.specs.Fills.{takeLegs}
 use Rattle.rules.specs.State.{withOrders}
 use borrow.Author.Needs.{needs}
@@ -11,7 +9,6 @@ use Rattle.legging.proofs.take_legs.Lts as lts
 use Rattle.fills.proofs.cut.Reads as cut-reads
 use Rattle.fills.proofs.party_records.Reads as party-records-reads
 use Rattle.legging.proofs.all_legs.Reads as all-legs-reads
-use Rattle.nets.proofs.net_of.Reads as net-of-reads
 
 mul-e : tie.Need-mul-e
 mul-e c = search needs
@@ -19,16 +16,13 @@ mul-e c = search needs
 element-copy-out-e : tie.Need-element-copy-out-e
 element-copy-out-e c = search needs
 
-net-of-requires : tie.Need-net-of-requires
-net-of-requires c κs = search needs
-
 party-records-requires : tie.Need-party-records-requires
 unfolding takeLegs
-party-records-requires c κs = let p = c .before .before .before .before .pre in rw (c .before .net-of .ensures) ((fit-entry (p .0 .1 .entries) _, p .0 .2, p .0 .3, level-fits _ _ (p .0 .2) (p .0 .4), p .0 .4), room-first _ _ (p .1))
+party-records-requires c κs = let p = c .before .before .before .before .pre in (p .0 .1 .count, rw (p .0 .3) (room-first _ _ (p .1)))
 
 all-legs-requires : tie.Need-all-legs-requires
 unfolding takeLegs
-all-legs-requires c κs = let p = c .before .before .before .before .before .before .before .pre in ((p .0 .1 .orders, p .0 .2, p .0 .3, p .0 .4), room-next _ _ (p .1) (rw (c .before .before .before .before .net-of .ensures) at (c .before .before .party-records .ensures)))
+all-legs-requires c κs = let p = c .before .before .before .before .before .before .before .pre in ((p .0 .1, p .0 .2), room-next _ _ (p .1) (rw (p .0 .3) at (c .before .before .party-records .ensures)))
 
 cut-requires : tie.Need-cut-requires
 cut-requires c κs = search needs
@@ -38,7 +32,9 @@ same-length c = search needs
 
 returns : tie.Need-returns
 unfolding takeLegs withOrders
-returns c = record { wrote = wrote-append (rw (c .before .before .before .before .before .before .before .before .net-of .ensures) at (c .before .before .before .before .before .before .party-records .ensures)) (c .before .before .before .all-legs .ensures .wrote); state = rw (c .cut .ensures, c .before .before .before .all-legs .ensures .left) }
+returns c =
+    let p = c .before .before .before .before .before .before .before .before .before .before .before .pre in
+    record { wrote = wrote-append (rw (p .0 .3) at (c .before .before .before .before .before .before .party-records .ensures)) (c .before .before .before .all-legs .ensures .wrote); state = rw (c .cut .ensures, c .before .before .before .all-legs .ensures .left) }
 
 pub take-legs-spec : {M : Type 1} → statement M
 take-legs-spec =
@@ -46,7 +42,6 @@ take-legs-spec =
     (tie.spec
     mul-e
     element-copy-out-e
-    net-of-requires
     party-records-requires
     all-legs-requires
     cut-requires

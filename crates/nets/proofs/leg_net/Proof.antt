@@ -1,14 +1,13 @@
 use lib.ListN.{length-map}
 use Rattle.rules.specs.Nets.{legNet}
 use Rattle.ranges.specs.Fit.{fit-legs}
-use Rattle.nets.specs.Nets.{prices-most, net-past}
+use Rattle.nets.specs.Nets.{legPrices, net-past}
 use borrow.Author.Needs.{needs}
 use Rattle.nets.proofs.leg_net.Statement.{statement}
 use Rattle.nets.proofs.leg_net.Tie as tie
 use Rattle.nets.proofs.leg_net.Reads as reads
 use Rattle.nets.proofs.leg_net.Lts as lts
-use Rattle.nets.proofs.net_of.Reads as net-of-reads
-use Rattle.nets.proofs.prices.Reads as prices-reads
+use Rattle.nets.proofs.leg_prices.Reads as leg-prices-reads
 
 returns : tie.Need-returns
 returns c = net-past _ _ _ (simp length-map at (c .before .good .0 .1 .1 .0 .1 .0 .1)) (c .if1 .taken)
@@ -19,16 +18,13 @@ mul-s c = search needs
 element-copy-out-s : tie.Need-element-copy-out-s
 element-copy-out-s c = search needs
 
-prices-requires : tie.Need-prices-requires
-prices-requires c κs = search needs
-
-net-of-requires : tie.Need-net-of-requires
-net-of-requires c κs = (fit-legs (c .before .before .before .before .before .pre .1) _, rw (c .prices .ensures) (prices-most _ _ _ (c .before .before .before .before .before .pre .0)))
+leg-prices-requires : tie.Need-leg-prices-requires
+leg-prices-requires c κs = (c .before .before .before .pre .0, fit-legs (c .before .before .before .pre .1) _)
 
 returns-2 : tie.Need-returns-2
-unfolding legNet
-returns-2 c = rw (c .net-of .ensures, c .before .prices .ensures)
+unfolding legNet legPrices
+returns-2 c = rw (c .leg-prices .ensures)
 
 pub leg-net-spec : {M : Type 1} → statement M
 leg-net-spec =
-    tie.close (tie.spec returns mul-s element-copy-out-s prices-requires net-of-requires returns-2)
+    tie.close (tie.spec returns mul-s element-copy-out-s leg-prices-requires returns-2)

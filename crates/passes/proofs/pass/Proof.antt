@@ -4,7 +4,7 @@ use mathlib.Core.Path.{_≡_, _∙_}
 use Prim.Native.Nat.{_≤_, _-_}
 use Rattle.base.specs.Pick.{told}
 use Rattle.records.specs.Done.{Done, each-first, each-next, room-each, done-length, done-of}
-use Rattle.passes.specs.Passes.{fit-turns, turn-most, pass-stops, turn-in}
+use Rattle.passes.specs.Passes.{fit-turns, pass-stops, turn-in}
 use Rattle.ranges.specs.Fit.{fit-entry, fit-legs}
 use Rattle.rules.specs.Passes.{pass, turn}
 use Rattle.rules.specs.Moves.{each}
@@ -65,7 +65,7 @@ take-requires : tie.Need-take-requires Inv-loop μ-loop
 unfolding pass
 take-requires c κs = let t = c .before .before .before .turn-of .ensures ∙ turn-in (c .before .before .before .before .before .before .before .before .before .before .before .before .args .way) (c .before .before .before .before .before .before .before .before .before .before .before .before .args .legs) (c .before .before .before .before .before .before .before .before .before .before .before .before .args .a) (c .before .before .before .before .before .before .before .before .before .before .loop .c) in
     let fit = fit-turns _ _ _ _ _ (c .before .before .before .before .before .before .before .before .before .before .before .before .pre .0 .1) (c .before .before .before .before .before .before .before .before .before .before .loop .inv .1) in
-    rw t ((c .before .before .before .before .before .before .before .before .before .before .before .before .pre .0 .0, fit, turn-most _ _ _ _ fit), room-each (turn (c .before .before .before .before .before .before .before .before .before .before .before .before .args .way) (c .before .before .before .before .before .before .before .before .before .before .before .before .args .legs) (c .before .before .before .before .before .before .before .before .before .before .before .before .args .a)) _ (c .before .before .before .before .before .before .before .before .before .before .loop .i) _ (c .before .before .before .before .before .before .before .before .before .before .before .before .pre .1) (c .before .before .before .before .before .before .before .before .before .loop-test .taken) (c .before .before .before .before .before .before .before .before .before .before .loop .inv .1))
+    rw t ((c .before .before .before .before .before .before .before .before .before .before .before .before .pre .0 .0, fit), room-each (turn (c .before .before .before .before .before .before .before .before .before .before .before .before .args .way) (c .before .before .before .before .before .before .before .before .before .before .before .before .args .legs) (c .before .before .before .before .before .before .before .before .before .before .before .before .args .a)) _ (c .before .before .before .before .before .before .before .before .before .before .loop .i) _ (c .before .before .before .before .before .before .before .before .before .before .before .before .pre .1) (c .before .before .before .before .before .before .before .before .before .loop-test .taken) (c .before .before .before .before .before .before .before .before .before .before .loop .inv .1))
 
 add-i : tie.Need-add-i Inv-loop μ-loop
 add-i c = omega (arith, fit-entry (c .before .before .before .before .before .before .before .before .before .before .before .before .before .before .before .pre .0 .1 .entries) (c .before .before .before .before .before .before .before .before .before .before .before .before .before .before .before .args .a) .units, c .before .before .before .before .before .before .before .before .before .before .before .before .loop-test .taken)

@@ -1,9 +1,7 @@
 use Rattle.rules.specs.Passes.{take}
-use Rattle.passes.specs.Passes.{turnLevel}
 use Rattle.rules.specs.declared.Turn.{Turn}
 use Rattle.records.specs.Done.{done-still, done-of, room-of}
-use Prim.Native.Nat.{_≤_}
-use mathlib.Core.Path.{ap, subst}
+use mathlib.Core.Path.{ap}
 use borrow.Author.Needs.{needs}
 use Rattle.passes.proofs.take.Statement.{statement}
 use Rattle.passes.proofs.take.Tie as tie
@@ -20,14 +18,14 @@ enum-told-2 c = search needs
 
 leg-fill-requires : tie.Need-leg-fill-requires
 unfolding take
-leg-fill-requires c κs = ((c .before .before .before .pre .0 .0, c .before .before .before .pre .0 .1), room-of (ap (λ (t : Turn). take (c .before .before .before .args .way) (c .before .before .before .args .a) t (c .before .before .before .args .b)) (c .before .enum-told2 .given .1)) (c .before .before .before .pre .1))
+leg-fill-requires c κs = (c .before .before .before .pre .0, room-of (ap (λ (t : Turn). take (c .before .before .before .args .way) (c .before .before .before .args .a) t (c .before .before .before .args .b)) (c .before .enum-told2 .given .1)) (c .before .before .before .pre .1))
 
 enum-known-t : tie.Need-enum-known-t
 enum-known-t c = search needs
 
 meet-limit-requires : tie.Need-meet-limit-requires
-unfolding take turnLevel
-meet-limit-requires c κs = ((c .before .before .before .before .pre .0 .0, c .before .before .before .before .pre .0 .1, subst (λ (t : Turn). turnLevel t ≤ 20000000) (c .before .before .t .given .1) (c .before .before .before .before .pre .0 .2)), room-of (ap (λ (t : Turn). take (c .before .before .before .before .args .way) (c .before .before .before .before .args .a) t (c .before .before .before .before .args .b)) (c .before .before .t .given .1)) (c .before .before .before .before .pre .1))
+unfolding take
+meet-limit-requires c κs = (c .before .before .before .before .pre .0, room-of (ap (λ (t : Turn). take (c .before .before .before .before .args .way) (c .before .before .before .before .args .a) t (c .before .before .before .before .args .b)) (c .before .before .t .given .1)) (c .before .before .before .before .pre .1))
 
 returns : tie.Need-returns
 unfolding take

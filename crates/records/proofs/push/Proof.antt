@@ -1,5 +1,5 @@
-use Rattle.records.specs.Space.{record-stores}
-use Rattle.records.specs.Space.{kind-small, cents-fits}
+use Rattle.base.specs.All.{all-head}
+use Rattle.records.specs.Space.{Small, kind-small, cents-fits, record-stores}
 use Rattle.rules.specs.Records.{kindNumber}
 use mathlib.Core.Path.{refl}
 use mir.Syntax.{w32}
@@ -19,7 +19,7 @@ kind-number-requires : tie.Need-kind-number-requires
 kind-number-requires c κs = search needs
 
 cents-requires : tie.Need-cents-requires
-cents-requires c κs = search needs
+cents-requires c κs = all-head (c .before .pre .small) .level
 
 mul-at : tie.Need-mul-at
 mul-at c = search needs
@@ -34,7 +34,7 @@ slice-set-from-space : tie.Need-slice-set-from-space
 slice-set-from-space c = search needs
 
 cast-space-2 : tie.Need-cast-space-2
-cast-space-2 c = search needs
+cast-space-2 c = record { sfits = omega (arith, all-head (c .before .before .before .pre .small) .number) }
 
 add-space : tie.Need-add-space
 add-space c = search needs
@@ -70,7 +70,7 @@ slice-set-from-space-4 : tie.Need-slice-set-from-space-4
 slice-set-from-space-4 c = simp length-set (omega arith)
 
 cast-space-5 : tie.Need-cast-space-5
-cast-space-5 c = search needs
+cast-space-5 c = record { sfits = omega (arith, all-head (c .before .before .before .before .before .before .pre .small) .quantity) }
 
 add-t11 : tie.Need-add-t11
 add-t11 c = search needs
@@ -97,14 +97,17 @@ same-length : tie.Need-same-length
 same-length c = simp length-set
 
 returns : tie.Need-returns
-returns c = let number : c .before .before .before .before .before .before .args .r .number < 2 ^ 31 = omega (arith, c .before .before .before .before .before .before .pre .1 .number) in
-    let place : c .before .before .before .before .before .before .args .r .place < 2 ^ 31 = omega arith in
-    let side : c .before .before .before .before .before .before .args .r .side < 2 ^ 31 = omega arith in
-    let quantity : c .before .before .before .before .before .before .args .r .quantity < 2 ^ 31 = omega (arith, c .before .before .before .before .before .before .pre .1 .quantity) in
-    let kind : kindNumber (c .before .before .before .before .before .before .args .r .kind) < 2 ^ 31 = omega (arith, kind-small (c .before .before .before .before .before .before .args .r .kind)) in
+returns c =
+    let p = c .before .before .before .before .before .before in
+    let small : Small (p .args .r) = all-head (p .pre .small) in
+    let number : p .args .r .number < 2 ^ 31 = omega (arith, small .number) in
+    let place : p .args .r .place < 2 ^ 31 = omega arith in
+    let side : p .args .r .side < 2 ^ 31 = omega arith in
+    let quantity : p .args .r .quantity < 2 ^ 31 = omega (arith, small .quantity) in
+    let kind : kindNumber (p .args .r .kind) < 2 ^ 31 = omega (arith, kind-small (p .args .r .kind)) in
     rw (c .before .before .before .before .before .kind-number .ensures, c .before .before .before .before .cents .ensures)
-    (simp (toZ-pos w32 kind, toZ-pos w32 number, toZ-pos w32 place, toZ-pos w32 side, toZ-pos w32 quantity, toZ-ofZ (cents-fits _ (c .before .before .before .before .before .before .pre .1 .level)))
-    (record { count = refl; space = record-stores (c .before .before .before .before .before .before .args .space .now) (c .before .before .before .before .before .before .args .n) (c .before .before .before .before .before .before .args .r) }))
+    (simp (toZ-pos w32 kind, toZ-pos w32 number, toZ-pos w32 place, toZ-pos w32 side, toZ-pos w32 quantity, toZ-ofZ (cents-fits _ (small .level)))
+    (record { count = refl; space = record-stores (p .args .space .now) (p .args .n) (p .args .r) }))
 
 pub push-spec : {M : Type 1} → statement M
 push-spec =

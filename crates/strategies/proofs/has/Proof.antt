@@ -1,16 +1,21 @@
+use mathlib.Core.Path.{sym}
 use Rattle.base.specs.Sets.{has}
+use Rattle.base.specs.SetLaws.{has-past}
 use borrow.Author.Needs.{needs}
 use Rattle.strategies.proofs.has.Statement.{statement}
 use Rattle.strategies.proofs.has.Tie as tie
 use Rattle.strategies.proofs.has.Reads as reads
 use Rattle.strategies.proofs.has.Lts as lts
 
+returns : tie.Need-returns
+returns c = sym (has-past _ _ (c .before .fits .x .fits) (c .if1 .taken))
+
 shr-y : tie.Need-shr-y
 shr-y c = search needs
 
-returns : tie.Need-returns
+returns-2 : tie.Need-returns-2
 unfolding has
-returns c = search needs
+returns-2 c = search needs
 
 pub has-spec : {M : Type 1} → statement M
-has-spec = tie.close (tie.spec shr-y returns)
+has-spec = tie.close (tie.spec returns shr-y returns-2)

@@ -1,7 +1,6 @@
 use lib.ListN.{length-map}
-use Rattle.trades.specs.Trades.{cancel-small, cancel-none, cancel-past, cancel-room, cancel-done}
+use Rattle.trades.specs.Trades.{cancel-none, cancel-past, cancel-room, cancel-done}
 use Rattle.records.specs.Done.{done-still, done-of}
-use Rattle.ranges.specs.Fit.{fit-order}
 use borrow.Author.Needs.{needs}
 use Rattle.trades.proofs.cancel_order.Statement.{statement}
 use Rattle.trades.proofs.cancel_order.Tie as tie
@@ -27,7 +26,7 @@ cancel-leg-record-requires : tie.Need-cancel-leg-record-requires
 cancel-leg-record-requires c κs = search needs
 
 push-requires : tie.Need-push-requires
-push-requires c κs = (rw (c .before .cancel-leg-record .ensures) (cancel-room _ _ (c .before .before .if2 .left) (c .before .before .before .before .before .before .pre .1)), rw (c .before .cancel-leg-record .ensures) (cancel-small _ (fit-order (c .before .before .before .before .before .before .pre .0) _)))
+push-requires c κs = rw (c .before .cancel-leg-record .ensures) (cancel-room _ _ (c .before .before .if2 .left) (c .before .before .before .before .before .before .pre))
 
 cut-leg-requires : tie.Need-cut-leg-requires
 cut-leg-requires c κs = search needs

@@ -1,6 +1,5 @@
 use Rattle.records.specs.Space.{wrote-length}
-use Rattle.trades.specs.Trades.{trade-room, trade-done, trade-few}
-use Rattle.ranges.specs.Fit.{fit-order}
+use Rattle.trades.specs.Trades.{trade-room, trade-done}
 use borrow.Author.Needs.{needs}
 use Rattle.trades.proofs.leg_trade.Statement.{statement}
 use Rattle.trades.proofs.leg_trade.Tie as tie
@@ -26,7 +25,7 @@ least-requires : tie.Need-least-requires
 least-requires c κs = search needs
 
 report-requires : tie.Need-report-requires
-report-requires c κs = ((fit-order (c .before .before .before .before .pre .0 .2) _, fit-order (c .before .before .before .before .pre .0 .2) _, trade-few (c .before .before .before .before .args .t1) _ _ (c .before .least .ensures) (c .before .before .before .before .pre .0 .2)), trade-room (c .before .before .before .before .args .t1) _ _ (c .before .least .ensures) (c .before .before .before .before .pre .1))
+report-requires c κs = trade-room (c .before .before .before .before .args .t1) _ _ (c .before .least .ensures) (c .before .before .before .before .pre .1)
 
 cut-leg-requires : tie.Need-cut-leg-requires
 cut-leg-requires c κs = search needs

@@ -1,5 +1,5 @@
 use Rattle.records.specs.Space.{wrote-append, room-first, room-next}
-use Rattle.trades.specs.Trades.{order-small}
+use Rattle.base.specs.All.{all-head}
 use mathlib.Core.List.{[], _∷_}
 use borrow.Author.Needs.{needs}
 use Rattle.trades.proofs.report.Statement.{statement}
@@ -10,16 +10,16 @@ use Rattle.records.proofs.push.Reads as push-reads
 use Rattle.trades.proofs.order_record.Reads as order-record-reads
 
 order-record-requires : tie.Need-order-record-requires
-order-record-requires c κs = c .pre .0 .1 .price
+order-record-requires c κs = all-head (c .pre .small) .level
 
 push-requires : tie.Need-push-requires
-push-requires c κs = (rw (c .before .order-record .ensures) (room-first (_ ∷ []) (_ ∷ []) (c .before .before .pre .1)), rw (c .before .order-record .ensures) (order-small _ _ _ (c .before .before .pre .0 .0) (c .before .before .pre .0 .2) (c .before .before .pre .0 .1 .price)))
+push-requires c κs = rw (c .before .order-record .ensures) (room-first (_ ∷ []) (_ ∷ []) (c .before .before .pre))
 
 order-record-requires-2 : tie.Need-order-record-requires-2
-order-record-requires-2 c κs = c .before .before .before .before .pre .0 .1 .price
+order-record-requires-2 c κs = all-head (c .before .before .before .before .pre .small) .level
 
 push-requires-2 : tie.Need-push-requires-2
-push-requires-2 c κs = (rw (c .before .order-record2 .ensures) (room-next (_ ∷ []) (_ ∷ []) (c .before .before .before .before .before .before .pre .1) (rw (c .before .before .before .before .before .order-record .ensures) at (c .before .before .before .push .ensures))), rw (c .before .order-record2 .ensures) (order-small _ _ _ (c .before .before .before .before .before .before .pre .0 .1) (c .before .before .before .before .before .before .pre .0 .2) (c .before .before .before .before .before .before .pre .0 .1 .price)))
+push-requires-2 c κs = rw (c .before .order-record2 .ensures) (room-next (_ ∷ []) (_ ∷ []) (c .before .before .before .before .before .before .pre) (rw (c .before .before .before .before .before .order-record .ensures) at (c .before .before .before .push .ensures)))
 
 same-length : tie.Need-same-length
 same-length c = search needs

@@ -1,6 +1,6 @@
 use lib.ListN.{length, length-map}
 use borrow.Author.Needs.{needs}
-use Rattle.trades.specs.Trades.{next-most, next-within, trades-stop, trade-turn, fit-after, rows-after}
+use Rattle.trades.specs.Trades.{next-most, next-within, trades-stop, trade-turn, rows-after}
 use Rattle.records.specs.Done.{Done, each-first, each-next, done-of, done-length, room-each, room-of}
 use Rattle.rules.specs.Events.{tradeOnce, tradeAll}
 use Rattle.rules.specs.Moves.{each}
@@ -34,7 +34,7 @@ returns c = done-of (trades-stop _ _ _ _ (c .before .before .before .loop .inv .
 
 leg-trade-requires : tie.Need-leg-trade-requires Inv-loop μ-loop
 unfolding tradeAll
-leg-trade-requires c κs = let l : length (c .before .before .before .before .before .args .b .orders) ≡ 32 = simp length-map at (c .before .before .before .before .before .good .0 .1 .1 .1 .1 .0 .1 .0 .1) in ((next-within _ _ (rows-after _ _ _ l (c .before .before .before .before .loop .inv .1)) (c .before .before .next-trade .ensures) (c .before .if1 .left), rw (c .before .before .next-trade .ensures) (omega (arith, next-most (c .before .before .before .before .before .args .a) (c .before .before .before .before .loop .c), c .before .before .next-trade .ensures, c .before .if1 .left)), fit-after _ _ _ (c .before .before .before .before .before .pre .0) (c .before .before .before .before .loop .inv .1)), room-of (trade-turn _ _ _ (c .before .before .next-trade .ensures) (c .before .if1 .left)) (room-each (tradeOnce (c .before .before .before .before .before .args .a)) 32 (c .before .before .before .before .loop .i) _ (c .before .before .before .before .before .pre .1) (c .before .before .before .loop-test .taken) (c .before .before .before .before .loop .inv .1)))
+leg-trade-requires c κs = let l : length (c .before .before .before .before .before .args .b .orders) ≡ 32 = simp length-map at (c .before .before .before .before .before .good .0 .1 .1 .1 .1 .0 .1 .0 .1) in ((next-within _ _ (rows-after _ _ _ l (c .before .before .before .before .loop .inv .1)) (c .before .before .next-trade .ensures) (c .before .if1 .left), rw (c .before .before .next-trade .ensures) (omega (arith, next-most (c .before .before .before .before .before .args .a) (c .before .before .before .before .loop .c), c .before .before .next-trade .ensures, c .before .if1 .left))), room-of (trade-turn _ _ _ (c .before .before .next-trade .ensures) (c .before .if1 .left)) (room-each (tradeOnce (c .before .before .before .before .before .args .a)) 32 (c .before .before .before .before .loop .i) _ (c .before .before .before .before .before .pre) (c .before .before .before .loop-test .taken) (c .before .before .before .before .loop .inv .1)))
 
 add-i : tie.Need-add-i Inv-loop μ-loop
 add-i c = omega arith

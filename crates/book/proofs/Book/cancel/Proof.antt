@@ -1,7 +1,6 @@
 use Rattle.book.specs.Premises.{cancel-accepts, cancel-value}
 use Rattle.book.specs.Outcomes.{took, room-event}
 use Rattle.records.specs.Done.{done-of, room-of}
-use Rattle.ranges.specs.Fit.{fit-sound}
 use Rattle.book.specs.Outcomes.{took-refused}
 use borrow.Author.Needs.{needs}
 use Rattle.book.proofs.Book.cancel.Statement.{statement}
@@ -23,7 +22,9 @@ returns : tie.Need-returns
 returns c = took-refused _ _ _ (c .before .before .before .before .pre .0) (c .before .before .before .before .pre .2) (c .before .before .cancel-refusal .ensures) (c .before .if1 .taken) (c .refuse .ensures)
 
 cancel-number-requires : tie.Need-cancel-number-requires
-cancel-number-requires c κs = (fit-sound (c .before .before .before .before .pre .0 .sound), room-of (cancel-accepts _ (c .before .before .before .before .args .e)) (room-event _ _ _ (c .before .before .before .before .pre .0) (c .before .before .before .before .pre .2)))
+cancel-number-requires c κs =
+    let p = c .before .before .before .before .pre in
+    room-of (cancel-accepts _ (c .before .before .before .before .args .e)) (room-event _ _ _ (p .0) (p .1) (p .2) (c .before .before .cancel-refusal .ensures) (c .before .if1 .left))
 
 admit-requires : tie.Need-admit-requires
 admit-requires c κs = search needs

@@ -23,7 +23,9 @@ returns : tie.Need-returns
 returns c = took-refused _ _ _ (c .before .before .before .before .pre .0) (c .before .before .before .before .pre .2) (c .before .before .clock-refusal .ensures) (c .before .if1 .taken) (c .refuse .ensures)
 
 on-clock-requires : tie.Need-on-clock-requires
-on-clock-requires c κs = ((c .before .before .before .before .pre .1, ranged-sound (c .before .before .before .before .pre .0 .sound)), room-of (clock-accepts _ _) (room-event _ _ _ (c .before .before .before .before .pre .0) (c .before .before .before .before .pre .2)))
+on-clock-requires c κs =
+    let p = c .before .before .before .before .pre in
+    ((p .1, ranged-sound (p .0 .sound)), room-of (clock-accepts _ _) (room-event _ _ _ (p .0) (p .1) (p .2) (c .before .before .clock-refusal .ensures) (c .before .if1 .left)))
 
 admit-requires : tie.Need-admit-requires
 admit-requires c κs = search needs

@@ -11,7 +11,9 @@ use Rattle.book.proofs.admit.Reads as admit-reads
 use Rattle.closing.proofs.on_day_end.Reads as on-day-end-reads
 
 on-day-end-requires : tie.Need-on-day-end-requires
-on-day-end-requires c κs = (c .before .before .pre .0, room-of (day-end-accepts _ _) (room-event _ _ _ (c .before .before .pre .0) (c .before .before .pre .2)))
+on-day-end-requires c κs =
+    let p = c .before .before .pre in
+    (p .0, room-of (day-end-accepts _ _) (room-event _ _ _ (p .0) (p .1) (p .2) (day-end-none _ _) refl))
 
 admit-requires : tie.Need-admit-requires
 admit-requires c κs = search needs

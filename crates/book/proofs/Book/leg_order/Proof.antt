@@ -26,7 +26,12 @@ leg-order-given-requires : tie.Need-leg-order-given-requires
 leg-order-given-requires c κs = search needs
 
 on-leg-order-requires : tie.Need-on-leg-order-requires
-on-leg-order-requires c κs = (leg-premises _ _ (c .before .before .before .before .before .pre .0) (c .before .before .before .before .before .pre .1) (c .before .before .before .leg-order-refusal .ensures) (c .before .before .if1 .left) (c .before .leg-order-given .ensures), room-of (leg-accepts _ _ (c .before .leg-order-given .ensures)) (room-event _ _ _ (c .before .before .before .before .before .pre .0) (c .before .before .before .before .before .pre .2)))
+on-leg-order-requires c κs =
+    let p = c .before .before .before .before .before .pre in
+    let r = c .before .before .before .leg-order-refusal .ensures in
+    let z = c .before .before .if1 .left in
+    let g = c .before .leg-order-given .ensures in
+    (leg-premises _ _ (p .0) (p .1) r z g, room-of (leg-accepts _ _ g) (room-event _ _ _ (p .0) (p .1) (p .2) r z))
 
 admit-requires : tie.Need-admit-requires
 admit-requires c κs = search needs

@@ -26,7 +26,12 @@ order-given-requires : tie.Need-order-given-requires
 order-given-requires c κs = search needs
 
 on-order-requires : tie.Need-on-order-requires
-on-order-requires c κs = (order-premises _ _ (c .before .before .before .before .before .pre .0) (c .before .before .before .before .before .pre .1) (c .before .before .before .order-refusal .ensures) (c .before .before .if1 .left) (c .before .order-given .ensures), room-of (order-accepts _ _ (c .before .order-given .ensures)) (room-event _ _ _ (c .before .before .before .before .before .pre .0) (c .before .before .before .before .before .pre .2)))
+on-order-requires c κs =
+    let p = c .before .before .before .before .before .pre in
+    let r = c .before .before .before .order-refusal .ensures in
+    let z = c .before .before .if1 .left in
+    let g = c .before .order-given .ensures in
+    (order-premises _ _ (p .0) (p .1) r z g, room-of (order-accepts _ _ g) (room-event _ _ _ (p .0) (p .1) (p .2) r z))
 
 admit-requires : tie.Need-admit-requires
 admit-requires c κs = search needs

@@ -1,7 +1,7 @@
 use Rattle.book.specs.Premises.{series-none, series-accepts, series-value}
 use Rattle.book.specs.Outcomes.{took, room-event}
 use Rattle.records.specs.Done.{done-of, room-of}
-use Rattle.auctions.specs.Ranged.{ranged-sound}
+use Rattle.ranges.specs.Fit.{fit-sound}
 use mathlib.Core.Path.{refl}
 use borrow.Author.Needs.{needs}
 use Rattle.book.proofs.Book.series.Statement.{statement}
@@ -15,7 +15,9 @@ cast-on-series : tie.Need-cast-on-series
 cast-on-series c = search needs
 
 on-series-requires : tie.Need-on-series-requires
-on-series-requires c κs = ((c .before .before .before .pre .1, ranged-sound (c .before .before .before .pre .0 .sound)), room-of (series-accepts _ _) (room-event _ _ _ (c .before .before .before .pre .0) (c .before .before .before .pre .2)))
+on-series-requires c κs =
+    let p = c .before .before .before .pre in
+    ((p .1, fit-sound (p .0 .sound)), room-of (series-accepts _ _) (room-event _ _ _ (p .0) (p .1) (p .2) (series-none _ _) refl))
 
 admit-requires : tie.Need-admit-requires
 admit-requires c κs = search needs

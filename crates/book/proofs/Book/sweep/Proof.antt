@@ -27,7 +27,12 @@ sweep-given-requires : tie.Need-sweep-given-requires
 sweep-given-requires c κs = search needs
 
 on-sweep-requires : tie.Need-on-sweep-requires
-on-sweep-requires c κs = (sweep-premises _ _ (c .before .before .before .before .before .pre .0) (c .before .before .before .before .before .pre .1) (c .before .before .before .sweep-refusal .ensures) (c .before .before .if1 .left) (c .before .sweep-given .ensures), room-of (sweep-accepts _ _ (c .before .sweep-given .ensures)) (room-event _ _ _ (c .before .before .before .before .before .pre .0) (c .before .before .before .before .before .pre .2)))
+on-sweep-requires c κs =
+    let p = c .before .before .before .before .before .pre in
+    let r = c .before .before .before .sweep-refusal .ensures in
+    let z = c .before .before .if1 .left in
+    let g = c .before .sweep-given .ensures in
+    (sweep-premises _ _ (p .0) (p .1) r z g, room-of (sweep-accepts _ _ g) (room-event _ _ _ (p .0) (p .1) (p .2) r z))
 
 number-taken-requires : tie.Need-number-taken-requires
 number-taken-requires c κs = search needs
