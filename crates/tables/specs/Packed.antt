@@ -9,8 +9,9 @@ use Rattle.rules.specs.Events.{keep, behind}
 use Rattle.tables.specs.Padded.{padTo, pad-set, pad-none}
 use Rattle.tables.specs.Kept.{keep-skip, keep-more, keep-room, keep-length, keep-all, behind-is, behind-full}
 
--- n of the first i rows are live
+-- n of the first i rows of 32 are live
 pub record Counted {A : Type 0} (test : A → Bool) (xs : List A) (i n : ℕ) : Type 0 where
+  pub size : length xs ≡ 32
   pub count : n ≡ length (keep test (take i xs))
 
 -- .. and they stand in front of empty ones
@@ -19,51 +20,50 @@ pub record Packing {A : Type 0} (test : A → Bool) (d : A) (xs : List A) (i : �
   pub counted : Counted test xs i n
 
 module _ {A : Type 0} (test : A → Bool) (d : A) (xs : List A) where
-  pub counted-first : Counted test xs 0 0
+  pub counted-first : length xs ≡ 32 → Counted test xs 0 0
   unfolding keep
-  counted-first = record { count = refl }
+  counted-first l = record { size = l; count = refl }
 
-  pub packing-first : Packing test d xs 0 (replicate 32 d) 0
+  pub packing-first : length xs ≡ 32 → Packing test d xs 0 (replicate 32 d) 0
   unfolding keep
-  packing-first = record { rows = sym (pad-none d 32); counted = counted-first }
+  packing-first l = record { rows = sym (pad-none d 32); counted = counted-first l }
 
-  module _ (i : ℕ) (l : length xs ≡ 32) (h : i < 32) where
-    within : i < length xs
-    within = omega arith
+  module _ (i : ℕ) (h : i < 32) {n : ℕ} where
+    within : Counted test xs i n → i < length xs
+    within g = omega (arith, g .size)
 
-    pub counted-room : {n : ℕ} → Counted test xs i n → n < 32
-    counted-room g = omega (arith, g .count, keep-room test d xs i within)
+    pub counted-more : test (getD xs i d) ≡ true → Counted test xs i n → Counted test xs (i + 1) (n + 1)
+    counted-more t g = record { size = g .size; count = rw (keep-more test d xs i (within g) t, length-append) (omega (arith, g .count)) }
 
-    pub counted-more : {n : ℕ} → test (getD xs i d) ≡ true → Counted test xs i n → Counted test xs (i + 1) (n + 1)
-    counted-more t g = record { count = rw (keep-more test d xs i within t, length-append) (omega (arith, g .count)) }
+    pub counted-skip : test (getD xs i d) ≡ false → Counted test xs i n → Counted test xs (i + 1) n
+    counted-skip t g = record { size = g .size; count = rw (keep-skip test d xs i (within g) t) (g .count) }
 
-    pub counted-skip : {n : ℕ} → test (getD xs i d) ≡ false → Counted test xs i n → Counted test xs (i + 1) n
-    counted-skip t g = record { count = rw (keep-skip test d xs i within t) (g .count) }
+    pub packing-more : {ys : List A} → test (getD xs i d) ≡ true → Packing test d xs i ys n → Packing test d xs (i + 1) (set ys n (getD xs i d)) (n + 1)
+    packing-more t g =
+        let k = g .counted in
+        record {
+          rows = rw (keep-more test d xs i (within k) t, g .rows, k .count) (pad-set d 32 (keep test (take i xs)) (getD xs i d) (omega (arith, k .size, keep-room test d xs i (within k))));
+          counted = counted-more t k;
+        }
 
-    pub packing-more : {ys : List A} {n : ℕ} → test (getD xs i d) ≡ true → Packing test d xs i ys n → Packing test d xs (i + 1) (set ys n (getD xs i d)) (n + 1)
-    packing-more t g = record {
-      rows = rw (keep-more test d xs i within t, g .rows, g .counted .count) (pad-set d 32 (keep test (take i xs)) (getD xs i d) (omega (arith, g .counted .count, counted-room (g .counted))));
-      counted = counted-more t (g .counted);
-    }
+    pub packing-skip : {ys : List A} → test (getD xs i d) ≡ false → Packing test d xs i ys n → Packing test d xs (i + 1) ys n
+    packing-skip t g = record { rows = rw (keep-skip test d xs i (within (g .counted)) t) (g .rows); counted = counted-skip t (g .counted) }
 
-    pub packing-skip : {ys : List A} {n : ℕ} → test (getD xs i d) ≡ false → Packing test d xs i ys n → Packing test d xs (i + 1) ys n
-    packing-skip t g = record { rows = rw (keep-skip test d xs i within t) (g .rows); counted = counted-skip t (g .counted) }
+  module _ (i : ℕ) (h : 32 ≤ i) {n : ℕ} where
+    all : Counted test xs i n → keep test (take i xs) ≡ keep test xs
+    all g = keep-all test xs i (omega (arith, g .size))
 
-  module _ (i : ℕ) (l : length xs ≡ 32) (h : 32 ≤ i) where
-    all : keep test (take i xs) ≡ keep test xs
-    all = keep-all test xs i (omega arith)
-
-    pub counted-all : {n : ℕ} → Counted test xs i n → n ≡ length (keep test xs)
-    counted-all g = rw all at (g .count)
+    pub counted-all : Counted test xs i n → n ≡ length (keep test xs)
+    counted-all g = rw (all g) at (g .count)
 
     -- a store behind them
-    pub inserted : {ys : List A} {n : ℕ} (x : A) → n < 32 → Packing test d xs i ys n → set ys n x ≡ behind test d x xs
+    pub inserted : {ys : List A} (x : A) → n < 32 → Packing test d xs i ys n → set ys n x ≡ behind test d x xs
     inserted x r g =
         let f : length (keep test xs) < 32 = omega (arith, counted-all (g .counted)) in
-        rw (g .rows, g .counted .count, all) (pad-set d 32 (keep test xs) x f ∙ sym (behind-is test d x xs f))
+        rw (g .rows, g .counted .count, all (g .counted)) (pad-set d 32 (keep test xs) x f ∙ sym (behind-is test d x xs f))
 
     -- none in a full table
-    pub inserted-none : {ys : List A} {n : ℕ} (x : A) → 32 ≤ n → Packing test d xs i ys n → ys ≡ behind test d x xs
+    pub inserted-none : {ys : List A} (x : A) → 32 ≤ n → Packing test d xs i ys n → ys ≡ behind test d x xs
     inserted-none x r g =
-        let f : length (keep test xs) ≡ 32 = omega (arith, counted-all (g .counted), keep-length test xs) in
-        rw (g .rows, all) (sym (behind-full test d x xs f))
+        let f : length (keep test xs) ≡ 32 = omega (arith, counted-all (g .counted), g .counted .size, keep-length test xs) in
+        rw (g .rows, all (g .counted)) (sym (behind-full test d x xs f))
