@@ -1,21 +1,39 @@
 -- The causes of refusals by what the loops find, and by the leg orders that are live.
 use mathlib.Core.Path.{_≡_, refl, sym, ap}
 use mathlib.Core.Bool.{Bool, true, false, not}
+use mathlib.Core.List.{List, [], _∷_}
 use Prim.Native.Nat.{ℕ, _≤_, _<_}
 use native.Mathlib.Omega.{arith}
 use borrow.Author.Tests.{ne-eqb}
 use lib.Dec.{eqb, leb}
 use lib.ListN.{length}
-use Rattle.base.specs.Pick.{pick, pick-true, pick-false, pick-all, tests}
+use Rattle.base.specs.Pick.{pick, pick-true, pick-false, pick-all, told, tests}
 use Rattle.base.specs.Walks.{anyN, any-holds, any-none}
 use Rattle.rules.specs.declared.Entry.{Entry}
 use Rattle.rules.specs.declared.LegOrder.{LegOrder}
 use Rattle.rules.specs.declared.State.{State}
 use Rattle.rules.specs.State.{noOrder}
 use Rattle.rules.specs.Events.{live, liveOrder, freeOrderSlot}
-use Rattle.rules.specs.Refusals.{isOrderOf, orderAtIs, legOrderAtIs, notFound, isLegOrder, legOrdersFull}
+use Rattle.rules.specs.Refusals.{Cause, _if_, first, isOrderOf, orderAtIs, legOrderAtIs, notFound, isLegOrder, legOrdersFull}
 use Rattle.rules.proofs.Tables.{keep-length, sum-tally}
 use Rattle.auctions.specs.Auctions.{Passed}
+
+-- the first cause by what the calls answer: one that applies, one that does not, and the last of those that do not
+module _ (n : ℕ) {r t : Bool} where
+  pub cause-here : (cs : List Cause) → r ≡ t → r ≡ true → n ≡ first ((n if t) ∷ cs)
+  unfolding first
+  cause-here cs a e = sym (pick-true t _ _ (told a e))
+
+  pub cause-next : (cs : List Cause) {m : ℕ} → r ≡ t → r ≡ false → m ≡ first cs → m ≡ first ((n if t) ∷ cs)
+  unfolding first
+  cause-next cs a e p = rw (pick-false t n (first cs) (told a e)) p
+
+  pub cause-last : r ≡ t → r ≡ false → 0 ≡ first ((n if t) ∷ [])
+  unfolding first
+  cause-last a e = cause-next [] a e refl
+
+-- a refusal by the facts of the branches: `search cause` at a return
+pub ruleset cause = (cause-here, cause-next, cause-last)
 
 -- a loop that found one
 pub found : (f : ℕ → Bool) (i k : ℕ) → i < k → f i ≡ true → true ≡ anyN f k
