@@ -60,11 +60,9 @@ use Rattle.depths.specs.Rows.{noOrders, ordersWith, ordersN, orders-firs
 use Rattle.depths.proofs.RowOrders as R
 use Rattle.depths.proofs.RowOrders.Laws as R′
 use Rattle.depths.proofs.no_orders as no
-use Rattle.depths.proofs.no_orders.Symbol as no-def
 use Rattle.depths.proofs.no_orders.Symbol.{name as #depths·no-orders}
 use Rattle.depths.proofs.no_orders.Met as no-thm
 use Rattle.depths.proofs.with_entry as with
-use Rattle.depths.proofs.with_entry.Symbol as with-def
 use Rattle.depths.proofs.with_entry.Symbol.{name as #depths·with-entry}
 use Rattle.depths.proofs.with_entry.Met as with-thm
 use Rattle.depths.proofs.orders_of.Key.{name as #depths·orders-of}
@@ -273,8 +271,6 @@ module _ {M : Type 1} (𝓤 : URA M) (H : Heap 𝓤) (A : Atoms 𝓤) (W : Given
 pub orders-of-spec : {M : Type 1} → stated.statement M
 unfolding code.routine tablesOf
 orders-of-spec 𝓤 H 𝓜 𝓖 𝓡 =
-    entered 𝓤 H (tripleOf 𝓤 H (𝓖 .A) f.signature (f.spec 𝓤 H (𝓖 .A) (𝓜 .mem) (𝓡 .run)))
-    (tables 𝓤 H 𝓜 𝓡 code.env .C) (tables 𝓤 H 𝓜 𝓡 code.env .Λ) #depths·orders-of code.function (code.unfolded 𝓤 H 𝓜 𝓡)
-    (orders-of-meets 𝓤 H (𝓖 .A) (givenOf 𝓤 H 𝓜 𝓖) (𝓜 .mem) (𝓡 .run) (tablesOf 𝓤 H 𝓜 (tables 𝓤 H 𝓜 𝓡 code.env))
-    (cited 𝓤 H (No 𝓤 H (𝓖 .A) (𝓜 .mem) (𝓡 .run)) 𝓜 𝓡 code.env #depths·no-orders no-def.routine code.calls-depths·no-orders (no-thm.met 𝓤 H 𝓜 𝓖 𝓡))
-    (cited 𝓤 H (With 𝓤 H (𝓖 .A) (𝓜 .mem) (𝓡 .run)) 𝓜 𝓡 code.env #depths·with-entry with-def.routine code.calls-depths·with-entry (with-thm.met 𝓤 H 𝓜 𝓖 𝓡)))
+    entered 𝓤 H _ _ _ #depths·orders-of code.function (code.unfolded 𝓤 H 𝓜 𝓡)
+    (orders-of-meets 𝓤 H _ (givenOf 𝓤 H 𝓜 𝓖) (𝓜 .mem) (𝓡 .run) (tablesOf 𝓤 H 𝓜 (tables 𝓤 H 𝓜 𝓡 code.env))
+    (cited 𝓤 H _ 𝓜 𝓡 code.env #depths·no-orders _ code.calls-depths·no-orders (no-thm.met 𝓤 H 𝓜 𝓖 𝓡)) (cited 𝓤 H _ 𝓜 𝓡 code.env #depths·with-entry _ code.calls-depths·with-entry (with-thm.met 𝓤 H 𝓜 𝓖 𝓡)))

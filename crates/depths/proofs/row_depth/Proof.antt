@@ -55,11 +55,9 @@ use Rattle.depths.specs.Rows.{ordersN, ordersDepth, orders-fit, row-long
 use Rattle.depths.proofs.RowOrders as R
 use Rattle.depths.proofs.RowOrders.Laws as R′
 use Rattle.depths.proofs.orders_of as of
-use Rattle.depths.proofs.orders_of.Symbol as of-def
 use Rattle.depths.proofs.orders_of.Symbol.{name as #depths·orders-of}
 use Rattle.depths.proofs.orders_of.Met as of-thm
 use Rattle.depths.proofs.orders_depth as depth
-use Rattle.depths.proofs.orders_depth.Symbol as depth-def
 use Rattle.depths.proofs.orders_depth.Symbol.{name as #depths·orders-depth}
 use Rattle.depths.proofs.orders_depth.Met as depth-thm
 use Rattle.depths.proofs.row_depth.Key.{name as #depths·row-depth}
@@ -212,8 +210,6 @@ module _ {M : Type 1} (𝓤 : URA M) (H : Heap 𝓤) (A : Atoms 𝓤) (W : Given
 pub row-depth-spec : {M : Type 1} → stated.statement M
 unfolding code.routine tablesOf
 row-depth-spec 𝓤 H 𝓜 𝓖 𝓡 =
-    entered 𝓤 H (tripleOf 𝓤 H (𝓖 .A) f.signature (f.spec 𝓤 H (𝓖 .A) (𝓜 .mem) (𝓡 .run)))
-    (tables 𝓤 H 𝓜 𝓡 code.env .C) (tables 𝓤 H 𝓜 𝓡 code.env .Λ) #depths·row-depth code.function (code.unfolded 𝓤 H 𝓜 𝓡)
-    (row-depth-meets 𝓤 H (𝓖 .A) (givenOf 𝓤 H 𝓜 𝓖) (𝓜 .mem) (𝓡 .run) (tablesOf 𝓤 H 𝓜 (tables 𝓤 H 𝓜 𝓡 code.env))
-    (cited 𝓤 H (Of 𝓤 H (𝓖 .A) (𝓜 .mem) (𝓡 .run)) 𝓜 𝓡 code.env #depths·orders-of of-def.routine code.calls-depths·orders-of (of-thm.met 𝓤 H 𝓜 𝓖 𝓡))
-    (cited 𝓤 H (Deep 𝓤 H (𝓖 .A) (𝓜 .mem) (𝓡 .run)) 𝓜 𝓡 code.env #depths·orders-depth depth-def.routine code.calls-depths·orders-depth (depth-thm.met 𝓤 H 𝓜 𝓖 𝓡)))
+    entered 𝓤 H _ _ _ #depths·row-depth code.function (code.unfolded 𝓤 H 𝓜 𝓡)
+    (row-depth-meets 𝓤 H _ (givenOf 𝓤 H 𝓜 𝓖) (𝓜 .mem) (𝓡 .run) (tablesOf 𝓤 H 𝓜 (tables 𝓤 H 𝓜 𝓡 code.env))
+    (cited 𝓤 H _ 𝓜 𝓡 code.env #depths·orders-of _ code.calls-depths·orders-of (of-thm.met 𝓤 H 𝓜 𝓖 𝓡)) (cited 𝓤 H _ 𝓜 𝓡 code.env #depths·orders-depth _ code.calls-depths·orders-depth (depth-thm.met 𝓤 H 𝓜 𝓖 𝓡)))
