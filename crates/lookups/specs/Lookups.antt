@@ -56,7 +56,7 @@ module _ (b : State) (n : ℕ) where
   live-last h p = rw h at p
 
   module _ (es : All FitEntry (b .entries)) (os : All FitOrder (b .orders)) (i : ℕ) {x y : ℕ} (e : x ≡ unitsOfNumber b n i) (g : y ≡ contractsOfNumber b n i) where
-    pub pair-most : x + y ≤ 19998
+    pair-most : x + y ≤ 19998
     pair-most = rw (e, g) (add-le-add (held-most _ (fit-entry es i .units)) (held-most _ (fit-order os i .contracts)))
 
     pub live-most : {q : ℕ} → q ≡ liveN i → i < 32 → q + (x + y) ≤ 639936

@@ -1,6 +1,6 @@
-use Rattle.lookups.specs.Lookups.{liveN, live-first, live-next, live-last, pair-most, live-most}
+use Rattle.lookups.specs.Lookups.{liveN, live-first, live-next, live-last, live-most}
 use mathlib.Core.Path.{_≡_}
-use Prim.Native.Nat.{_≤_, _-_}
+use Prim.Native.Nat.{_+_, _-_, _≤_}
 use borrow.Author.Needs.{needs}
 use native.Mathlib.Omega.{arith}
 use Rattle.lookups.proofs.live_quantity.Statement.{statement}
@@ -36,11 +36,18 @@ held-by-requires c κs = search needs
 held-by-requires-2 : tie.Need-held-by-requires-2 Inv-loop μ-loop
 held-by-requires-2 c κs = search needs
 
+-- what is held so far and at this slot
+most : (c : tie.After-held-by2 Inv-loop μ-loop) → c .before .before .before .before .before .loop .quantity + (c .before .held-by .result + c .held-by2 .result) ≤ 639936
+most c =
+    let s = c .before .before .before .before .before .before in
+    let l = c .before .before .before .before .before .loop in
+    live-most (s .args .t1) (s .args .n) (s .pre .sound .entries) (s .pre .sound .orders) (l .i) (c .before .held-by .ensures) (c .held-by2 .ensures) (l .inv .1) (c .before .before .before .before .loop-test .taken)
+
 add-quantity : tie.Need-add-quantity Inv-loop μ-loop
-add-quantity c = omega (arith, pair-most (c .before .before .before .before .before .before .args .t1) (c .before .before .before .before .before .before .args .n) (c .before .before .before .before .before .before .pre .sound .entries) (c .before .before .before .before .before .before .pre .sound .orders) (c .before .before .before .before .before .loop .i) (c .before .held-by .ensures) (c .held-by2 .ensures))
+add-quantity c = omega (arith, most c)
 
 add-quantity-2 : tie.Need-add-quantity-2 Inv-loop μ-loop
-add-quantity-2 c = omega (arith, live-most (c .before .before .before .before .before .before .args .t1) (c .before .before .before .before .before .before .args .n) (c .before .before .before .before .before .before .pre .sound .entries) (c .before .before .before .before .before .before .pre .sound .orders) (c .before .before .before .before .before .loop .i) (c .before .held-by .ensures) (c .held-by2 .ensures) (c .before .before .before .before .before .loop .inv .1) (c .before .before .before .before .loop-test .taken))
+add-quantity-2 c = omega (arith, most c)
 
 add-i : tie.Need-add-i Inv-loop μ-loop
 add-i c = omega arith
@@ -49,7 +56,7 @@ loop-less : tie.Need-loop-less Inv-loop μ-loop
 loop-less c = omega arith
 
 loop-again : tie.Need-loop-again Inv-loop μ-loop
-loop-again c = (omega arith, live-next (c .before .before .before .before .before .before .args .t1) _ _ (c .before .before .before .before .before .loop .inv .1) (c .before .held-by .ensures) (c .held-by2 .ensures))
+loop-again c = (omega arith, live-next _ _ _ (c .before .before .before .before .before .loop .inv .1) (c .before .held-by .ensures) (c .held-by2 .ensures))
 
 returns : tie.Need-returns Inv-loop μ-loop
 returns c = live-last _ _ (omega arith) (c .before .loop .inv .1)
