@@ -3,9 +3,9 @@ use Rattle.events.specs.Kinds.{kindOf}
 use Rattle.events.proofs.kinds.kind_of.Statement.{statement}
 use Rattle.events.proofs.kinds.kind_of.Tie as tie
 
-last : tie.Need-returns-10
+returns-10 : tie.Need-returns-10
 unfolding kindOf
-last c = search tests
+returns-10 c = search tests
 
 -- at each arm its number, and at the last that it is none of them
 pub kind-of-spec : {M : Type 1} → statement M
@@ -22,4 +22,4 @@ kind-of-spec =
     (λ c. rw (c .match .keys7))
     (λ c. rw (c .match .keys8))
     (λ c. rw (c .match .keys9))
-    last)
+    returns-10)
