@@ -18,8 +18,6 @@ use Rattle.events.specs.Laws.{first-field}
 use Rattle.events.specs.declared.Field.{Field}
 use Rattle.events.specs.declared.Kind.{Kind}
 use Rattle.events.specs.declared.Kind.the-variants as K
-use Rattle.events.specs.declared.Event.the-variants as E
-use Rattle.events.specs.declared.Reading.the-variants as R
 use Rattle.events.specs.declared.Strategy.{Strategy as GivenStrategy}
 use Rattle.frames.specs.Number.{number}
 use Rattle.frames.specs.Bodies.{valueAt, row-at}

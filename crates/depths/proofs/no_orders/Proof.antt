@@ -2,8 +2,6 @@ use Rattle.depths.specs.Rows.{noOrders}
 use mathlib.Core.Path.{refl}
 use Rattle.depths.proofs.no_orders.Statement.{statement}
 use Rattle.depths.proofs.no_orders.Tie as tie
-use Rattle.depths.proofs.no_orders.Reads as reads
-use Rattle.depths.proofs.no_orders.Lts as lts
 
 returns : tie.Need-returns
 unfolding noOrders

@@ -4,8 +4,6 @@ use borrow.Author.Tests.{ne-eqb}
 use Rattle.depths.specs.Rows.{orderOf, formed}
 use Rattle.depths.proofs.order_of.Statement.{statement}
 use Rattle.depths.proofs.order_of.Tie as tie
-use Rattle.depths.proofs.order_of.Reads as reads
-use Rattle.depths.proofs.order_of.Lts as lts
 
 returns : tie.Need-returns
 unfolding orderOf

@@ -2,9 +2,6 @@ use Rattle.depths.specs.Rows.{depth-fine, depth-bad}
 use borrow.Author.Needs.{needs}
 use Rattle.depths.proofs.orders_depth.Statement.{statement}
 use Rattle.depths.proofs.orders_depth.Tie as tie
-use Rattle.depths.proofs.orders_depth.Reads as reads
-use Rattle.depths.proofs.orders_depth.Lts as lts
-use Rattle.lookups.proofs.depth.Reads as depth-reads
 
 depth-requires : tie.Need-depth-requires
 depth-requires c κs = search needs

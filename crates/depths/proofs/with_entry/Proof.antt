@@ -3,10 +3,6 @@ use Rattle.depths.specs.Rows.{with-fine, with-bad}
 use borrow.Author.Needs.{needs}
 use Rattle.depths.proofs.with_entry.Statement.{statement}
 use Rattle.depths.proofs.with_entry.Tie as tie
-use Rattle.depths.proofs.with_entry.Reads as reads
-use Rattle.depths.proofs.with_entry.Lts as lts
-use Rattle.depths.proofs.order_of.Reads as order-of-reads
-use Rattle.depths.proofs.well_formed.Reads as well-formed-reads
 
 well-formed-requires : tie.Need-well-formed-requires
 well-formed-requires c κs = search needs

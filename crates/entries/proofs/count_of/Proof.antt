@@ -8,9 +8,6 @@ use borrow.Author.Needs.{needs}
 use native.Mathlib.Omega.{arith}
 use Rattle.entries.proofs.count_of.Statement.{statement}
 use Rattle.entries.proofs.count_of.Tie as tie
-use Rattle.entries.proofs.count_of.Reads as reads
-use Rattle.entries.proofs.count_of.Lts as lts
-use Rattle.entries.proofs.counts.Reads as counts-reads
 
 abbrev Inv-loop : tie.InvT-loop
 Inv-loop sweeps b n₀ i₀ n i = (i ≤ 32) × (n ≡ sumN (countsAt sweeps b) i)

@@ -3,9 +3,6 @@ use borrow.Author.Needs.{needs}
 use Rattle.rules.specs.State.{withEntries, withLast}
 use Rattle.entries.proofs.enter.Statement.{statement}
 use Rattle.entries.proofs.enter.Tie as tie
-use Rattle.entries.proofs.enter.Reads as reads
-use Rattle.entries.proofs.enter.Lts as lts
-use Rattle.entries.proofs.insert.Reads as insert-reads
 
 insert-requires : tie.Need-insert-requires
 insert-requires c κs = search needs

@@ -8,9 +8,6 @@ use Prim.Native.Nat.{_≤_, _-_}
 use mathlib.Core.Logic.{⊎-elim}
 use Rattle.entries.proofs.insert.Statement.{statement}
 use Rattle.entries.proofs.insert.Tie as tie
-use Rattle.entries.proofs.insert.Reads as reads
-use Rattle.entries.proofs.insert.Lts as lts
-use Rattle.entries.proofs.live.Reads as live-reads
 
 abbrev Inv-loop : tie.InvT-loop
 Inv-loop e es rows₀ n₀ i₀ rows n i = (i ≤ 32) × (n ≤ i) × Packing live noEntry es i rows n

@@ -2,8 +2,6 @@ use Rattle.rules.specs.Events.{live}
 use mathlib.Core.Path.{refl}
 use Rattle.entries.proofs.live.Statement.{statement}
 use Rattle.entries.proofs.live.Tie as tie
-use Rattle.entries.proofs.live.Reads as reads
-use Rattle.entries.proofs.live.Lts as lts
 
 returns : tie.Need-returns
 unfolding live

@@ -6,9 +6,6 @@ use Rattle.base.specs.Pick.{told}
 use Prim.Native.Nat.{_≤_, _-_}
 use Rattle.entries.proofs.old_sweep.Statement.{statement}
 use Rattle.entries.proofs.old_sweep.Tie as tie
-use Rattle.entries.proofs.old_sweep.Reads as reads
-use Rattle.entries.proofs.old_sweep.Lts as lts
-use Rattle.entries.proofs.same_sweep.Reads as same-sweep-reads
 
 abbrev Inv-loop : tie.InvT-loop
 Inv-loop e b i₀ i = (i ≤ 32) × Passed (sameSweepAt b e) i

@@ -2,11 +2,6 @@ use Rattle.exports.specs.Exports.{eventIn}
 use borrow.Author.Needs.{needs}
 use Rattle.exports.proofs.event_in.Statement.{statement}
 use Rattle.exports.proofs.event_in.Tie as tie
-use Rattle.exports.proofs.event_in.Reads as reads
-use Rattle.exports.proofs.event_in.Lts as lts
-use Rattle.events.proofs.kinds.kind_of.Reads as kind-of-reads
-use Rattle.events.proofs.rows.event_of.Reads as event-of-reads
-use Rattle.exports.proofs.row_in.Reads as row-in-reads
 
 shared-slice-read-kind-of : tie.Need-shared-slice-read-kind-of
 shared-slice-read-kind-of c = search needs

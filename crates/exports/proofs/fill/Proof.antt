@@ -8,11 +8,6 @@ use borrow.Author.Needs.{needs}
 use native.Mathlib.Omega.{arith}
 use Rattle.exports.proofs.fill.Statement.{statement}
 use Rattle.exports.proofs.fill.Tie as tie
-use Rattle.exports.proofs.fill.Reads as reads
-use Rattle.exports.proofs.fill.Lts as lts
-use Rattle.events.proofs.kinds.code_of.Reads as code-of-reads
-use Rattle.events.proofs.rows.kind_in.Reads as kind-in-reads
-use Rattle.events.proofs.rows.row_of.Reads as row-of-reads
 
 abbrev Inv-loop : tie.InvT-loop
 Inv-loop values₀ row i₀ values i = (i ≤ 19) × (length values ≡ length values₀) × (values ≡ sets values₀ 1 (take i row))

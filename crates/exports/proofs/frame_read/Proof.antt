@@ -3,10 +3,6 @@ use mathlib.Core.Path.{refl, sym, _∙_}
 use borrow.Author.Needs.{needs}
 use Rattle.exports.proofs.frame_read.Statement.{statement}
 use Rattle.exports.proofs.frame_read.Tie as tie
-use Rattle.exports.proofs.frame_read.Reads as reads
-use Rattle.exports.proofs.frame_read.Lts as lts
-use Rattle.exports.proofs.fill.Reads as fill-reads
-use Rattle.frames.proofs.read.Reads as read-reads
 
 returns : tie.Need-returns
 returns c = read-one _ _ (c .if1 .taken)

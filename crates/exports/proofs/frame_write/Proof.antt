@@ -3,10 +3,6 @@ use mathlib.Core.Path.{refl, sym, _∙_}
 use borrow.Author.Needs.{needs}
 use Rattle.exports.proofs.frame_write.Statement.{statement}
 use Rattle.exports.proofs.frame_write.Tie as tie
-use Rattle.exports.proofs.frame_write.Reads as reads
-use Rattle.exports.proofs.frame_write.Lts as lts
-use Rattle.exports.proofs.event_in.Reads as event-in-reads
-use Rattle.exports.proofs.send.Reads as send-reads
 
 returns : tie.Need-returns
 returns c = write-three _ _ (c .if1 .taken)

@@ -7,8 +7,6 @@ use borrow.Author.Needs.{needs}
 use native.Mathlib.Omega.{arith}
 use Rattle.exports.proofs.row_in.Statement.{statement}
 use Rattle.exports.proofs.row_in.Tie as tie
-use Rattle.exports.proofs.row_in.Reads as reads
-use Rattle.exports.proofs.row_in.Lts as lts
 
 abbrev Inv-loop : tie.InvT-loop
 Inv-loop values row₀ i₀ row i = (i ≤ 19) × (row ≡ stored 19 (slot (drop 1 values)) i)

@@ -5,9 +5,6 @@ use mathlib.Core.Path.{sym, ap, _∙_}
 use borrow.Author.Needs.{needs}
 use Rattle.exports.proofs.send.Statement.{statement}
 use Rattle.exports.proofs.send.Tie as tie
-use Rattle.exports.proofs.send.Reads as reads
-use Rattle.exports.proofs.send.Lts as lts
-use Rattle.frames.proofs.write.Reads as write-reads
 
 write-requires : tie.Need-write-requires
 write-requires c κs = search needs

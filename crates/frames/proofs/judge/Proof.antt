@@ -4,9 +4,6 @@ use Rattle.frames.specs.Round.{judge-reads}
 use borrow.Author.Needs.{needs}
 use Rattle.frames.proofs.judge.Statement.{statement}
 use Rattle.frames.proofs.judge.Tie as tie
-use Rattle.frames.proofs.judge.Reads as reads
-use Rattle.frames.proofs.judge.Lts as lts
-use Rattle.frames.proofs.read.Reads as read-reads
 
 read-requires : tie.Need-read-requires
 read-requires c κs = search needs

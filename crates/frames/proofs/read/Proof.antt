@@ -9,16 +9,6 @@ use Rattle.frames.specs.Codec.{long-is, Opened, opened-room, read-short,
 use borrow.Author.Needs.{needs}
 use Rattle.frames.proofs.read.Statement.{statement}
 use Rattle.frames.proofs.read.Tie as tie
-use Rattle.frames.proofs.read.Reads as reads
-use Rattle.frames.proofs.read.Lts as lts
-use Rattle.events.proofs.kinds.kind_of.Reads as kind-of-reads
-use Rattle.events.proofs.kinds.length_of.Reads as length-of-reads
-use Rattle.events.proofs.rows.event_of.Reads as event-of-reads
-use Rattle.events.proofs.table.fields_of.Reads as fields-of-reads
-use Rattle.events.proofs.table.fit.Reads as fit-reads
-use Rattle.frames.proofs.bodies.decode.Reads as decode-reads
-use Rattle.frames.proofs.count_at.Reads as count-at-reads
-use Rattle.frames.proofs.numbers.number.Reads as number-reads
 
 returns : tie.Need-returns
 returns c = sym (read-short _ (c .if1 .taken))

@@ -4,11 +4,6 @@ use borrow.Author.Needs.{needs}
 use Rattle.frames.specs.Codec.{wrote-frame, wrote-one, wrote-three}
 use Rattle.frames.proofs.write.Statement.{statement}
 use Rattle.frames.proofs.write.Tie as tie
-use Rattle.frames.proofs.write.Reads as reads
-use Rattle.frames.proofs.write.Lts as lts
-use Rattle.events.proofs.rows.fits.Reads as fits-reads
-use Rattle.frames.proofs.write_frame.Reads as write-frame-reads
-use Rattle.events.proofs.rows.length_in.Reads as length-in-reads
 
 fits-requires : tie.Need-fits-requires
 fits-requires c κs = search needs

@@ -6,15 +6,6 @@ use Rattle.events.specs.Laws.{four-in, layout-in, room-in, short-in}
 use Rattle.frames.specs.Codec.{frame-stores}
 use Rattle.frames.proofs.write_frame.Statement.{statement}
 use Rattle.frames.proofs.write_frame.Tie as tie
-use Rattle.frames.proofs.write_frame.Reads as reads
-use Rattle.frames.proofs.write_frame.Lts as lts
-use Rattle.events.proofs.kinds.code_of.Reads as code-of-reads
-use Rattle.frames.proofs.bodies.encode.Reads as encode-reads
-use Rattle.events.proofs.table.fields_of.Reads as fields-of-reads
-use Rattle.events.proofs.rows.kind_in.Reads as kind-in-reads
-use Rattle.events.proofs.rows.length_in.Reads as length-in-reads
-use Rattle.frames.proofs.numbers.put.Reads as put-reads
-use Rattle.events.proofs.rows.row_of.Reads as row-of-reads
 
 kind-in-requires : tie.Need-kind-in-requires
 kind-in-requires c κs = search needs

@@ -3,11 +3,6 @@ use Rattle.base.specs.Pick.{told}
 use borrow.Author.Needs.{needs}
 use Rattle.given.proofs.ill_formed.Statement.{statement}
 use Rattle.given.proofs.ill_formed.Tie as tie
-use Rattle.given.proofs.ill_formed.Reads as reads
-use Rattle.given.proofs.ill_formed.Lts as lts
-use Rattle.given.proofs.legs_given.Reads as legs-given-reads
-use Rattle.terms.proofs.over_threefold.Reads as over-threefold-reads
-use Rattle.terms.proofs.twice.Reads as twice-reads
 
 legs-given-requires : tie.Need-legs-given-requires
 legs-given-requires c κs = search needs

@@ -1,9 +1,6 @@
 use Rattle.given.specs.Definitions.{fit-legs}
 use Rattle.given.proofs.legs_given.Statement.{statement}
 use Rattle.given.proofs.legs_given.Tie as tie
-use Rattle.given.proofs.legs_given.Reads as reads
-use Rattle.given.proofs.legs_given.Lts as lts
-use Rattle.given.proofs.leg_given.Reads as leg-given-reads
 
 leg-given-requires : tie.Need-leg-given-requires
 leg-given-requires c κs = fit-legs (c .before .pre .legs) .0

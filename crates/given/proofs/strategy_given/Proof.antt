@@ -2,10 +2,6 @@ use Rattle.given.specs.Definitions.{strategy-is}
 use borrow.Author.Needs.{needs}
 use Rattle.given.proofs.strategy_given.Statement.{statement}
 use Rattle.given.proofs.strategy_given.Tie as tie
-use Rattle.given.proofs.strategy_given.Reads as reads
-use Rattle.given.proofs.strategy_given.Lts as lts
-use Rattle.given.proofs.legs_given.Reads as legs-given-reads
-use Rattle.strategies.proofs.defined.Reads as defined-reads
 
 legs-given-requires : tie.Need-legs-given-requires
 legs-given-requires c κs = search needs

@@ -3,10 +3,6 @@ use Rattle.legs.specs.Search.{ahead-not, ahead-first, ahead-better}
 use borrow.Author.Needs.{needs}
 use Rattle.legs.proofs.ahead_order.Statement.{statement}
 use Rattle.legs.proofs.ahead_order.Tie as tie
-use Rattle.legs.proofs.ahead_order.Reads as reads
-use Rattle.legs.proofs.ahead_order.Lts as lts
-use Rattle.legs.proofs.meets_order.Reads as meets-order-reads
-use Rattle.sides.proofs.better.Reads as better-reads
 
 meets-order-requires : tie.Need-meets-order-requires
 meets-order-requires c κs = search needs

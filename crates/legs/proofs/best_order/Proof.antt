@@ -8,9 +8,6 @@ use Rattle.rules.specs.Events.{bestOrder}
 use Rattle.legs.specs.Search.{Leading, leading-first, leading-here, leading-past}
 use Rattle.legs.proofs.best_order.Statement.{statement}
 use Rattle.legs.proofs.best_order.Tie as tie
-use Rattle.legs.proofs.best_order.Reads as reads
-use Rattle.legs.proofs.best_order.Lts as lts
-use Rattle.legs.proofs.ahead_order.Reads as ahead-order-reads
 
 abbrev Inv-loop : tie.InvT-loop
 Inv-loop o b best₀ price₀ i₀ best price i = (i ≤ 32) × Leading b o i best price

@@ -8,9 +8,6 @@ use Prim.Native.Nat.{_≤_, _-_}
 use mathlib.Core.Logic.{⊎-elim}
 use Rattle.legs.proofs.count.Statement.{statement}
 use Rattle.legs.proofs.count.Tie as tie
-use Rattle.legs.proofs.count.Reads as reads
-use Rattle.legs.proofs.count.Lts as lts
-use Rattle.legs.proofs.live.Reads as live-reads
 
 abbrev Inv-loop : tie.InvT-loop
 Inv-loop os n₀ i₀ n i = (i ≤ 32) × (n ≤ i) × Counted liveOrder os i n

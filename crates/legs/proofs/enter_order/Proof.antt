@@ -3,10 +3,6 @@ use Rattle.rules.specs.State.{withLast}
 use borrow.Author.Needs.{needs}
 use Rattle.legs.proofs.enter_order.Statement.{statement}
 use Rattle.legs.proofs.enter_order.Tie as tie
-use Rattle.legs.proofs.enter_order.Reads as reads
-use Rattle.legs.proofs.enter_order.Lts as lts
-use Rattle.legs.proofs.insert.Reads as insert-reads
-use Rattle.records.proofs.with_orders.Reads as with-orders-reads
 
 insert-requires : tie.Need-insert-requires
 insert-requires c κs = search needs

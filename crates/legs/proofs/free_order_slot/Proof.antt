@@ -2,9 +2,6 @@ use Rattle.rules.specs.Events.{freeOrderSlot}
 use borrow.Author.Needs.{needs}
 use Rattle.legs.proofs.free_order_slot.Statement.{statement}
 use Rattle.legs.proofs.free_order_slot.Tie as tie
-use Rattle.legs.proofs.free_order_slot.Reads as reads
-use Rattle.legs.proofs.free_order_slot.Lts as lts
-use Rattle.legs.proofs.count.Reads as count-reads
 
 count-requires : tie.Need-count-requires
 count-requires c κs = search needs

@@ -8,9 +8,6 @@ use Prim.Native.Nat.{_≤_, _-_}
 use mathlib.Core.Logic.{⊎-elim}
 use Rattle.legs.proofs.insert.Statement.{statement}
 use Rattle.legs.proofs.insert.Tie as tie
-use Rattle.legs.proofs.insert.Reads as reads
-use Rattle.legs.proofs.insert.Lts as lts
-use Rattle.legs.proofs.live.Reads as live-reads
 
 abbrev Inv-loop : tie.InvT-loop
 Inv-loop o os rows₀ n₀ i₀ rows n i = (i ≤ 32) × (n ≤ i) × Packing liveOrder noOrder os i rows n

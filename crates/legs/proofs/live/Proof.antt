@@ -2,8 +2,6 @@ use Rattle.rules.specs.Events.{liveOrder}
 use borrow.Author.Tests.{eq-eqb, ne-eqb}
 use Rattle.legs.proofs.live.Statement.{statement}
 use Rattle.legs.proofs.live.Tie as tie
-use Rattle.legs.proofs.live.Reads as reads
-use Rattle.legs.proofs.live.Lts as lts
 
 returns : tie.Need-returns
 unfolding liveOrder

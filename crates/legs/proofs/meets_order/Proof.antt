@@ -3,11 +3,6 @@ use Rattle.base.specs.Pick.{tests, told}
 use borrow.Author.Needs.{needs}
 use Rattle.legs.proofs.meets_order.Statement.{statement}
 use Rattle.legs.proofs.meets_order.Tie as tie
-use Rattle.legs.proofs.meets_order.Reads as reads
-use Rattle.legs.proofs.meets_order.Lts as lts
-use Rattle.nets.proofs.stands.Reads as stands-reads
-use Rattle.sides.proofs.meets.Reads as meets-reads
-use Rattle.sides.proofs.other.Reads as other-reads
 
 other-requires : tie.Need-other-requires
 other-requires c κs = search needs

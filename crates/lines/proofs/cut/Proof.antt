@@ -3,9 +3,6 @@ use Rattle.lines.specs.Cuts.{cutOf, cut-under, cut-past, cut-whole}
 use borrow.Author.Needs.{needs}
 use Rattle.lines.proofs.cut.Statement.{statement}
 use Rattle.lines.proofs.cut.Tie as tie
-use Rattle.lines.proofs.cut.Reads as reads
-use Rattle.lines.proofs.cut.Lts as lts
-use Rattle.lines.proofs.told_length.Reads as told-length-reads
 
 returns : tie.Need-returns
 unfolding cutOf

@@ -7,8 +7,6 @@ use mir.Facts.{toZ-ofZ}
 use Rattle.lines.specs.Signs.{wide-is, wide-fits, turned-fits, turned-size, turned-whole, whole, size-fits}
 use Rattle.lines.proofs.magnitude.Statement.{statement}
 use Rattle.lines.proofs.magnitude.Tie as tie
-use Rattle.lines.proofs.magnitude.Reads as reads
-use Rattle.lines.proofs.magnitude.Lts as lts
 
 below : (c : tie.Then1) → ltZ (c .before .args .x) (pos 0) ≡ true
 below c = subst (λ (z : ℤ). ltZ z (pos 0) ≡ true) (wide-is (c .before .fits .x)) (c .if1 .taken)

@@ -4,10 +4,6 @@ use native.Mathlib.Omega.{arith}
 use Rattle.lines.specs.Puts.{put-length, count-accepted, put-accepted, put-refused}
 use Rattle.lines.proofs.put_event.Statement.{statement}
 use Rattle.lines.proofs.put_event.Tie as tie
-use Rattle.lines.proofs.put_event.Reads as reads
-use Rattle.lines.proofs.put_event.Lts as lts
-use Rattle.lines.proofs.put_event_line.Reads as put-event-line-reads
-use Rattle.lines.proofs.put_records.Reads as put-records-reads
 
 enum-known-answer : tie.Need-enum-known-answer
 enum-known-answer c = search needs

@@ -2,10 +2,6 @@ use Rattle.lines.specs.Puts.{put-event-line}
 use borrow.Author.Needs.{needs}
 use Rattle.lines.proofs.put_event_line.Statement.{statement}
 use Rattle.lines.proofs.put_event_line.Tie as tie
-use Rattle.lines.proofs.put_event_line.Reads as reads
-use Rattle.lines.proofs.put_event_line.Lts as lts
-use Rattle.lines.proofs.put_byte.Reads as put-byte-reads
-use Rattle.lines.proofs.put_number.Reads as put-number-reads
 
 put-byte-requires : tie.Need-put-byte-requires
 put-byte-requires c κs = search needs

@@ -8,9 +8,6 @@ use native.Mathlib.Omega.{arith}
 use Rattle.lines.specs.Puts.{put-length, Writing, writing-first, writing-next, writing-done}
 use Rattle.lines.proofs.put_numbers.Statement.{statement}
 use Rattle.lines.proofs.put_numbers.Tie as tie
-use Rattle.lines.proofs.put_numbers.Reads as reads
-use Rattle.lines.proofs.put_numbers.Lts as lts
-use Rattle.lines.proofs.put_signed.Reads as put-signed-reads
 
 abbrev Inv-loop : tie.InvT-loop
 Inv-loop out₀ at space i m₀ j₀ out m j = Writing (drop (i * 6) space) out₀ out at m j

@@ -2,10 +2,6 @@ use Rattle.lines.specs.Puts.{put-record-line}
 use borrow.Author.Needs.{needs}
 use Rattle.lines.proofs.put_record_line.Statement.{statement}
 use Rattle.lines.proofs.put_record_line.Tie as tie
-use Rattle.lines.proofs.put_record_line.Reads as reads
-use Rattle.lines.proofs.put_record_line.Lts as lts
-use Rattle.lines.proofs.put_byte.Reads as put-byte-reads
-use Rattle.lines.proofs.put_numbers.Reads as put-numbers-reads
 
 put-byte-requires : tie.Need-put-byte-requires
 put-byte-requires c κs = search needs

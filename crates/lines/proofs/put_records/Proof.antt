@@ -3,9 +3,6 @@ use native.Mathlib.Omega.{arith}
 use Rattle.lines.specs.Puts.{put-length, Listing, listing-first, listing-next, listing-done}
 use Rattle.lines.proofs.put_records.Statement.{statement}
 use Rattle.lines.proofs.put_records.Tie as tie
-use Rattle.lines.proofs.put_records.Reads as reads
-use Rattle.lines.proofs.put_records.Lts as lts
-use Rattle.lines.proofs.put_record_line.Reads as put-record-line-reads
 
 abbrev Inv-loop : tie.InvT-loop
 Inv-loop out₀ at space n m₀ i₀ out m i = Listing space out₀ out at m i × (i ≤ n)

@@ -9,11 +9,6 @@ use Rattle.lines.specs.Puts.{put-length, signed-length, put-below, put-a
 use borrow.Author.Needs.{needs}
 use Rattle.lines.proofs.put_signed.Statement.{statement}
 use Rattle.lines.proofs.put_signed.Tie as tie
-use Rattle.lines.proofs.put_signed.Reads as reads
-use Rattle.lines.proofs.put_signed.Lts as lts
-use Rattle.lines.proofs.magnitude.Reads as magnitude-reads
-use Rattle.lines.proofs.put_byte.Reads as put-byte-reads
-use Rattle.lines.proofs.put_decimal.Reads as put-decimal-reads
 
 magnitude-requires : tie.Need-magnitude-requires
 magnitude-requires c κs = search needs

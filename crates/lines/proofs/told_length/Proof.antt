@@ -4,9 +4,6 @@ use Rattle.lines.specs.Cuts.{toldLength}
 use borrow.Author.Needs.{needs}
 use Rattle.lines.proofs.told_length.Statement.{statement}
 use Rattle.lines.proofs.told_length.Tie as tie
-use Rattle.lines.proofs.told_length.Reads as reads
-use Rattle.lines.proofs.told_length.Lts as lts
-use Rattle.lines.proofs.wide.Reads as wide-reads
 
 shared-slice-read-wide : tie.Need-shared-slice-read-wide
 shared-slice-read-wide c = search needs

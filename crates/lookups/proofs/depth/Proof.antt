@@ -2,9 +2,6 @@ use Rattle.lookups.specs.Lookups.{depth-series, depth-side, depth-empty,
 use borrow.Author.Needs.{needs}
 use Rattle.lookups.proofs.depth.Statement.{statement}
 use Rattle.lookups.proofs.depth.Tie as tie
-use Rattle.lookups.proofs.depth.Reads as reads
-use Rattle.lookups.proofs.depth.Lts as lts
-use Rattle.nets.proofs.best_of.Reads as best-of-reads
 
 returns : tie.Need-returns
 returns c = depth-series _ _ _ (c .if1 .taken)

@@ -1,8 +1,6 @@
 use Rattle.base.specs.Pick.{tests}
 use Rattle.lookups.proofs.held_by.Statement.{statement}
 use Rattle.lookups.proofs.held_by.Tie as tie
-use Rattle.lookups.proofs.held_by.Reads as reads
-use Rattle.lookups.proofs.held_by.Lts as lts
 
 returns : tie.Need-returns
 returns c = search tests

@@ -5,9 +5,6 @@ use borrow.Author.Needs.{needs}
 use native.Mathlib.Omega.{arith}
 use Rattle.lookups.proofs.live_quantity.Statement.{statement}
 use Rattle.lookups.proofs.live_quantity.Tie as tie
-use Rattle.lookups.proofs.live_quantity.Reads as reads
-use Rattle.lookups.proofs.live_quantity.Lts as lts
-use Rattle.lookups.proofs.held_by.Reads as held-by-reads
 
 abbrev Inv-loop : tie.InvT-loop
 Inv-loop n b quantity₀ i₀ quantity i = (i ≤ 32) × (quantity ≡ liveN b n i)

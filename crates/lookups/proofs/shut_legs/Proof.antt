@@ -3,9 +3,6 @@ use borrow.Author.Needs.{needs}
 use native.Mathlib.Omega.{arith}
 use Rattle.lookups.proofs.shut_legs.Statement.{statement}
 use Rattle.lookups.proofs.shut_legs.Tie as tie
-use Rattle.lookups.proofs.shut_legs.Reads as reads
-use Rattle.lookups.proofs.shut_legs.Lts as lts
-use Rattle.lookups.proofs.shut_set.Reads as shut-set-reads
 
 cast-defined : tie.Need-cast-defined
 cast-defined c = search needs

@@ -3,8 +3,6 @@ use native.Mathlib.Omega.{arith}
 use borrow.Author.Needs.{needs}
 use Rattle.lookups.proofs.shut_set.Statement.{statement}
 use Rattle.lookups.proofs.shut_set.Tie as tie
-use Rattle.lookups.proofs.shut_set.Reads as reads
-use Rattle.lookups.proofs.shut_set.Lts as lts
 
 mul-s : tie.Need-mul-s
 mul-s c = search needs

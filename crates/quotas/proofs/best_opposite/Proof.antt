@@ -6,9 +6,6 @@ use Rattle.base.specs.Walks.{walk, walk-first, walk-next}
 use Rattle.rules.specs.Passes.{bestOpposite, limitStep}
 use Rattle.quotas.proofs.best_opposite.Statement.{statement}
 use Rattle.quotas.proofs.best_opposite.Tie as tie
-use Rattle.quotas.proofs.best_opposite.Reads as reads
-use Rattle.quotas.proofs.best_opposite.Lts as lts
-use Rattle.quotas.proofs.limit_with.Reads as limit-with-reads
 
 abbrev Inv-loop : tie.InvT-loop
 Inv-loop e es x₀ i₀ x i = (i ≤ 32) × (x ≡ walk (limitStep es e) 0 i)

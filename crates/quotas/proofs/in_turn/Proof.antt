@@ -7,9 +7,6 @@ use Rattle.rules.specs.Quotas.{inTurn, inTurnAt}
 use Rattle.quotas.specs.Laws.{inTurn-is, inTurn-left}
 use Rattle.quotas.proofs.in_turn.Statement.{statement}
 use Rattle.quotas.proofs.in_turn.Tie as tie
-use Rattle.quotas.proofs.in_turn.Reads as reads
-use Rattle.quotas.proofs.in_turn.Lts as lts
-use Rattle.records.proofs.least.Reads as least-reads
 
 abbrev Inv-loop : tie.InvT-loop
 Inv-loop r xs qs₀ left₀ i₀ qs left i = (i ≤ 32) × (left ≡ r - sumN (slot xs) i) × (qs ≡ stored 32 (inTurnAt r xs) i)

@@ -3,11 +3,6 @@ use Rattle.base.specs.Pick.{tests, told}
 use Rattle.rules.specs.Passes.{limitWith}
 use Rattle.quotas.proofs.limit_with.Statement.{statement}
 use Rattle.quotas.proofs.limit_with.Tie as tie
-use Rattle.quotas.proofs.limit_with.Reads as reads
-use Rattle.quotas.proofs.limit_with.Lts as lts
-use Rattle.sides.proofs.other.Reads as other-reads
-use Rattle.sides.proofs.best_price.Reads as best-price-reads
-use Rattle.quotas.proofs.opposes.Reads as opposes-reads
 
 opposes-requires : tie.Need-opposes-requires
 opposes-requires c κs = search needs

@@ -5,8 +5,6 @@ use Rattle.rules.specs.Quotas.{portion}
 use Rattle.quotas.specs.Bounds.{portion-fits}
 use Rattle.quotas.proofs.portion.Statement.{statement}
 use Rattle.quotas.proofs.portion.Tie as tie
-use Rattle.quotas.proofs.portion.Reads as reads
-use Rattle.quotas.proofs.portion.Lts as lts
 
 mul-result : tie.Need-mul-result
 mul-result c = omega (arith, portion-fits _ _ (c .pre .0) (c .pre .1))

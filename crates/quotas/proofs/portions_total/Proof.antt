@@ -8,9 +8,6 @@ use Rattle.rules.specs.Quotas.{portionAt}
 use Rattle.quotas.specs.Bounds.{portion-le, portions-le}
 use Rattle.quotas.proofs.portions_total.Statement.{statement}
 use Rattle.quotas.proofs.portions_total.Tie as tie
-use Rattle.quotas.proofs.portions_total.Reads as reads
-use Rattle.quotas.proofs.portions_total.Lts as lts
-use Rattle.quotas.proofs.portion.Reads as portion-reads
 
 abbrev Inv-loop : tie.InvT-loop
 Inv-loop r t xs n₀ i₀ n i = (i ≤ 32) × (n ≡ sumN (portionAt r t xs) i)

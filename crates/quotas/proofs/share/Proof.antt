@@ -9,12 +9,6 @@ use Rattle.quotas.specs.Laws.{one-left, portions-fit, share-parts, share
 use Rattle.quotas.specs.Bounds.{one-le, portion-le}
 use Rattle.quotas.proofs.share.Statement.{statement}
 use Rattle.quotas.proofs.share.Tie as tie
-use Rattle.quotas.proofs.share.Reads as reads
-use Rattle.quotas.proofs.share.Lts as lts
-use Rattle.quotas.proofs.one_of.Reads as one-of-reads
-use Rattle.quotas.proofs.portion.Reads as portion-reads
-use Rattle.quotas.proofs.portions_total.Reads as portions-total-reads
-use Rattle.quotas.proofs.total.Reads as total-reads
 
 abbrev Inv-loop : tie.InvT-loop
 Inv-loop r xs t n₀ qs₀ i₀ n qs i = (i ≤ 32) × (n ≡ n₀ - sumN (holderAt xs) i) × (qs ≡ stored 32 (sharedAt r t n₀ xs) i)

@@ -6,9 +6,6 @@ use Rattle.base.specs.Walks.{stored, stored-first, stored-next, stored-last}
 use Rattle.rules.specs.Passes.{sizeAt, sizes}
 use Rattle.quotas.proofs.sizes.Statement.{statement}
 use Rattle.quotas.proofs.sizes.Tie as tie
-use Rattle.quotas.proofs.sizes.Reads as reads
-use Rattle.quotas.proofs.sizes.Lts as lts
-use Rattle.quotas.proofs.holding.Reads as holding-reads
 
 abbrev Inv-loop : tie.InvT-loop
 Inv-loop e level g es xs₀ i₀ xs i = (i ≤ 32) × (xs ≡ stored 32 (sizeAt es e level g) i)

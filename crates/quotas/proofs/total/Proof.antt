@@ -5,8 +5,6 @@ use native.Mathlib.Omega.{arith}
 use Rattle.base.specs.Walks.{sum-le, sumN, slot}
 use Rattle.quotas.proofs.total.Statement.{statement}
 use Rattle.quotas.proofs.total.Tie as tie
-use Rattle.quotas.proofs.total.Reads as reads
-use Rattle.quotas.proofs.total.Lts as lts
 
 abbrev Inv-loop : tie.InvT-loop
 Inv-loop xs t₀ i₀ t i = (i ≤ 32) × (t ≡ sumN (slot xs) i)

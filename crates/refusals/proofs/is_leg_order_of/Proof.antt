@@ -3,9 +3,6 @@ use Rattle.rules.specs.Events.{liveOrder}
 use borrow.Author.Needs.{needs}
 use Rattle.refusals.proofs.is_leg_order_of.Statement.{statement}
 use Rattle.refusals.proofs.is_leg_order_of.Tie as tie
-use Rattle.refusals.proofs.is_leg_order_of.Reads as reads
-use Rattle.refusals.proofs.is_leg_order_of.Lts as lts
-use Rattle.refusals.proofs.is_live_of.Reads as is-live-of-reads
 
 cast-is-live-of : tie.Need-cast-is-live-of
 cast-is-live-of c = search needs

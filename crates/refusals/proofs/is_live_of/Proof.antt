@@ -4,8 +4,6 @@ use borrow.Author.Tests.{eq-eqb, ne-eqb}
 use mathlib.Core.Path.{sym, _∙_}
 use Rattle.refusals.proofs.is_live_of.Statement.{statement}
 use Rattle.refusals.proofs.is_live_of.Tie as tie
-use Rattle.refusals.proofs.is_live_of.Reads as reads
-use Rattle.refusals.proofs.is_live_of.Lts as lts
 
 returns : tie.Need-returns
 returns c = some-not _ _ _ (c .if1 .taken)

@@ -2,9 +2,6 @@ use Rattle.refusals.specs.Refusing.{sweep-not, order-live}
 use borrow.Author.Needs.{needs}
 use Rattle.refusals.proofs.is_order_of.Statement.{statement}
 use Rattle.refusals.proofs.is_order_of.Tie as tie
-use Rattle.refusals.proofs.is_order_of.Reads as reads
-use Rattle.refusals.proofs.is_order_of.Lts as lts
-use Rattle.refusals.proofs.is_live_of.Reads as is-live-of-reads
 
 returns : tie.Need-returns
 returns c = sweep-not _ _ _ (c .if1 .taken)

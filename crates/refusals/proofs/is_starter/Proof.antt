@@ -6,8 +6,6 @@ use Prim.Native.Nat.{_≤_, _-_}
 use native.Mathlib.Omega.{arith}
 use Rattle.refusals.proofs.is_starter.Statement.{statement}
 use Rattle.refusals.proofs.is_starter.Tie as tie
-use Rattle.refusals.proofs.is_starter.Reads as reads
-use Rattle.refusals.proofs.is_starter.Lts as lts
 
 abbrev Inv-loop : tie.InvT-loop
 Inv-loop n b k₀ k = (k ≤ 16) × Passed (startedBy b n) k

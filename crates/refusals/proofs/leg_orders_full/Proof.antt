@@ -4,9 +4,6 @@ use mathlib.Core.Path.{_≡_}
 use borrow.Author.Needs.{needs}
 use Rattle.refusals.proofs.leg_orders_full.Statement.{statement}
 use Rattle.refusals.proofs.leg_orders_full.Tie as tie
-use Rattle.refusals.proofs.leg_orders_full.Reads as reads
-use Rattle.refusals.proofs.leg_orders_full.Lts as lts
-use Rattle.legs.proofs.free_order_slot.Reads as free-order-slot-reads
 
 free-order-slot-requires : tie.Need-free-order-slot-requires
 free-order-slot-requires c κs = search needs

@@ -3,9 +3,6 @@ use mathlib.Core.Path.{ap}
 use borrow.Author.Needs.{needs}
 use Rattle.refusals.proofs.no_auction.Statement.{statement}
 use Rattle.refusals.proofs.no_auction.Tie as tie
-use Rattle.refusals.proofs.no_auction.Reads as reads
-use Rattle.refusals.proofs.no_auction.Lts as lts
-use Rattle.endings.proofs.running.Reads as running-reads
 
 running-requires : tie.Need-running-requires
 running-requires c κs = search needs

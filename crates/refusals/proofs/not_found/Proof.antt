@@ -7,10 +7,6 @@ use borrow.Author.Needs.{needs}
 use native.Mathlib.Omega.{arith}
 use Rattle.refusals.proofs.not_found.Statement.{statement}
 use Rattle.refusals.proofs.not_found.Tie as tie
-use Rattle.refusals.proofs.not_found.Reads as reads
-use Rattle.refusals.proofs.not_found.Lts as lts
-use Rattle.refusals.proofs.is_leg_order_of.Reads as is-leg-order-of-reads
-use Rattle.refusals.proofs.is_order_of.Reads as is-order-of-reads
 
 abbrev Inv-loop : tie.InvT-loop
 Inv-loop m n b i₀ i = (i ≤ 32) × Passed (orderAtIs b m n) i × Passed (legOrderAtIs b m n) i

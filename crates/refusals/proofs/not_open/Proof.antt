@@ -3,9 +3,6 @@ use mathlib.Core.Path.{ap}
 use borrow.Author.Needs.{needs}
 use Rattle.refusals.proofs.not_open.Statement.{statement}
 use Rattle.refusals.proofs.not_open.Tie as tie
-use Rattle.refusals.proofs.not_open.Reads as reads
-use Rattle.refusals.proofs.not_open.Lts as lts
-use Rattle.closing.proofs.is_open.Reads as is-open-reads
 
 is-open-requires : tie.Need-is-open-requires
 is-open-requires c κs = search needs

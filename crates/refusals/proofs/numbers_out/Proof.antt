@@ -2,8 +2,6 @@ use Rattle.rules.specs.Refusals.{numbersOut}
 use mathlib.Core.Path.{refl}
 use Rattle.refusals.proofs.numbers_out.Statement.{statement}
 use Rattle.refusals.proofs.numbers_out.Tie as tie
-use Rattle.refusals.proofs.numbers_out.Reads as reads
-use Rattle.refusals.proofs.numbers_out.Lts as lts
 
 returns : tie.Need-returns
 unfolding numbersOut

@@ -1,10 +1,6 @@
 use borrow.Author.Needs.{needs}
 use Rattle.refusals.proofs.replaces.Statement.{statement}
 use Rattle.refusals.proofs.replaces.Tie as tie
-use Rattle.refusals.proofs.replaces.Reads as reads
-use Rattle.refusals.proofs.replaces.Lts as lts
-use Rattle.entries.proofs.old_sweep.Reads as old-sweep-reads
-use Rattle.given.proofs.sweep_given.Reads as sweep-given-reads
 
 sweep-given-requires : tie.Need-sweep-given-requires
 sweep-given-requires c κs = search needs

@@ -3,8 +3,6 @@ use mathlib.Core.Path.{refl}
 use borrow.Author.Needs.{needs}
 use Rattle.refusals.proofs.undefined.Statement.{statement}
 use Rattle.refusals.proofs.undefined.Tie as tie
-use Rattle.refusals.proofs.undefined.Reads as reads
-use Rattle.refusals.proofs.undefined.Lts as lts
 
 cast-defined : tie.Need-cast-defined
 cast-defined c = search needs

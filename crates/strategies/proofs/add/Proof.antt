@@ -5,8 +5,6 @@ use native.Mathlib.Omega.{arith}
 use borrow.Author.Needs.{needs}
 use Rattle.strategies.proofs.add.Statement.{statement}
 use Rattle.strategies.proofs.add.Tie as tie
-use Rattle.strategies.proofs.add.Reads as reads
-use Rattle.strategies.proofs.add.Lts as lts
 
 cast-at : tie.Need-cast-at
 cast-at c = search needs

@@ -3,9 +3,6 @@ use Rattle.strategies.specs.Order.{shifted, add-past, add-held, add-new,
 use borrow.Author.Needs.{needs}
 use Rattle.strategies.proofs.add_series.Statement.{statement}
 use Rattle.strategies.proofs.add_series.Tie as tie
-use Rattle.strategies.proofs.add_series.Reads as reads
-use Rattle.strategies.proofs.add_series.Lts as lts
-use Rattle.strategies.proofs.has.Reads as has-reads
 
 returns : tie.Need-returns
 returns c = add-past _ _ (c .if1 .taken)

@@ -5,9 +5,6 @@ use borrow.Author.Needs.{needs}
 use native.Mathlib.Omega.{arith}
 use Rattle.strategies.proofs.by_series.Statement.{statement}
 use Rattle.strategies.proofs.by_series.Tie as tie
-use Rattle.strategies.proofs.by_series.Reads as reads
-use Rattle.strategies.proofs.by_series.Lts as lts
-use Rattle.strategies.proofs.put_series.Reads as put-series-reads
 
 abbrev Inv-loop : tie.InvT-loop
 Inv-loop legs count x o₀ left₀ o left = Walking legs count left o

@@ -5,11 +5,6 @@ use Rattle.strategies.specs.Order.{ones-few, set-of-lowest, defined-is}
 use borrow.Author.Needs.{needs}
 use Rattle.strategies.proofs.defined.Statement.{statement}
 use Rattle.strategies.proofs.defined.Tie as tie
-use Rattle.strategies.proofs.defined.Reads as reads
-use Rattle.strategies.proofs.defined.Lts as lts
-use Rattle.strategies.proofs.by_series.Reads as by-series-reads
-use Rattle.strategies.proofs.series_set.Reads as series-set-reads
-use Rattle.terms.proofs.lowest_terms.Reads as lowest-terms-reads
 
 lowest-terms-requires : tie.Need-lowest-terms-requires
 lowest-terms-requires c κs = search needs

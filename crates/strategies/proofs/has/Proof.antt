@@ -4,8 +4,6 @@ use Rattle.base.specs.SetLaws.{has-past}
 use borrow.Author.Needs.{needs}
 use Rattle.strategies.proofs.has.Statement.{statement}
 use Rattle.strategies.proofs.has.Tie as tie
-use Rattle.strategies.proofs.has.Reads as reads
-use Rattle.strategies.proofs.has.Lts as lts
 
 returns : tie.Need-returns
 returns c = sym (has-past _ _ (c .before .fits .x .fits) (c .if1 .taken))

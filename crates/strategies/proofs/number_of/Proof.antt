@@ -6,9 +6,6 @@ use borrow.Author.Needs.{needs}
 use native.Mathlib.Omega.{arith}
 use Rattle.strategies.proofs.number_of.Statement.{statement}
 use Rattle.strategies.proofs.number_of.Tie as tie
-use Rattle.strategies.proofs.number_of.Reads as reads
-use Rattle.strategies.proofs.number_of.Lts as lts
-use Rattle.strategies.proofs.same_leg.Reads as same-leg-reads
 
 abbrev Inv-loop : tie.InvT-loop
 Inv-loop n rows legs k₀ theirs i₀ k i = Comparing rows legs theirs n k i × (k ≡ k₀)

@@ -2,8 +2,6 @@ use Rattle.strategies.specs.Order.{put-row, put-none}
 use borrow.Author.Needs.{needs}
 use Rattle.strategies.proofs.put_leg.Statement.{statement}
 use Rattle.strategies.proofs.put_leg.Tie as tie
-use Rattle.strategies.proofs.put_leg.Reads as reads
-use Rattle.strategies.proofs.put_leg.Lts as lts
 
 returns : tie.Need-returns
 returns c = put-none _ _ (c .if1 .taken)

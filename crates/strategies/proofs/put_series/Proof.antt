@@ -2,11 +2,6 @@ use Rattle.strategies.specs.Order.{put-found}
 use borrow.Author.Needs.{needs}
 use Rattle.strategies.proofs.put_series.Statement.{statement}
 use Rattle.strategies.proofs.put_series.Tie as tie
-use Rattle.strategies.proofs.put_series.Reads as reads
-use Rattle.strategies.proofs.put_series.Lts as lts
-use Rattle.strategies.proofs.put_leg.Reads as put-leg-reads
-use Rattle.terms.proofs.leg_at.Reads as leg-at-reads
-use Rattle.terms.proofs.place_of.Reads as place-of-reads
 
 place-of-requires : tie.Need-place-of-requires
 place-of-requires c κs = search needs

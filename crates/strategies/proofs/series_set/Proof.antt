@@ -7,10 +7,6 @@ use borrow.Author.Needs.{needs}
 use native.Mathlib.Omega.{arith}
 use Rattle.strategies.proofs.series_set.Statement.{statement}
 use Rattle.strategies.proofs.series_set.Tie as tie
-use Rattle.strategies.proofs.series_set.Reads as reads
-use Rattle.strategies.proofs.series_set.Lts as lts
-use Rattle.strategies.proofs.add_series.Reads as add-series-reads
-use Rattle.terms.proofs.leg_at.Reads as leg-at-reads
 
 abbrev Inv-loop : tie.InvT-loop
 Inv-loop legs count x₀ i₀ x i = (i ≤ count) × (x ≡ setN (present legs i) 32)

@@ -1,9 +1,6 @@
 use borrow.Author.Needs.{needs}
 use Rattle.terms.proofs.divided.Statement.{statement}
 use Rattle.terms.proofs.divided.Tie as tie
-use Rattle.terms.proofs.divided.Reads as reads
-use Rattle.terms.proofs.divided.Lts as lts
-use Rattle.terms.proofs.quotient.Reads as quotient-reads
 
 quotient-requires : tie.Need-quotient-requires
 quotient-requires c κs = search needs

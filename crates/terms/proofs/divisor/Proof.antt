@@ -6,10 +6,6 @@ use borrow.Author.Needs.{needs}
 use native.Mathlib.Omega.{arith}
 use Rattle.terms.proofs.divisor.Statement.{statement}
 use Rattle.terms.proofs.divisor.Tie as tie
-use Rattle.terms.proofs.divisor.Reads as reads
-use Rattle.terms.proofs.divisor.Lts as lts
-use Rattle.terms.proofs.gcd.Reads as gcd-reads
-use Rattle.terms.proofs.leg_at.Reads as leg-at-reads
 
 abbrev Inv-loop : tie.InvT-loop
 Inv-loop legs count d₀ i₀ d i = (i ≤ count) × (d ≡ walk (divisorStep legs) 0 i)

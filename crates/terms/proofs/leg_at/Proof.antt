@@ -5,8 +5,6 @@ use lib.ListN.{length, List·getD-eq-default}
 use borrow.Author.Needs.{needs}
 use Rattle.terms.proofs.leg_at.Statement.{statement}
 use Rattle.terms.proofs.leg_at.Tie as tie
-use Rattle.terms.proofs.leg_at.Reads as reads
-use Rattle.terms.proofs.leg_at.Lts as lts
 
 mul-result : tie.Need-mul-result
 mul-result c = search needs

@@ -8,10 +8,6 @@ use borrow.Author.Needs.{needs}
 use native.Mathlib.Omega.{arith}
 use Rattle.terms.proofs.lowest_terms.Statement.{statement}
 use Rattle.terms.proofs.lowest_terms.Tie as tie
-use Rattle.terms.proofs.lowest_terms.Reads as reads
-use Rattle.terms.proofs.lowest_terms.Lts as lts
-use Rattle.terms.proofs.divided.Reads as divided-reads
-use Rattle.terms.proofs.divisor.Reads as divisor-reads
 
 abbrev Inv-loop : tie.InvT-loop
 Inv-loop count legs d ls₀ i₀ ls i = (i ≤ 6) × (ls ≡ seam (dividedAt legs d) legs i)

@@ -4,9 +4,6 @@ use native.Mathlib.Omega.{arith}
 use borrow.Author.Needs.{needs}
 use Rattle.terms.proofs.over_threefold.Statement.{statement}
 use Rattle.terms.proofs.over_threefold.Tie as tie
-use Rattle.terms.proofs.over_threefold.Reads as reads
-use Rattle.terms.proofs.over_threefold.Lts as lts
-use Rattle.terms.proofs.spread.Reads as spread-reads
 
 spread-requires : tie.Need-spread-requires
 spread-requires c κs = search needs

@@ -9,9 +9,6 @@ use borrow.Author.Needs.{needs}
 use native.Mathlib.Omega.{arith}
 use Rattle.terms.proofs.place_of.Statement.{statement}
 use Rattle.terms.proofs.place_of.Tie as tie
-use Rattle.terms.proofs.place_of.Reads as reads
-use Rattle.terms.proofs.place_of.Lts as lts
-use Rattle.terms.proofs.leg_at.Reads as leg-at-reads
 
 abbrev Inv-loop : tie.InvT-loop
 Inv-loop legs count s i₀ i = (i ≤ count) × ((j : ℕ) → j < i → inSeries legs s j ≡ false)

@@ -3,8 +3,6 @@ use native.Mathlib.Nat.{div-zero, div-one}
 use borrow.Author.Needs.{needs}
 use Rattle.terms.proofs.quotient.Statement.{statement}
 use Rattle.terms.proofs.quotient.Tie as tie
-use Rattle.terms.proofs.quotient.Reads as reads
-use Rattle.terms.proofs.quotient.Lts as lts
 
 returns : tie.Need-returns
 returns c = rw (c .if1 .taken) (sym (div-zero _))

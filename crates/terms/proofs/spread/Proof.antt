@@ -6,11 +6,6 @@ use borrow.Author.Needs.{needs}
 use native.Mathlib.Omega.{arith}
 use Rattle.terms.proofs.spread.Statement.{statement}
 use Rattle.terms.proofs.spread.Tie as tie
-use Rattle.terms.proofs.spread.Reads as reads
-use Rattle.terms.proofs.spread.Lts as lts
-use Rattle.records.proofs.least.Reads as least-reads
-use Rattle.terms.proofs.leg_at.Reads as leg-at-reads
-use Rattle.terms.proofs.most.Reads as most-reads
 
 abbrev Inv-loop : tie.InvT-loop
 Inv-loop legs count largest₀ smallest₀ i₀ largest smallest i = (i ≤ count) × (largest ≡ walk (largestStep legs) 0 i) × (smallest ≡ walk (smallestStep legs) 12 i)

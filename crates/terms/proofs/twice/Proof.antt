@@ -9,10 +9,6 @@ use borrow.Author.Needs.{needs}
 use native.Mathlib.Omega.{arith}
 use Rattle.terms.proofs.twice.Statement.{statement}
 use Rattle.terms.proofs.twice.Tie as tie
-use Rattle.terms.proofs.twice.Reads as reads
-use Rattle.terms.proofs.twice.Lts as lts
-use Rattle.terms.proofs.leg_at.Reads as leg-at-reads
-use Rattle.terms.proofs.place_of.Reads as place-of-reads
 
 abbrev Inv-loop : tie.InvT-loop
 Inv-loop legs count i₀ i = (i ≤ count) × ((j : ℕ) → j < i → repeats legs j ≡ false)

@@ -7,10 +7,6 @@ use borrow.Author.Needs.{needs}
 use Rattle.events.specs.Kinds.{fixed-le, lengthOf}
 use Rattle.events.proofs.kinds.length_of.Statement.{statement}
 use Rattle.events.proofs.kinds.length_of.Tie as tie
-use Rattle.events.proofs.kinds.length_of.Reads as reads
-use Rattle.events.proofs.kinds.length_of.Lts as lts
-use Rattle.events.proofs.kinds.fixed_length.Reads as base-of-reads
-use Rattle.events.proofs.kinds.code_of.Reads as code-of-reads
 
 code-of-requires : tie.Need-code-of-requires
 code-of-requires c κs = search needs

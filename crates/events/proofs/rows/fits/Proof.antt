@@ -5,13 +5,6 @@ use Rattle.events.specs.Rows.{fitting}
 use Rattle.events.specs.Laws.{four-in, layout-in}
 use Rattle.events.proofs.rows.fits.Statement.{statement}
 use Rattle.events.proofs.rows.fits.Tie as tie
-use Rattle.events.proofs.rows.fits.Reads as reads
-use Rattle.events.proofs.rows.fits.Lts as lts
-use Rattle.events.proofs.table.fields_of.Reads as fields-of-reads
-use Rattle.events.proofs.table.fit.Reads as fit-reads
-use Rattle.events.proofs.rows.kind_in.Reads as kind-in-reads
-use Rattle.events.proofs.rows.length_in.Reads as length-in-reads
-use Rattle.events.proofs.rows.row_of.Reads as row-of-reads
 
 kind-in-requires : tie.Need-kind-in-requires
 kind-in-requires c κs = search needs

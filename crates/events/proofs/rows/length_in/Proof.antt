@@ -3,11 +3,6 @@ use borrow.Author.Needs.{needs}
 use Rattle.events.specs.Rows.{lengthIn}
 use Rattle.events.proofs.rows.length_in.Statement.{statement}
 use Rattle.events.proofs.rows.length_in.Tie as tie
-use Rattle.events.proofs.rows.length_in.Reads as reads
-use Rattle.events.proofs.rows.length_in.Lts as lts
-use Rattle.events.proofs.rows.kind_in.Reads as kind-in-reads
-use Rattle.events.proofs.kinds.length_of.Reads as length-of-reads
-use Rattle.events.proofs.rows.row_of.Reads as row-of-reads
 
 row-of-requires : tie.Need-row-of-requires
 row-of-requires c κs = search needs

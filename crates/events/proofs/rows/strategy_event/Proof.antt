@@ -1,9 +1,6 @@
 use borrow.Author.Needs.{needs}
 use Rattle.events.proofs.rows.strategy_event.Statement.{statement}
 use Rattle.events.proofs.rows.strategy_event.Tie as tie
-use Rattle.events.proofs.rows.strategy_event.Reads as reads
-use Rattle.events.proofs.rows.strategy_event.Lts as lts
-use Rattle.events.proofs.rows.leg_at.Reads as leg-at-reads
 
 array-read-t5 : tie.Need-array-read-t5
 array-read-t5 c = search needs

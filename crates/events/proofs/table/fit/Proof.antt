@@ -6,10 +6,6 @@ use borrow.Author.Needs.{needs}
 use Rattle.events.specs.Fields.{fitN, layout}
 use Rattle.events.proofs.table.fit.Statement.{statement}
 use Rattle.events.proofs.table.fit.Tie as tie
-use Rattle.events.proofs.table.fit.Reads as reads
-use Rattle.events.proofs.table.fit.Lts as lts
-use Rattle.events.proofs.table.within.Reads as within-reads
-use Rattle.events.proofs.table.present.Reads as present-reads
 
 abbrev Inv-loop : tie.InvT-loop
 Inv-loop m fields row ok₀ i₀ ok i = (i ≤ 19) × (ok ≡ fitN (layout fields m) row i)

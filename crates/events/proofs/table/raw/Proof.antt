@@ -4,9 +4,6 @@ use borrow.Author.Needs.{needs}
 use Rattle.events.specs.Fields.{rawOf}
 use Rattle.events.proofs.table.raw.Statement.{statement}
 use Rattle.events.proofs.table.raw.Tie as tie
-use Rattle.events.proofs.table.raw.Reads as reads
-use Rattle.events.proofs.table.raw.Lts as lts
-use Rattle.std.proofs.num.wrapping_sub_u32.Reads as wrapping-sub-u32-reads
 
 wrapping-sub-u32-requires : tie.Need-wrapping-sub-u32-requires
 wrapping-sub-u32-requires c κs = search needs

@@ -8,10 +8,6 @@ use Rattle.events.specs.Fields.{width, layout, offset, offset-room}
 use Rattle.frames.specs.Bodies.{rowN}
 use Rattle.frames.proofs.bodies.decode.Statement.{statement}
 use Rattle.frames.proofs.bodies.decode.Tie as tie
-use Rattle.frames.proofs.bodies.decode.Reads as reads
-use Rattle.frames.proofs.bodies.decode.Lts as lts
-use Rattle.events.proofs.table.present.Reads as present-reads
-use Rattle.frames.proofs.bodies.value.Reads as value-reads
 
 abbrev Inv-loop : tie.InvT-loop
 Inv-loop frame m fields row₀ at₀ i₀ row at i = (i ≤ 19) × (at ≡ offset (layout fields m) i) × (row ≡ rowN (layout fields m) frame i)

@@ -9,10 +9,6 @@ use Rattle.frames.specs.Bodies.{body-next, bodyN}
 use Rattle.events.specs.Fields.{width, layout, offset, offset-room}
 use Rattle.frames.proofs.bodies.encode.Statement.{statement}
 use Rattle.frames.proofs.bodies.encode.Tie as tie
-use Rattle.frames.proofs.bodies.encode.Reads as reads
-use Rattle.frames.proofs.bodies.encode.Lts as lts
-use Rattle.events.proofs.table.present.Reads as present-reads
-use Rattle.frames.proofs.bodies.write_value.Reads as write-value-reads
 
 abbrev Inv-loop : tie.InvT-loop
 Inv-loop space₀ m fields row at₀ i₀ space at i = (i ≤ 19) × (at ≡ offset (layout fields m) i) × (length space ≡ length space₀) × (space ≡ sets space₀ 4 (bodyN (layout fields m) row i))

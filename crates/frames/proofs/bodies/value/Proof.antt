@@ -3,10 +3,6 @@ use borrow.Author.Needs.{needs}
 use Rattle.frames.specs.Bodies.{valueAt}
 use Rattle.frames.proofs.bodies.value.Statement.{statement}
 use Rattle.frames.proofs.bodies.value.Tie as tie
-use Rattle.frames.proofs.bodies.value.Reads as reads
-use Rattle.frames.proofs.bodies.value.Lts as lts
-use Rattle.frames.proofs.numbers.number.Reads as number-reads
-use Rattle.std.proofs.num.wrapping_add_u32.Reads as wrapping-add-u32-reads
 
 number-requires : tie.Need-number-requires
 number-requires c κs = search needs

@@ -3,10 +3,6 @@ use borrow.Author.Needs.{needs}
 use Rattle.frames.specs.Bodies.{valueBytes}
 use Rattle.frames.proofs.bodies.write_value.Statement.{statement}
 use Rattle.frames.proofs.bodies.write_value.Tie as tie
-use Rattle.frames.proofs.bodies.write_value.Reads as reads
-use Rattle.frames.proofs.bodies.write_value.Lts as lts
-use Rattle.frames.proofs.numbers.put.Reads as put-reads
-use Rattle.events.proofs.table.raw.Reads as raw-reads
 
 raw-requires : tie.Need-raw-requires
 raw-requires c κs = search needs

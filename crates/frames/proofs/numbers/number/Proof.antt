@@ -5,9 +5,6 @@ use borrow.Author.Needs.{needs}
 use native.Mathlib.Omega.{arith}
 use Rattle.frames.proofs.numbers.number.Statement.{statement}
 use Rattle.frames.proofs.numbers.number.Tie as tie
-use Rattle.frames.proofs.numbers.number.Reads as reads
-use Rattle.frames.proofs.numbers.number.Lts as lts
-use Rattle.frames.proofs.numbers.wide.Reads as wide-reads
 
 abbrev Inv-loop : tie.InvT-loop
 Inv-loop frame at width v₀ i₀ v i = (i ≤ width) × (v ≡ number i frame (at + (width - i)))

@@ -7,8 +7,6 @@ use lib.ListN.{length-set}
 use Rattle.frames.specs.Number.{bytes, put-end, put-start, put-step}
 use Rattle.frames.proofs.numbers.put.Statement.{statement}
 use Rattle.frames.proofs.numbers.put.Tie as tie
-use Rattle.frames.proofs.numbers.put.Reads as reads
-use Rattle.frames.proofs.numbers.put.Lts as lts
 
 abbrev Inv-loop : tie.InvT-loop
 Inv-loop space₀ at width value v₀ i₀ space v i = (i ≤ width) × (length space ≡ length space₀) × (sets space (at + i) (bytes (width - i) v) ≡ sets space₀ at (bytes width value))
