@@ -76,3 +76,26 @@ room-each f k i b₀ r h d =
 
 pub room-of : {sp : List ℤ} {n : ℕ} {x y : Moved} → x ≡ y → Room sp n (x .records) → Room sp n (y .records)
 room-of {sp} {n} e r = subst (λ (z : Moved). Room sp n (z .records)) e r
+
+-- a loop over k slots that has visited i of them: their rules are followed, from the book b₀ to the book b
+pub record Visited (f : ℕ → State → Moved) (k : ℕ) (b₀ : State) (sp sq : List ℤ) (n m : ℕ) (b : State) (i : ℕ) : Type 0 where
+  pub most : i ≤ k
+  pub done : Done sp sq n m b (each f i b₀)
+
+pub visit-none : (f : ℕ → State → Moved) (k : ℕ) (b : State) (sp : List ℤ) (n : ℕ) → Visited f k b sp sp n n b 0
+visit-none f k b sp n = record { most = omega arith; done = each-first sp n f b }
+
+module _ {f : ℕ → State → Moved} {k i : ℕ} {b₀ b : State} {sp sq : List ℤ} {n m : ℕ} (v : Visited f k b₀ sp sq n m b i) where
+  -- the next slot moves by its rule x, or stays; and the room for it
+  pub visit-moves : i < k → {x : Moved} → f i b ≡ x → {sr : List ℤ} {o : ℕ} {c : State} → Done sq sr m o c x → Visited f k b₀ sp sr n o c (i + 1)
+  visit-moves h e d = record { most = omega arith; done = each-next f i b₀ (v .done) (done-of e d) }
+
+  pub visit-stays : i < k → f i b ≡ still b → Visited f k b₀ sp sq n m b (i + 1)
+  visit-stays h e = visit-moves h e (done-still sq m b)
+
+  pub visit-room : i < k → {x : Moved} → f i b ≡ x → Room sp n (each f k b₀ .records) → Room sq m (x .records)
+  visit-room h e r = room-of e (room-each f k i b₀ r h (v .done))
+
+  -- all slots
+  pub visit-all : k ≤ i → Done sp sq n m b (each f k b₀)
+  visit-all h = let e : i ≡ k = omega (arith, v .most) in rw e at (v .done)
