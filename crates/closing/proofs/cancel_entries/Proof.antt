@@ -1,12 +1,10 @@
 use mathlib.Core.Logic.{⊎-elim}
 use Rattle.closing.specs.Closing.{entry-yes, entry-not}
 use Rattle.rules.specs.Events.{cancelEntryOf}
-use Rattle.records.specs.Done.{Done, each-first, each-next, room-each, done-length, done-still, done-of, room-of}
-use Rattle.rules.specs.Moves.{each}
+use Rattle.records.specs.Done.{Visited, visit-none, visit-moves, visit-stays, visit-room, visit-all, done-length}
 use borrow.Author.Needs.{needs}
 use native.Mathlib.Omega.{arith}
-use Prim.Native.Nat.{_≤_, _-_}
-use mathlib.Core.Path.{_≡_}
+use Prim.Native.Nat.{_-_}
 use Rattle.base.specs.Pick.{told}
 use Rattle.closing.proofs.cancel_entries.Statement.{statement}
 use Rattle.closing.proofs.cancel_entries.Tie as tie
@@ -16,13 +14,13 @@ use Rattle.closing.proofs.has_live.Reads as has-live-reads
 use Rattle.fills.proofs.cancel_entry.Reads as cancel-entry-reads
 
 abbrev Inv-loop : tie.InvT-loop
-Inv-loop number space₀ n c₀ m₀ i₀ space c m i = (i ≤ 32) × Done space₀ space n m c (each (cancelEntryOf number) i c₀)
+Inv-loop number space₀ n c₀ m₀ i₀ space c m i = Visited (cancelEntryOf number) 32 c₀ space₀ space n m c i
 
 abbrev μ-loop : tie.MeasureT-loop
 μ-loop number space₀ n c₀ m₀ i₀ space c m i = 32 - i
 
 loop-holds : tie.Need-loop-holds Inv-loop μ-loop
-loop-holds c = (omega arith, each-first _ _ _ _)
+loop-holds c = visit-none _ _ _ _ _
 
 mul-e : tie.Need-mul-e Inv-loop μ-loop
 mul-e c = search needs
@@ -34,7 +32,8 @@ has-live-requires : tie.Need-has-live-requires Inv-loop μ-loop
 has-live-requires c κs = search needs
 
 cancel-entry-requires : tie.Need-cancel-entry-requires Inv-loop μ-loop
-cancel-entry-requires c κs = (c .before .before .before .before .loop-test .taken, room-of (entry-yes _ _ _ (told (c .before .before .has-live .ensures) (c .before .if1 .taken))) (room-each (cancelEntryOf (c .before .before .before .before .before .before .args .number)) 32 _ _ (c .before .before .before .before .before .before .pre) (c .before .before .before .before .loop-test .taken) (c .before .before .before .before .before .loop .inv .1)))
+cancel-entry-requires c κs = let l = c .before .before .before .before in
+    (l .loop-test .taken, visit-room (l .before .loop .inv) (l .loop-test .taken) (entry-yes _ _ _ (told (c .before .before .has-live .ensures) (c .before .if1 .taken))) (l .before .before .pre))
 
 add-i : tie.Need-add-i Inv-loop μ-loop
 add-i c = omega arith
@@ -43,13 +42,14 @@ loop-less : tie.Need-loop-less Inv-loop μ-loop
 loop-less c = omega arith
 
 loop-again : tie.Need-loop-again Inv-loop μ-loop
-loop-again c = (omega arith, ⊎-elim (λ w. rw (w .5, w .6, w .7) (each-next (cancelEntryOf (c .before .before .before .before .before .args .number)) _ _ (c .before .before .before .before .loop .inv .1) (done-of (entry-yes _ _ _ (told (c .before .has-live .ensures) (w .0 .taken))) (w .2 .ensures)))) (λ w. rw (w .1, w .2, w .3) (each-next (cancelEntryOf (c .before .before .before .before .before .args .number)) _ _ (c .before .before .before .before .loop .inv .1) (done-of (entry-not _ _ _ (told (c .before .has-live .ensures) (w .0 .left))) (done-still _ _ _)))) (c .if1 .came))
+loop-again c = let l = c .before .before .before in
+    ⊎-elim (λ w. rw (w .5, w .6, w .7) (visit-moves (l .before .loop .inv) (l .loop-test .taken) (entry-yes _ _ _ (told (c .before .has-live .ensures) (w .0 .taken))) (w .2 .ensures))) (λ w. rw (w .1, w .2, w .3) (visit-stays (l .before .loop .inv) (l .loop-test .taken) (entry-not _ _ _ (told (c .before .has-live .ensures) (w .0 .left))))) (c .if1 .came)
 
 same-length : tie.Need-same-length Inv-loop μ-loop
-same-length c = done-length (c .before .loop .inv .1)
+same-length c = done-length (c .before .loop .inv .done)
 
 returns : tie.Need-returns Inv-loop μ-loop
-returns c = let e : c .before .loop .i ≡ 32 = omega arith in rw e at (c .before .loop .inv .1)
+returns c = visit-all (c .before .loop .inv) (c .loop-test .left)
 
 pub cancel-entries-spec : {M : Type 1} → statement M
 cancel-entries-spec =

@@ -1,10 +1,8 @@
 use Rattle.closing.specs.Closing.{close-yes, close-not}
 use Rattle.rules.specs.Events.{closeRunning}
 use mathlib.Core.Logic.{⊎-elim}
-use Rattle.records.specs.Done.{Done, each-first, each-next, room-each, done-length, done-still, done-of, room-of}
-use Rattle.rules.specs.Moves.{each}
-use mathlib.Core.Path.{_≡_}
-use Prim.Native.Nat.{_≤_, _-_}
+use Rattle.records.specs.Done.{Visited, visit-none, visit-moves, visit-stays, visit-room, visit-all, done-length}
+use Prim.Native.Nat.{_-_}
 use native.Mathlib.Omega.{arith}
 use borrow.Author.Needs.{needs}
 use Rattle.closing.proofs.close_all.Statement.{statement}
@@ -14,13 +12,13 @@ use Rattle.closing.proofs.close_all.Lts as lts
 use Rattle.auctions.proofs.close.Reads as close-reads
 
 abbrev Inv-loop : tie.InvT-loop
-Inv-loop space₀ n c₀ m₀ k₀ space c m k = (k ≤ 16) × Done space₀ space n m c (each closeRunning k c₀)
+Inv-loop space₀ n c₀ m₀ k₀ space c m k = Visited closeRunning 16 c₀ space₀ space n m c k
 
 abbrev μ-loop : tie.MeasureT-loop
 μ-loop space₀ n c₀ m₀ k₀ space c m k = 16 - k
 
 loop-holds : tie.Need-loop-holds Inv-loop μ-loop
-loop-holds c = (omega arith, each-first _ _ _ _)
+loop-holds c = visit-none _ _ _ _ _
 
 mul-s : tie.Need-mul-s Inv-loop μ-loop
 mul-s c = search needs
@@ -29,7 +27,8 @@ element-copy-out-s : tie.Need-element-copy-out-s Inv-loop μ-loop
 element-copy-out-s c = c .loop-test .taken
 
 close-requires : tie.Need-close-requires Inv-loop μ-loop
-close-requires c κs = (c .before .before .before .before .loop-test .taken, room-of (close-yes _ _ (c .before .if1 .taken)) (room-each closeRunning 16 _ _ (c .before .before .before .before .before .before .pre) (c .before .before .before .before .loop-test .taken) (c .before .before .before .before .before .loop .inv .1)))
+close-requires c κs = let l = c .before .before .before .before in
+    (l .loop-test .taken, visit-room (l .before .loop .inv) (l .loop-test .taken) (close-yes _ _ (c .before .if1 .taken)) (l .before .before .pre))
 
 add-k : tie.Need-add-k Inv-loop μ-loop
 add-k c = omega arith
@@ -38,13 +37,14 @@ loop-less : tie.Need-loop-less Inv-loop μ-loop
 loop-less c = omega arith
 
 loop-again : tie.Need-loop-again Inv-loop μ-loop
-loop-again c = (omega arith, ⊎-elim (λ w. rw (w .5, w .6, w .7) (each-next closeRunning _ _ (c .before .before .before .before .loop .inv .1) (done-of (close-yes _ _ (w .0 .taken)) (w .2 .ensures)))) (λ w. rw (w .1, w .2, w .3) (each-next closeRunning _ _ (c .before .before .before .before .loop .inv .1) (done-of (close-not _ _ (w .0 .left)) (done-still _ _ _)))) (c .if1 .came))
+loop-again c = let l = c .before .before .before in
+    ⊎-elim (λ w. rw (w .5, w .6, w .7) (visit-moves (l .before .loop .inv) (l .loop-test .taken) (close-yes _ _ (w .0 .taken)) (w .2 .ensures))) (λ w. rw (w .1, w .2, w .3) (visit-stays (l .before .loop .inv) (l .loop-test .taken) (close-not _ _ (w .0 .left)))) (c .if1 .came)
 
 same-length : tie.Need-same-length Inv-loop μ-loop
-same-length c = done-length (c .before .loop .inv .1)
+same-length c = done-length (c .before .loop .inv .done)
 
 returns : tie.Need-returns Inv-loop μ-loop
-returns c = let e : c .before .loop .k ≡ 16 = omega arith in rw e at (c .before .loop .inv .1)
+returns c = visit-all (c .before .loop .inv) (c .loop-test .left)
 
 pub close-all-spec : {M : Type 1} → statement M
 close-all-spec =

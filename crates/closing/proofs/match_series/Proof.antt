@@ -3,10 +3,9 @@ use Rattle.base.specs.Pick.{told}
 use Rattle.closing.specs.Closing.{fit-each, match-not}
 use Rattle.rules.specs.Auctions.{matchIn}
 use mathlib.Core.Logic.{⊎-elim}
-use Rattle.records.specs.Done.{Done, each-first, each-next, room-each, done-length, done-still, done-of}
-use Rattle.rules.specs.Moves.{each}
-use mathlib.Core.Path.{_≡_}
-use Prim.Native.Nat.{_≤_, _-_}
+use Rattle.records.specs.Done.{Visited, visit-none, visit-moves, visit-stays, visit-room, visit-all, done-length}
+use mathlib.Core.Path.{refl}
+use Prim.Native.Nat.{_-_}
 use native.Mathlib.Omega.{arith}
 use borrow.Author.Needs.{needs}
 use Rattle.closing.proofs.match_series.Statement.{statement}
@@ -17,13 +16,13 @@ use Rattle.closing.proofs.matches.Reads as matches-reads
 use Rattle.matching.proofs.match_in.Reads as match-in-reads
 
 abbrev Inv-loop : tie.InvT-loop
-Inv-loop s space₀ n c₀ m₀ k₀ space c m k = (k ≤ 16) × Done space₀ space n m c (each (matchIn s) k c₀)
+Inv-loop s space₀ n c₀ m₀ k₀ space c m k = Visited (matchIn s) 16 c₀ space₀ space n m c k
 
 abbrev μ-loop : tie.MeasureT-loop
 μ-loop s space₀ n c₀ m₀ k₀ space c m k = 16 - k
 
 loop-holds : tie.Need-loop-holds Inv-loop μ-loop
-loop-holds c = (omega arith, each-first _ _ _ _)
+loop-holds c = visit-none _ _ _ _ _
 
 mul-h : tie.Need-mul-h Inv-loop μ-loop
 mul-h c = search needs
@@ -35,7 +34,9 @@ matches-requires : tie.Need-matches-requires Inv-loop μ-loop
 matches-requires c κs = search needs
 
 match-in-requires : tie.Need-match-in-requires Inv-loop μ-loop
-match-in-requires c κs = ((c .before .before .before .before .before .before .pre .0 .0, c .before .before .before .before .loop-test .taken, fit-each (matchIn (c .before .before .before .before .before .before .args .s)) (matchIn-kept shrinks-kept (c .before .before .before .before .before .before .args .s)) _ _ (c .before .before .before .before .before .before .pre .0 .1) (c .before .before .before .before .before .loop .inv .1)), room-each (matchIn (c .before .before .before .before .before .before .args .s)) 16 _ _ (c .before .before .before .before .before .before .pre .1) (c .before .before .before .before .loop-test .taken) (c .before .before .before .before .before .loop .inv .1))
+match-in-requires c κs = let l = c .before .before .before .before in
+    let p = l .before .before in
+    ((p .pre .0 .0, l .loop-test .taken, fit-each _ (matchIn-kept shrinks-kept (p .args .s)) _ _ (p .pre .0 .1) (l .before .loop .inv .done)), visit-room (l .before .loop .inv) (l .loop-test .taken) refl (p .pre .1))
 
 add-k : tie.Need-add-k Inv-loop μ-loop
 add-k c = omega arith
@@ -44,13 +45,14 @@ loop-less : tie.Need-loop-less Inv-loop μ-loop
 loop-less c = omega arith
 
 loop-again : tie.Need-loop-again Inv-loop μ-loop
-loop-again c = (omega arith, ⊎-elim (λ w. rw (w .5, w .6, w .7) (each-next (matchIn (c .before .before .before .before .before .args .s)) _ _ (c .before .before .before .before .loop .inv .1) (w .2 .ensures))) (λ w. rw (w .1, w .2, w .3) (each-next (matchIn (c .before .before .before .before .before .args .s)) _ _ (c .before .before .before .before .loop .inv .1) (done-of (match-not _ _ _ (told (c .before .matches .ensures) (w .0 .left))) (done-still _ _ _)))) (c .if1 .came))
+loop-again c = let l = c .before .before .before in
+    ⊎-elim (λ w. rw (w .5, w .6, w .7) (visit-moves (l .before .loop .inv) (l .loop-test .taken) refl (w .2 .ensures))) (λ w. rw (w .1, w .2, w .3) (visit-stays (l .before .loop .inv) (l .loop-test .taken) (match-not _ _ _ (told (c .before .matches .ensures) (w .0 .left))))) (c .if1 .came)
 
 same-length : tie.Need-same-length Inv-loop μ-loop
-same-length c = done-length (c .before .loop .inv .1)
+same-length c = done-length (c .before .loop .inv .done)
 
 returns : tie.Need-returns Inv-loop μ-loop
-returns c = let e : c .before .loop .k ≡ 16 = omega arith in rw e at (c .before .loop .inv .1)
+returns c = visit-all (c .before .loop .inv) (c .loop-test .left)
 
 pub match-series-spec : {M : Type 1} → statement M
 match-series-spec =

@@ -4,10 +4,8 @@ use Rattle.auctions.specs.Ranged.{ranged-kept}
 use Rattle.closing.specs.Closing.{clock-is, ranged-clock, ranged-each, due-fits, due-yes, due-not}
 use Rattle.rules.specs.Auctions.{endDue}
 use mathlib.Core.Logic.{⊎-elim}
-use Rattle.records.specs.Done.{Done, each-first, each-next, room-each, done-length, done-still, done-of, room-of}
-use Rattle.rules.specs.Moves.{each}
-use mathlib.Core.Path.{_≡_}
-use Prim.Native.Nat.{_≤_, _-_}
+use Rattle.records.specs.Done.{Visited, visit-none, visit-moves, visit-stays, visit-room, visit-all, done-length, done-of, room-of}
+use Prim.Native.Nat.{_-_}
 use native.Mathlib.Omega.{arith}
 use borrow.Author.Needs.{needs}
 use Rattle.closing.proofs.on_clock.Statement.{statement}
@@ -19,7 +17,7 @@ use Rattle.closing.proofs.with_clock.Reads as with-clock-reads
 use Rattle.endings.proofs.end_auction.Reads as end-auction-reads
 
 abbrev Inv-loop : tie.InvT-loop
-Inv-loop t space₀ n c₀ m₀ k₀ space c m k = (k ≤ 16) × Done space₀ space n m c (each endDue k c₀)
+Inv-loop t space₀ n c₀ m₀ k₀ space c m k = Visited endDue 16 c₀ space₀ space n m c k
 
 abbrev μ-loop : tie.MeasureT-loop
 μ-loop t space₀ n c₀ m₀ k₀ space c m k = 16 - k
@@ -28,7 +26,7 @@ with-clock-requires : tie.Need-with-clock-requires Inv-loop μ-loop
 with-clock-requires c κs = search needs
 
 loop-holds : tie.Need-loop-holds Inv-loop μ-loop
-loop-holds c = (omega arith, each-first _ _ _ _)
+loop-holds c = visit-none _ _ _ _ _
 
 mul-s : tie.Need-mul-s Inv-loop μ-loop
 mul-s c = search needs
@@ -37,10 +35,13 @@ element-copy-out-s : tie.Need-element-copy-out-s Inv-loop μ-loop
 element-copy-out-s c = c .loop-test .taken
 
 due-requires : tie.Need-due-requires Inv-loop μ-loop
-due-requires c κs = due-fits _ _ (ranged-each endDue (endDue-kept ranged-kept) _ _ (ranged-clock _ _ (c .before .before .before .with-clock .ensures) (c .before .before .before .before .pre .0 .0) (c .before .before .before .before .pre .0 .1)) (c .before .before .loop .inv .1))
+due-requires c κs = let p = c .before .before .before in
+    due-fits _ _ (ranged-each endDue (endDue-kept ranged-kept) _ _ (ranged-clock _ _ (p .with-clock .ensures) (p .before .pre .0 .0) (p .before .pre .0 .1)) (c .before .before .loop .inv .done))
 
 end-auction-requires : tie.Need-end-auction-requires Inv-loop μ-loop
-end-auction-requires c κs = ((c .before .before .before .before .loop-test .taken, ranged-each endDue (endDue-kept ranged-kept) _ _ (ranged-clock _ _ (c .before .before .before .before .before .before .with-clock .ensures) (c .before .before .before .before .before .before .before .pre .0 .0) (c .before .before .before .before .before .before .before .pre .0 .1)) (c .before .before .before .before .before .loop .inv .1) .fit), room-of (due-yes _ _ (told (c .before .before .due .ensures) (c .before .if1 .taken))) (room-each endDue 16 _ _ (room-of (clock-is _ _ (c .before .before .before .before .before .before .with-clock .ensures)) (c .before .before .before .before .before .before .before .pre .1)) (c .before .before .before .before .loop-test .taken) (c .before .before .before .before .before .loop .inv .1)))
+end-auction-requires c κs = let l = c .before .before .before .before in
+    let p = l .before .before in
+    ((l .loop-test .taken, ranged-each endDue (endDue-kept ranged-kept) _ _ (ranged-clock _ _ (p .with-clock .ensures) (p .before .pre .0 .0) (p .before .pre .0 .1)) (l .before .loop .inv .done) .fit), visit-room (l .before .loop .inv) (l .loop-test .taken) (due-yes _ _ (told (c .before .before .due .ensures) (c .before .if1 .taken))) (room-of (clock-is _ _ (p .with-clock .ensures)) (p .before .pre .1)))
 
 add-k : tie.Need-add-k Inv-loop μ-loop
 add-k c = omega arith
@@ -49,13 +50,14 @@ loop-less : tie.Need-loop-less Inv-loop μ-loop
 loop-less c = omega arith
 
 loop-again : tie.Need-loop-again Inv-loop μ-loop
-loop-again c = (omega arith, ⊎-elim (λ w. rw (w .5, w .6, w .7) (each-next endDue _ _ (c .before .before .before .before .loop .inv .1) (done-of (due-yes _ _ (told (c .before .due .ensures) (w .0 .taken))) (w .2 .ensures)))) (λ w. rw (w .1, w .2, w .3) (each-next endDue _ _ (c .before .before .before .before .loop .inv .1) (done-of (due-not _ _ (told (c .before .due .ensures) (w .0 .left))) (done-still _ _ _)))) (c .if1 .came))
+loop-again c = let l = c .before .before .before in
+    ⊎-elim (λ w. rw (w .5, w .6, w .7) (visit-moves (l .before .loop .inv) (l .loop-test .taken) (due-yes _ _ (told (c .before .due .ensures) (w .0 .taken))) (w .2 .ensures))) (λ w. rw (w .1, w .2, w .3) (visit-stays (l .before .loop .inv) (l .loop-test .taken) (due-not _ _ (told (c .before .due .ensures) (w .0 .left))))) (c .if1 .came)
 
 same-length : tie.Need-same-length Inv-loop μ-loop
-same-length c = done-length (c .before .loop .inv .1)
+same-length c = done-length (c .before .loop .inv .done)
 
 returns : tie.Need-returns Inv-loop μ-loop
-returns c = let e : c .before .loop .k ≡ 16 = omega arith in done-of (clock-is _ _ (c .before .before .with-clock .ensures)) (rw e at (c .before .loop .inv .1))
+returns c = done-of (clock-is _ _ (c .before .before .with-clock .ensures)) (visit-all (c .before .loop .inv) (c .loop-test .left))
 
 pub on-clock-spec : {M : Type 1} → statement M
 on-clock-spec =

@@ -3,10 +3,8 @@ use Rattle.base.specs.Pick.{told}
 use Rattle.closing.specs.Closing.{shut-is, holding-yes, holding-not}
 use Rattle.rules.specs.Auctions.{endHolding}
 use mathlib.Core.Logic.{⊎-elim}
-use Rattle.records.specs.Done.{Done, each-first, each-next, room-each, done-length, done-still, done-of, room-of}
-use Rattle.rules.specs.Moves.{each}
-use mathlib.Core.Path.{_≡_}
-use Prim.Native.Nat.{_≤_, _-_}
+use Rattle.records.specs.Done.{Visited, visit-none, visit-moves, visit-stays, visit-room, visit-all, done-length, done-of, room-of}
+use Prim.Native.Nat.{_-_}
 use native.Mathlib.Omega.{arith}
 use borrow.Author.Needs.{needs}
 use Rattle.closing.proofs.shut.Statement.{statement}
@@ -19,7 +17,7 @@ use Rattle.closing.proofs.with_opened.Reads as with-opened-reads
 use Rattle.records.proofs.less.Reads as less-reads
 
 abbrev Inv-loop : tie.InvT-loop
-Inv-loop s space₀ n left c₀ m₀ k₀ space c m k = (k ≤ 16) × Done space₀ space n m c (each (endHolding s) k c₀)
+Inv-loop s space₀ n left c₀ m₀ k₀ space c m k = Visited (endHolding s) 16 c₀ space₀ space n m c k
 
 abbrev μ-loop : tie.MeasureT-loop
 μ-loop s space₀ n left c₀ m₀ k₀ space c m k = 16 - k
@@ -34,7 +32,7 @@ with-opened-requires : tie.Need-with-opened-requires Inv-loop μ-loop
 with-opened-requires c κs = search needs
 
 loop-holds : tie.Need-loop-holds Inv-loop μ-loop
-loop-holds c = (omega arith, each-first _ _ _ _)
+loop-holds c = visit-none _ _ _ _ _
 
 mul-h : tie.Need-mul-h Inv-loop μ-loop
 mul-h c = search needs
@@ -46,7 +44,9 @@ ends-requires : tie.Need-ends-requires Inv-loop μ-loop
 ends-requires c κs = search needs
 
 end-unfilled-requires : tie.Need-end-unfilled-requires Inv-loop μ-loop
-end-unfilled-requires c κs = (c .before .before .before .before .loop-test .taken, room-of (holding-yes _ _ _ (told (c .before .before .ends .ensures) (c .before .if1 .taken))) (room-each (endHolding (c .before .before .before .before .before .before .before .before .args .s)) 16 _ _ (room-of (shut-is _ _ (shifted _ (c .before .before .before .before .before .before .before .before .pre .0)) (c .before .before .before .before .before .before .before .less .ensures) (c .before .before .before .before .before .before .with-opened .ensures)) (c .before .before .before .before .before .before .before .before .pre .1)) (c .before .before .before .before .loop-test .taken) (c .before .before .before .before .before .loop .inv .1)))
+end-unfilled-requires c κs = let l = c .before .before .before .before in
+    let p = l .before .before in
+    (l .loop-test .taken, visit-room (l .before .loop .inv) (l .loop-test .taken) (holding-yes _ _ _ (told (c .before .before .ends .ensures) (c .before .if1 .taken))) (room-of (shut-is _ _ (shifted _ (p .before .before .pre .0)) (p .before .less .ensures) (p .with-opened .ensures)) (p .before .before .pre .1)))
 
 add-k : tie.Need-add-k Inv-loop μ-loop
 add-k c = omega arith
@@ -55,13 +55,14 @@ loop-less : tie.Need-loop-less Inv-loop μ-loop
 loop-less c = omega arith
 
 loop-again : tie.Need-loop-again Inv-loop μ-loop
-loop-again c = (omega arith, ⊎-elim (λ w. rw (w .5, w .6, w .7) (each-next (endHolding (c .before .before .before .before .before .before .before .args .s)) _ _ (c .before .before .before .before .loop .inv .1) (done-of (holding-yes _ _ _ (told (c .before .ends .ensures) (w .0 .taken))) (w .2 .ensures)))) (λ w. rw (w .1, w .2, w .3) (each-next (endHolding (c .before .before .before .before .before .before .before .args .s)) _ _ (c .before .before .before .before .loop .inv .1) (done-of (holding-not _ _ _ (told (c .before .ends .ensures) (w .0 .left))) (done-still _ _ _)))) (c .if1 .came))
+loop-again c = let l = c .before .before .before in
+    ⊎-elim (λ w. rw (w .5, w .6, w .7) (visit-moves (l .before .loop .inv) (l .loop-test .taken) (holding-yes _ _ _ (told (c .before .ends .ensures) (w .0 .taken))) (w .2 .ensures))) (λ w. rw (w .1, w .2, w .3) (visit-stays (l .before .loop .inv) (l .loop-test .taken) (holding-not _ _ _ (told (c .before .ends .ensures) (w .0 .left))))) (c .if1 .came)
 
 same-length : tie.Need-same-length Inv-loop μ-loop
-same-length c = done-length (c .before .loop .inv .1)
+same-length c = done-length (c .before .loop .inv .done)
 
 returns : tie.Need-returns Inv-loop μ-loop
-returns c = let e : c .before .loop .k ≡ 16 = omega arith in done-of (shut-is _ _ (shifted _ (c .before .before .before .before .pre .0)) (c .before .before .before .less .ensures) (c .before .before .with-opened .ensures)) (rw e at (c .before .loop .inv .1))
+returns c = done-of (shut-is _ _ (shifted _ (c .before .before .before .before .pre .0)) (c .before .before .before .less .ensures) (c .before .before .with-opened .ensures)) (visit-all (c .before .loop .inv) (c .loop-test .left))
 
 pub shut-spec : {M : Type 1} → statement M
 shut-spec =

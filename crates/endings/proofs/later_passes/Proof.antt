@@ -1,10 +1,9 @@
-use mathlib.Core.Path.{_≡_, refl}
+use mathlib.Core.Path.{refl}
 use Rattle.endings.specs.Endings.{later-not, later-yes, fit-later}
-use Rattle.records.specs.Done.{Done, each-first, each-next, room-each, done-length, done-still, done-of, room-of}
+use Rattle.records.specs.Done.{Visited, visit-none, visit-moves, visit-stays, visit-room, visit-all, done-length}
 use Rattle.rules.specs.Auctions.{laterPass}
-use Rattle.rules.specs.Moves.{each}
 use Rattle.base.specs.Pick.{told}
-use Prim.Native.Nat.{_≤_, _-_}
+use Prim.Native.Nat.{_-_}
 use mathlib.Core.Logic.{⊎-elim}
 use borrow.Author.Needs.{needs}
 use native.Mathlib.Omega.{arith}
@@ -16,13 +15,13 @@ use Rattle.endings.proofs.later.Reads as later-reads
 use Rattle.passes.proofs.pass.Reads as pass-reads
 
 abbrev Inv-loop : tie.InvT-loop
-Inv-loop k n space₀ m c₀ o₀ i₀ space c o i = (i ≤ 32) × Done space₀ space m o c (each (laterPass k n) i c₀)
+Inv-loop k n space₀ m c₀ o₀ i₀ space c o i = Visited (laterPass k n) 32 c₀ space₀ space m o c i
 
 abbrev μ-loop : tie.MeasureT-loop
 μ-loop k n space₀ m c₀ o₀ i₀ space c o i = 32 - i
 
 loop-holds : tie.Need-loop-holds Inv-loop μ-loop
-loop-holds c = (omega arith, each-first _ _ _ _)
+loop-holds c = visit-none _ _ _ _ _
 
 mul-e : tie.Need-mul-e Inv-loop μ-loop
 mul-e c = search needs
@@ -34,7 +33,9 @@ later-requires : tie.Need-later-requires Inv-loop μ-loop
 later-requires c κs = search needs
 
 pass-requires : tie.Need-pass-requires Inv-loop μ-loop
-pass-requires c κs = ((c .before .before .before .before .before .loop-test .taken, fit-later _ _ _ _ (c .before .before .before .before .before .before .before .pre .0) (c .before .before .before .before .before .before .loop .inv .1)), room-of (later-yes _ _ _ _ (told (c .before .before .before .later .ensures) (c .before .before .if1 .taken)) refl) (room-each (laterPass (c .before .before .before .before .before .before .before .args .k) (c .before .before .before .before .before .before .before .args .n)) 32 _ _ (c .before .before .before .before .before .before .before .pre .1) (c .before .before .before .before .before .loop-test .taken) (c .before .before .before .before .before .before .loop .inv .1)))
+pass-requires c κs = let l = c .before .before .before .before .before in
+    let p = l .before .before in
+    ((l .loop-test .taken, fit-later _ _ _ _ (p .pre .0) (l .before .loop .inv .done)), visit-room (l .before .loop .inv) (l .loop-test .taken) (later-yes _ _ _ _ (told (c .before .before .before .later .ensures) (c .before .before .if1 .taken)) refl) (p .pre .1))
 
 add-i : tie.Need-add-i Inv-loop μ-loop
 add-i c = omega arith
@@ -43,13 +44,14 @@ loop-less : tie.Need-loop-less Inv-loop μ-loop
 loop-less c = omega arith
 
 loop-again : tie.Need-loop-again Inv-loop μ-loop
-loop-again c = (omega arith, ⊎-elim (λ w. rw (w .6, w .7, w .8) (each-next (laterPass (c .before .before .before .before .before .args .k) (c .before .before .before .before .before .args .n)) _ _ (c .before .before .before .before .loop .inv .1) (done-of (later-yes _ _ _ _ (told (c .before .later .ensures) (w .0 .taken)) refl) (w .3 .ensures)))) (λ w. rw (w .1, w .2, w .3) (each-next (laterPass (c .before .before .before .before .before .args .k) (c .before .before .before .before .before .args .n)) _ _ (c .before .before .before .before .loop .inv .1) (done-of (later-not _ _ _ _ (told (c .before .later .ensures) (w .0 .left))) (done-still _ _ _)))) (c .if1 .came))
+loop-again c = let l = c .before .before .before in
+    ⊎-elim (λ w. rw (w .6, w .7, w .8) (visit-moves (l .before .loop .inv) (l .loop-test .taken) (later-yes _ _ _ _ (told (c .before .later .ensures) (w .0 .taken)) refl) (w .3 .ensures))) (λ w. rw (w .1, w .2, w .3) (visit-stays (l .before .loop .inv) (l .loop-test .taken) (later-not _ _ _ _ (told (c .before .later .ensures) (w .0 .left))))) (c .if1 .came)
 
 same-length : tie.Need-same-length Inv-loop μ-loop
-same-length c = done-length (c .before .loop .inv .1)
+same-length c = done-length (c .before .loop .inv .done)
 
 returns : tie.Need-returns Inv-loop μ-loop
-returns c = let e : c .before .loop .i ≡ 32 = omega arith in rw e at (c .before .loop .inv .1)
+returns c = visit-all (c .before .loop .inv) (c .loop-test .left)
 
 pub later-passes-spec : {M : Type 1} → statement M
 later-passes-spec =
