@@ -25,8 +25,7 @@ share-requires c κs = let p = c .before .before .before .pre .0 in
 
 give-requires : tie.Need-give-requires
 unfolding giveGroup
-give-requires c κs = let p = c .before .before .before .before .before .pre in
-    rw (c .before .share .ensures, c .before .before .sizes .ensures) p
+give-requires c κs = rw (c .before .share .ensures, c .before .before .sizes .ensures) (c .before .before .before .before .before .pre)
 
 same-length : tie.Need-same-length
 same-length c = search needs

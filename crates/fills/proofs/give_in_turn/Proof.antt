@@ -22,8 +22,7 @@ in-turn-requires c κs = search needs
 
 give-requires : tie.Need-give-requires
 unfolding giveInTurn
-give-requires c κs = let p = c .before .before .before .before .before .pre in
-    rw (c .before .in-turn .ensures, c .before .before .sizes .ensures) p
+give-requires c κs = rw (c .before .in-turn .ensures, c .before .before .sizes .ensures) (c .before .before .before .before .before .pre)
 
 same-length : tie.Need-same-length
 same-length c = search needs

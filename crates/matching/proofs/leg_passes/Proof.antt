@@ -1,10 +1,8 @@
 use Rattle.matching.specs.Matching.{in-yes, in-not, fit-strategies}
-use Rattle.records.specs.Done.{Done, each-first, each-next, room-each, done-length, done-still, done-of, room-of}
+use Rattle.records.specs.Done.{Visited, visit-none, visit-moves, visit-stays, visit-room, visit-all, done-length}
 use Rattle.rules.specs.Auctions.{legPassesIn, legPasses}
-use Rattle.rules.specs.Moves.{each}
 use Rattle.base.specs.Pick.{told}
-use Prim.Native.Nat.{_≤_, _-_}
-use mathlib.Core.Path.{_≡_}
+use Prim.Native.Nat.{_-_}
 use mathlib.Core.Logic.{⊎-elim}
 use borrow.Author.Needs.{needs}
 use native.Mathlib.Omega.{arith}
@@ -16,13 +14,13 @@ use Rattle.matching.proofs.leg_passes_of.Reads as leg-passes-of-reads
 use Rattle.matching.proofs.passes_legs.Reads as passes-legs-reads
 
 abbrev Inv-loop : tie.InvT-loop
-Inv-loop s space₀ n c₀ m₀ k₀ space c m k = (k ≤ 16) × Done space₀ space n m c (each (legPassesIn s) k c₀)
+Inv-loop s space₀ n c₀ m₀ k₀ space c m k = Visited (legPassesIn s) 16 c₀ space₀ space n m c k
 
 abbrev μ-loop : tie.MeasureT-loop
 μ-loop s space₀ n c₀ m₀ k₀ space c m k = 16 - k
 
 loop-holds : tie.Need-loop-holds Inv-loop μ-loop
-loop-holds c = (omega arith, each-first _ _ _ _)
+loop-holds c = visit-none _ _ _ _ _
 
 mul-t : tie.Need-mul-t Inv-loop μ-loop
 mul-t c = search needs
@@ -35,7 +33,9 @@ passes-legs-requires c κs = c .before .before .before .pre .0 .0
 
 leg-passes-of-requires : tie.Need-leg-passes-of-requires Inv-loop μ-loop
 unfolding legPasses
-leg-passes-of-requires c κs = (fit-strategies _ _ _ (c .before .before .before .before .before .before .pre .0 .1) (c .before .before .before .before .before .loop .inv .1), room-of (in-yes _ _ _ (told (c .before .before .passes-legs .ensures) (c .before .if1 .taken))) (room-each (legPassesIn (c .before .before .before .before .before .before .args .s)) 16 _ _ (c .before .before .before .before .before .before .pre .1) (c .before .before .before .before .loop-test .taken) (c .before .before .before .before .before .loop .inv .1)))
+leg-passes-of-requires c κs = let l = c .before .before .before .before in
+    let p = l .before .before .pre in
+    (fit-strategies _ _ _ (p .0 .1) (l .before .loop .inv .done), visit-room (l .before .loop .inv) (l .loop-test .taken) (in-yes _ _ _ (told (c .before .before .passes-legs .ensures) (c .before .if1 .taken))) (p .1))
 
 add-k : tie.Need-add-k Inv-loop μ-loop
 add-k c = omega arith
@@ -44,14 +44,15 @@ loop-less : tie.Need-loop-less Inv-loop μ-loop
 loop-less c = omega arith
 
 loop-again : tie.Need-loop-again Inv-loop μ-loop
-loop-again c = (omega arith, ⊎-elim (λ w. rw (w .5, w .6, w .7) (each-next (legPassesIn (c .before .before .before .before .before .args .s)) _ _ (c .before .before .before .before .loop .inv .1) (done-of (in-yes _ _ _ (told (c .before .passes-legs .ensures) (w .0 .taken))) (w .2 .ensures)))) (λ w. rw (w .1, w .2, w .3) (each-next (legPassesIn (c .before .before .before .before .before .args .s)) _ _ (c .before .before .before .before .loop .inv .1) (done-of (in-not _ _ _ (told (c .before .passes-legs .ensures) (w .0 .left))) (done-still _ _ _)))) (c .if1 .came))
+loop-again c = let l = c .before .before .before in
+    ⊎-elim (λ w. rw (w .5, w .6, w .7) (visit-moves (l .before .loop .inv) (l .loop-test .taken) (in-yes _ _ _ (told (c .before .passes-legs .ensures) (w .0 .taken))) (w .2 .ensures))) (λ w. rw (w .1, w .2, w .3) (visit-stays (l .before .loop .inv) (l .loop-test .taken) (in-not _ _ _ (told (c .before .passes-legs .ensures) (w .0 .left))))) (c .if1 .came)
 
 same-length : tie.Need-same-length Inv-loop μ-loop
-same-length c = done-length (c .before .loop .inv .1)
+same-length c = done-length (c .before .loop .inv .done)
 
 returns : tie.Need-returns Inv-loop μ-loop
 unfolding legPasses
-returns c = let e : c .before .loop .k ≡ 16 = omega arith in rw e at (c .before .loop .inv .1)
+returns c = visit-all (c .before .loop .inv) (c .loop-test .left)
 
 pub leg-passes-spec : {M : Type 1} → statement M
 leg-passes-spec =
