@@ -16,6 +16,7 @@ use Rattle.rules.specs.declared.State.{State}
 use Rattle.rules.specs.declared.Answer.the-variants as A
 use Rattle.rules.specs.Refusals.{first, causes, readCauses, tableOf, refusal}
 use Rattle.rules.specs.Step.{Outcome, valueOf, accept, refused, perform, decide, step, answerOf, answerCount}
+use Rattle.rules.specs.Moves.{Moved}
 use Rattle.rules.specs.Fits.{FitReading, FitEvent}
 use Rattle.rules.specs.Valid.{Valid}
 use Rattle.rules.proofs.Validity.{decide-valid}
@@ -23,7 +24,7 @@ use Rattle.rules.proofs.Ranges.{reading-fit}
 use Rattle.rules.proofs.Refusals.{reads}
 use Rattle.rules.proofs.Room.{accept-few, six-sound}
 use Rattle.records.specs.Space.{Room, wrote-nil}
-use Rattle.records.specs.Done.{Done, done-length}
+use Rattle.records.specs.Done.{Done, done-of, done-length, room-of}
 use Rattle.book.specs.declared.Taken.{Taken}
 use Rattle.book.specs.Books.{Handed, Took, Stepped}
 use Rattle.book.specs.Small.{accept-small}
@@ -74,29 +75,31 @@ handed-refused b r s v {n} {x} e h g =
       same = refl;
     })
 
-module _ (b : State) (e : Event) (s : List ℤ) (v : Valid b) (h : 15_360 ≤ length s) {n : ℕ} (c : n ≡ first (causes b e)) where
+-- an event of the cause n, with what its function asks: a valid book, numbers that fit, and the space
+module _ (b : State) (e : Event) (s : List ℤ) {n : ℕ} (c : n ≡ first (causes b e)) (q : Valid b × FitEvent e × (15_360 ≤ length s)) where
   pub took-refused : (n ≡ 0 → ⊥) → {x : Taken} → x ≡ refuse b n → Took b e s s x
-  took-refused z g = handed-refused b (R.Event e) s v (c ∙ sym (refusal-event b e (length s) h)) z g
+  took-refused z g = handed-refused b (R.Event e) s (q .0) (c ∙ sym (refusal-event b e (length s) (q .2))) z g
 
-  pub took : n ≡ 0 → FitEvent e → {t : List ℤ} {m value : ℕ} {d : State} {x : Taken} → Done s t 0 m d (accept b e) → value ≡ valueOf b e → x ≡ admit d value m → Took b e s t x
+  -- room for its records, and what is handed back after its rule y
+  pub room-event : n ≡ 0 → {y : Moved} → accept b e ≡ y → Room s 0 (y .records)
+  room-event z a = room-of a (record { count = omega (arith, accept-few b e (six-sound b (q .0 .sound))); space = q .2; small = accept-small b e (q .0) (q .1) (sym c ∙ z) })
+
+  pub took : n ≡ 0 → {y : Moved} → accept b e ≡ y → {t : List ℤ} {m value : ℕ} {d : State} {x : Taken} → Done s t 0 m d y → value ≡ valueOf b e → x ≡ admit d value m → Took b e s t x
   unfolding decide perform admit answerCount
-  took z f {t} {m} {value} {d} {x} w i g =
-      let q : refusal b (R.Event e) (length s) ≡ 0 = refusal-event b e (length s) h ∙ (sym c ∙ z) in
-      let o : decide b (R.Event e) (length s) ≡ perform b (R.Event e) = pick-true _ _ _ (eq-eqb _ 0 q) in
-      let k : m ≡ length (accept b e .records) = w .wrote .count ∙ zero-add _ in
+  took z a {t} {m} {value} {d} {x} w i g =
+      let h = done-of a w in
+      let r : refusal b (R.Event e) (length s) ≡ 0 = refusal-event b e (length s) (q .2) ∙ (sym c ∙ z) in
+      let o : decide b (R.Event e) (length s) ≡ perform b (R.Event e) = pick-true _ _ _ (eq-eqb _ 0 r) in
+      let k : m ≡ length (accept b e .records) = h .wrote .count ∙ zero-add _ in
       rw g
       (record {
         answer = rw (o, i, k) (sym (performed-answer b e));
-        state = rw o (w .state);
-        space = rw o (w .wrote .space);
-        valid = rw (w .state) (subst (λ (y : Outcome). Valid (y .moved .state)) o (decide-valid b (R.Event e) (length s) v f));
-        few = omega (arith, k, accept-few b e (six-sound b (v .sound)));
-        same = done-length w;
+        state = rw o (h .state);
+        space = rw o (h .wrote .space);
+        valid = rw (h .state) (subst (λ (y : Outcome). Valid (y .moved .state)) o (decide-valid b (R.Event e) (length s) (q .0) (q .1)));
+        few = omega (arith, k, accept-few b e (six-sound b (q .0 .sound)));
+        same = done-length h;
       })
-
--- room for the records of an event
-pub room-event : (b : State) (e : Event) (s : List ℤ) → Valid b → FitEvent e → 15_360 ≤ length s → {n : ℕ} → n ≡ first (causes b e) → n ≡ 0 → Room s 0 (accept b e .records)
-room-event b e s v f h c z = record { count = omega (arith, accept-few b e (six-sound b (v .sound))); space = h; small = accept-small b e v f (sym c ∙ z) }
 
 -- the entry: a short space, a frame that carries no event, and one that does
 pub stepped-short : (b : State) (f : List ℕ) (s : List ℤ) → Valid b → length s < 15_360 → {x : Taken} → x ≡ refuse b 1 → Stepped b f s s x
@@ -109,13 +112,11 @@ stepped-refused b f s v h {n} e g =
     let k = reads f .number n (sym e) in
     rw (← e) (handed-refused b (R.Refused n) s v (sym (refusal-read b n (length s) h)) (λ z. omega (arith, k)) g)
 
-pub stepped : (b : State) (f : List ℕ) (s : List ℤ) {t : List ℤ} {e : Event} → R.Event e ≡ readOf f → {x : Taken} → Took b e s t x → Stepped b f s t x
-unfolding step
-stepped b f s e w = rw (← e) w
+-- an event e of the frame f, by the kind k that the code has found
+module _ (b : State) (f : List ℕ) (s : List ℤ) {e k : Event} (g : R.Event e ≡ readOf f) (h : e ≡ k) where
+  pub stepped : {t : List ℤ} {x : Taken} → Took b k s t x → Stepped b f s t x
+  unfolding step
+  stepped w = rw (← g, h) w
 
-pub event-fit : (f : List ℕ) {e : Event} → R.Event e ≡ readOf f → FitEvent e
-event-fit f g = subst FitReading (sym g) (reading-fit f)
-
--- an event by the kind that the code has found
-pub took-of : (b : State) (s : List ℤ) {e f : Event} {t : List ℤ} {x : Taken} → f ≡ e → Took b e s t x → Took b f s t x
-took-of b s g w = rw g w
+  pub event-asks : Valid b → 15_360 ≤ length s → Valid b × FitEvent k × (15_360 ≤ length s)
+  event-asks v l = (v, subst FitEvent h (subst FitReading (sym g) (reading-fit f)), l)

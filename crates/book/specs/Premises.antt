@@ -1,10 +1,13 @@
 -- What an event that nothing refuses brings to the functions that perform it.
 use mathlib.Core.Path.{_≡_, refl, sym, _∙_}
 use mathlib.Core.Bool.{true, false}
+use mathlib.Core.List.{List}
 use Prim.Native.Nat.{ℕ, _≤_, _<_}
 use native.Mathlib.Omega.{arith}
 use borrow.Author.Tests.{lt-ltb, le-ltb}
 use lib.Dec.{eqb}
+use lib.IntN.{ℤ}
+use lib.ListN.{length}
 use Rattle.base.specs.Pick.{pick, pick-true, tests}
 use Rattle.base.specs.Walks.{first-le}
 use Rattle.events.specs.declared.Event.the-variants as E
@@ -31,8 +34,13 @@ use Rattle.rules.specs.Valid.{FitEntry, FitOrder, Valid}
 use Rattle.rules.proofs.Entering.{enterOrder-room, live-pos}
 use Rattle.rules.proofs.Validity.{order-clear, sweep-clear, legOrder-clear}
 use Rattle.ranges.specs.Fit.{Fit, fit-sound}
+use Rattle.records.specs.Space.{Room}
+use Rattle.records.specs.Done.{Done}
 use Rattle.arrivals.specs.Arrivals.{MayEnter}
 use Rattle.arrivals.specs.Slots.{order-slot}
+use Rattle.book.specs.declared.Taken.{Taken}
+use Rattle.book.specs.Books.{Took}
+use Rattle.book.specs.Outcomes.{admit, took, room-event}
 
 -- a definition by what the code has found: ill-formed, held already, no slot left, or a new one
 pub strategy-ill : (b : State) (e : GivenStrategy) → illFormed e ≡ true → 5 ≡ first (causes b (E.Strategy e))
@@ -58,49 +66,33 @@ module _ (b : State) (e : GivenStrategy) {t : Strategy} {k : ℕ} (well : illFor
   unfolding causes first strategiesFull accept define
   strategy-new h f c = rw (well, missing h, c, g) (search tests, search tests)
 
--- an order enters
-pub order-premises : (b : State) (e : GivenOrder) → Valid b → FitOrderGiven e → {n : ℕ} {r : Entry} → n ≡ first (causes b (E.Order e)) → n ≡ 0 → r ≡ orderGiven b e → (freeSlot b < 32) × FitEntry r × Fit b
-order-premises b e v f c z g = let n = order-clear b e (v .sound) f (sym c ∙ z) in (order-slot b _ (v .sound) n, rw g (n .fit), fit-sound (v .sound))
-
--- a sweep enters, if it has units
-pub sweep-premises : (b : State) (e : GivenSweep) → Valid b → FitSweepGiven e → {n : ℕ} {r : Entry} → n ≡ first (causes b (E.Sweep e)) → n ≡ 0 → r ≡ sweepGiven b e → MayEnter r × Fit b
-unfolding sweepGiven
-sweep-premises b e v f c z g =
-    let x = sweep-clear b e f (sym c ∙ z) in
-    (rw g (record { fit = λ l. x .1 (live-pos (sweepGiven b e) l) .fit }), fit-sound (v .sound))
-
--- a leg order enters
-pub leg-premises : (b : State) (e : GivenLegOrder) → Valid b → FitLegOrderGiven e → {n : ℕ} {r : LegOrder} → n ≡ first (causes b (E.LegOrder e)) → n ≡ 0 → r ≡ legOrderGiven b e → (freeOrderSlot b < 32) × FitOrder r × Fit b
-unfolding freeOrderSlot
-leg-premises b e v f c z g = let n = legOrder-clear b e f (sym c ∙ z) in (enterOrder-room b _ (v .sound) n, rw g (n .fit), fit-sound (v .sound))
-
 -- what is accepted, by the rows that the code has made
 module _ (b : State) where
   pub strategy-value : (e : GivenStrategy) {t : Strategy} {k : ℕ} → t ≡ strategyGiven e → k ≡ numberOf b t → k ≡ valueOf b (E.Strategy e)
   unfolding valueOf
   strategy-value e g h = rw (h, g)
 
-  pub order-accepts : (e : GivenOrder) {r : Entry} → r ≡ orderGiven b e → accept b (E.Order e) ≡ onOrder r b
+  order-accepts : (e : GivenOrder) {r : Entry} → r ≡ orderGiven b e → accept b (E.Order e) ≡ onOrder r b
   unfolding accept
   order-accepts e g = rw g
 
-  pub order-value : (e : GivenOrder) {r : Entry} → r ≡ orderGiven b e → r .number ≡ valueOf b (E.Order e)
+  order-value : (e : GivenOrder) {r : Entry} → r ≡ orderGiven b e → r .number ≡ valueOf b (E.Order e)
   unfolding valueOf orderGiven
   order-value e g = rw g
 
-  pub sweep-accepts : (e : GivenSweep) {r : Entry} → r ≡ sweepGiven b e → accept b (E.Sweep e) ≡ onSweep r b
+  sweep-accepts : (e : GivenSweep) {r : Entry} → r ≡ sweepGiven b e → accept b (E.Sweep e) ≡ onSweep r b
   unfolding accept
   sweep-accepts e g = rw g
 
-  pub sweep-value : (e : GivenSweep) {r : Entry} {n : ℕ} → r ≡ sweepGiven b e → n ≡ pick (eqb (r .units) 0) 0 (r .number) → n ≡ valueOf b (E.Sweep e)
+  sweep-value : (e : GivenSweep) {r : Entry} {n : ℕ} → r ≡ sweepGiven b e → n ≡ pick (eqb (r .units) 0) 0 (r .number) → n ≡ valueOf b (E.Sweep e)
   unfolding valueOf sweepGiven
   sweep-value e g h = rw (h, g)
 
-  pub leg-accepts : (e : GivenLegOrder) {r : LegOrder} → r ≡ legOrderGiven b e → accept b (E.LegOrder e) ≡ onLegOrder r b
+  leg-accepts : (e : GivenLegOrder) {r : LegOrder} → r ≡ legOrderGiven b e → accept b (E.LegOrder e) ≡ onLegOrder r b
   unfolding accept
   leg-accepts e g = rw g
 
-  pub leg-value : (e : GivenLegOrder) {r : LegOrder} → r ≡ legOrderGiven b e → r .number ≡ valueOf b (E.LegOrder e)
+  leg-value : (e : GivenLegOrder) {r : LegOrder} → r ≡ legOrderGiven b e → r .number ≡ valueOf b (E.LegOrder e)
   unfolding valueOf legOrderGiven
   leg-value e g = rw g
 
@@ -149,3 +141,35 @@ day-end-none b e = refl
 pub number-most : (b : State) (t : Strategy) {k : ℕ} → k ≡ numberOf b t → b .defined ≤ 16 → k < 4294967296
 unfolding numberOf
 number-most b t g h = omega (arith, g, first-le (sameAt b t) (b .defined))
+
+-- an order that nothing refuses, as a row: its slot, the ranges and the room; and what is handed back after its rule
+module _ (b : State) (e : GivenOrder) (s : List ℤ) {n : ℕ} (c : n ≡ first (causes b (E.Order e))) (q : Valid b × FitOrderGiven e × (15_360 ≤ length s)) (z : n ≡ 0) {r : Entry} (g : r ≡ orderGiven b e) where
+  pub order-asks : ((freeSlot b < 32) × FitEntry r × Fit b) × Room s 0 (onOrder r b .records)
+  order-asks =
+      let k = order-clear b e (q .0 .sound) (q .1) (sym c ∙ z) in
+      ((order-slot b _ (q .0 .sound) k, rw g (k .fit), fit-sound (q .0 .sound)), room-event b (E.Order e) s c q z (order-accepts b e g))
+
+  pub order-took : {t : List ℤ} {m : ℕ} {d : State} {x : Taken} → Done s t 0 m d (onOrder r b) → x ≡ admit d (r .number) m → Took b (E.Order e) s t x
+  order-took w h = took b (E.Order e) s c q z (order-accepts b e g) w (order-value b e g) h
+
+-- the same of a sweep, which enters if it has units
+module _ (b : State) (e : GivenSweep) (s : List ℤ) {n : ℕ} (c : n ≡ first (causes b (E.Sweep e))) (q : Valid b × FitSweepGiven e × (15_360 ≤ length s)) (z : n ≡ 0) {r : Entry} (g : r ≡ sweepGiven b e) where
+  pub sweep-asks : (MayEnter r × Fit b) × Room s 0 (onSweep r b .records)
+  unfolding sweepGiven
+  sweep-asks =
+      let k = sweep-clear b e (q .1) (sym c ∙ z) in
+      ((rw g (record { fit = λ l. k .1 (live-pos (sweepGiven b e) l) .fit }), fit-sound (q .0 .sound)), room-event b (E.Sweep e) s c q z (sweep-accepts b e g))
+
+  pub sweep-took : {t : List ℤ} {m number : ℕ} {d : State} {x : Taken} → Done s t 0 m d (onSweep r b) → number ≡ pick (eqb (r .units) 0) 0 (r .number) → x ≡ admit d number m → Took b (E.Sweep e) s t x
+  sweep-took w i h = took b (E.Sweep e) s c q z (sweep-accepts b e g) w (sweep-value b e g i) h
+
+-- the same of a leg order
+module _ (b : State) (e : GivenLegOrder) (s : List ℤ) {n : ℕ} (c : n ≡ first (causes b (E.LegOrder e))) (q : Valid b × FitLegOrderGiven e × (15_360 ≤ length s)) (z : n ≡ 0) {r : LegOrder} (g : r ≡ legOrderGiven b e) where
+  pub leg-asks : ((freeOrderSlot b < 32) × FitOrder r × Fit b) × Room s 0 (onLegOrder r b .records)
+  unfolding freeOrderSlot
+  leg-asks =
+      let k = legOrder-clear b e (q .1) (sym c ∙ z) in
+      ((enterOrder-room b _ (q .0 .sound) k, rw g (k .fit), fit-sound (q .0 .sound)), room-event b (E.LegOrder e) s c q z (leg-accepts b e g))
+
+  pub leg-took : {t : List ℤ} {m : ℕ} {d : State} {x : Taken} → Done s t 0 m d (onLegOrder r b) → x ≡ admit d (r .number) m → Took b (E.LegOrder e) s t x
+  leg-took w h = took b (E.LegOrder e) s c q z (leg-accepts b e g) w (leg-value b e g) h

@@ -1,7 +1,5 @@
 use Rattle.book.specs.Premises.{cancel-accepts, cancel-value}
-use Rattle.book.specs.Outcomes.{took, room-event}
-use Rattle.records.specs.Done.{done-of, room-of}
-use Rattle.book.specs.Outcomes.{took-refused}
+use Rattle.book.specs.Outcomes.{took, took-refused, room-event}
 use borrow.Author.Needs.{needs}
 use Rattle.book.proofs.Book.cancel.Statement.{statement}
 use Rattle.book.proofs.Book.cancel.Tie as tie
@@ -19,12 +17,10 @@ refuse-requires : tie.Need-refuse-requires
 refuse-requires c κs = search needs
 
 returns : tie.Need-returns
-returns c = took-refused _ _ _ (c .before .before .before .before .pre .0) (c .before .before .before .before .pre .2) (c .before .before .cancel-refusal .ensures) (c .before .if1 .taken) (c .refuse .ensures)
+returns c = took-refused _ _ _ (c .before .before .cancel-refusal .ensures) (c .before .before .before .before .pre) (c .before .if1 .taken) (c .refuse .ensures)
 
 cancel-number-requires : tie.Need-cancel-number-requires
-cancel-number-requires c κs =
-    let p = c .before .before .before .before .pre in
-    room-of (cancel-accepts _ (c .before .before .before .before .args .e)) (room-event _ _ _ (p .0) (p .1) (p .2) (c .before .before .cancel-refusal .ensures) (c .before .if1 .left))
+cancel-number-requires c κs = room-event _ _ _ (c .before .before .cancel-refusal .ensures) (c .before .before .before .before .pre) (c .before .if1 .left) (cancel-accepts _ _)
 
 admit-requires : tie.Need-admit-requires
 admit-requires c κs = search needs
@@ -33,7 +29,8 @@ same-length : tie.Need-same-length
 same-length c = search needs
 
 returns-2 : tie.Need-returns-2
-returns-2 c = took _ _ _ (c .before .before .before .before .before .before .before .before .pre .0) (c .before .before .before .before .before .before .before .before .pre .2) (c .before .before .before .before .before .before .cancel-refusal .ensures) (c .before .before .before .before .before .if1 .left) (c .before .before .before .before .before .before .before .before .pre .1) (done-of (cancel-accepts _ _) (c .before .before .before .cancel-number .ensures)) (cancel-value _ _) (c .admit .ensures)
+returns-2 c = let k = c .before .before .before .before .before .before in
+    took _ _ _ (k .cancel-refusal .ensures) (k .before .before .pre) (c .before .before .before .before .before .if1 .left) (cancel-accepts _ _) (c .before .before .before .cancel-number .ensures) (cancel-value _ _) (c .admit .ensures)
 
 pub cancel-spec : {M : Type 1} → statement M
 cancel-spec =

@@ -1,8 +1,6 @@
 use Rattle.book.specs.Premises.{clock-accepts, clock-value}
-use Rattle.book.specs.Outcomes.{took, room-event}
-use Rattle.records.specs.Done.{done-of, room-of}
+use Rattle.book.specs.Outcomes.{took, took-refused, room-event}
 use Rattle.auctions.specs.Ranged.{ranged-sound}
-use Rattle.book.specs.Outcomes.{took-refused}
 use borrow.Author.Needs.{needs}
 use Rattle.book.proofs.Book.clock.Statement.{statement}
 use Rattle.book.proofs.Book.clock.Tie as tie
@@ -20,12 +18,11 @@ refuse-requires : tie.Need-refuse-requires
 refuse-requires c κs = search needs
 
 returns : tie.Need-returns
-returns c = took-refused _ _ _ (c .before .before .before .before .pre .0) (c .before .before .before .before .pre .2) (c .before .before .clock-refusal .ensures) (c .before .if1 .taken) (c .refuse .ensures)
+returns c = took-refused _ _ _ (c .before .before .clock-refusal .ensures) (c .before .before .before .before .pre) (c .before .if1 .taken) (c .refuse .ensures)
 
 on-clock-requires : tie.Need-on-clock-requires
-on-clock-requires c κs =
-    let p = c .before .before .before .before .pre in
-    ((p .1, ranged-sound (p .0 .sound)), room-of (clock-accepts _ _) (room-event _ _ _ (p .0) (p .1) (p .2) (c .before .before .clock-refusal .ensures) (c .before .if1 .left)))
+on-clock-requires c κs = let p = c .before .before .before .before .pre in
+    ((p .1, ranged-sound (p .0 .sound)), room-event _ _ _ (c .before .before .clock-refusal .ensures) p (c .before .if1 .left) (clock-accepts _ _))
 
 admit-requires : tie.Need-admit-requires
 admit-requires c κs = search needs
@@ -34,7 +31,8 @@ same-length : tie.Need-same-length
 same-length c = search needs
 
 returns-2 : tie.Need-returns-2
-returns-2 c = took _ _ _ (c .before .before .before .before .before .before .before .before .pre .0) (c .before .before .before .before .before .before .before .before .pre .2) (c .before .before .before .before .before .before .clock-refusal .ensures) (c .before .before .before .before .before .if1 .left) (c .before .before .before .before .before .before .before .before .pre .1) (done-of (clock-accepts _ _) (c .before .before .before .on-clock .ensures)) (clock-value _ _) (c .admit .ensures)
+returns-2 c = let k = c .before .before .before .before .before .before in
+    took _ _ _ (k .clock-refusal .ensures) (k .before .before .pre) (c .before .before .before .before .before .if1 .left) (clock-accepts _ _) (c .before .before .before .on-clock .ensures) (clock-value _ _) (c .admit .ensures)
 
 pub clock-spec : {M : Type 1} → statement M
 clock-spec =

@@ -1,6 +1,5 @@
 use Rattle.book.specs.Premises.{day-end-none, day-end-accepts, day-end-value}
 use Rattle.book.specs.Outcomes.{took, room-event}
-use Rattle.records.specs.Done.{done-of, room-of}
 use mathlib.Core.Path.{refl}
 use borrow.Author.Needs.{needs}
 use Rattle.book.proofs.Book.day_end.Statement.{statement}
@@ -11,9 +10,7 @@ use Rattle.book.proofs.admit.Reads as admit-reads
 use Rattle.closing.proofs.on_day_end.Reads as on-day-end-reads
 
 on-day-end-requires : tie.Need-on-day-end-requires
-on-day-end-requires c κs =
-    let p = c .before .before .pre in
-    (p .0, room-of (day-end-accepts _ _) (room-event _ _ _ (p .0) (p .1) (p .2) (day-end-none _ _) refl))
+on-day-end-requires c κs = let p = c .before .before .pre in (p .0, room-event _ _ _ (day-end-none _ _) p refl (day-end-accepts _ _))
 
 admit-requires : tie.Need-admit-requires
 admit-requires c κs = search needs
@@ -22,7 +19,7 @@ same-length : tie.Need-same-length
 same-length c = search needs
 
 returns : tie.Need-returns
-returns c = took _ _ _ (c .before .before .before .before .before .before .pre .0) (c .before .before .before .before .before .before .pre .2) (day-end-none _ _) refl (c .before .before .before .before .before .before .pre .1) (done-of (day-end-accepts _ _) (c .before .before .before .on-day-end .ensures)) (day-end-value _ _) (c .admit .ensures)
+returns c = took _ _ _ (day-end-none _ _) (c .before .before .before .before .before .before .pre) refl (day-end-accepts _ _) (c .before .before .before .on-day-end .ensures) (day-end-value _ _) (c .admit .ensures)
 
 pub day-end-spec : {M : Type 1} → statement M
 day-end-spec = tie.close (tie.spec on-day-end-requires admit-requires same-length returns)

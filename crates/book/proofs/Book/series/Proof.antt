@@ -1,6 +1,5 @@
 use Rattle.book.specs.Premises.{series-none, series-accepts, series-value}
 use Rattle.book.specs.Outcomes.{took, room-event}
-use Rattle.records.specs.Done.{done-of, room-of}
 use Rattle.ranges.specs.Fit.{fit-sound}
 use mathlib.Core.Path.{refl}
 use borrow.Author.Needs.{needs}
@@ -15,9 +14,7 @@ cast-on-series : tie.Need-cast-on-series
 cast-on-series c = search needs
 
 on-series-requires : tie.Need-on-series-requires
-on-series-requires c κs =
-    let p = c .before .before .before .pre in
-    ((p .1, fit-sound (p .0 .sound)), room-of (series-accepts _ _) (room-event _ _ _ (p .0) (p .1) (p .2) (series-none _ _) refl))
+on-series-requires c κs = let p = c .before .before .before .pre in ((p .1, fit-sound (p .0 .sound)), room-event _ _ _ (series-none _ _) p refl (series-accepts _ _))
 
 admit-requires : tie.Need-admit-requires
 admit-requires c κs = search needs
@@ -26,7 +23,7 @@ same-length : tie.Need-same-length
 same-length c = search needs
 
 returns : tie.Need-returns
-returns c = took _ _ _ (c .before .before .before .before .before .before .before .pre .0) (c .before .before .before .before .before .before .before .pre .2) (series-none _ _) refl (c .before .before .before .before .before .before .before .pre .1) (done-of (series-accepts _ _) (c .before .before .before .on-series .ensures)) (series-value _ _) (c .admit .ensures)
+returns c = took _ _ _ (series-none _ _) (c .before .before .before .before .before .before .before .pre) refl (series-accepts _ _) (c .before .before .before .on-series .ensures) (series-value _ _) (c .admit .ensures)
 
 pub series-spec : {M : Type 1} → statement M
 series-spec =

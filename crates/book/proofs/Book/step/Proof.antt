@@ -1,6 +1,12 @@
-use Rattle.book.specs.Outcomes.{stepped-short, stepped-refused, stepped, event-fit, took-of}
+use Rattle.book.specs.Outcomes.{stepped-short, stepped-refused, stepped, event-asks}
+use Rattle.events.specs.declared.Event.{Event}
+use Rattle.events.specs.declared.Reading.the-variants as R
+use Rattle.frames.specs.Frames.{readOf}
 use Rattle.rules.specs.Fits.{FitEvent}
-use mathlib.Core.Path.{sym, _∙_, subst}
+use Rattle.rules.specs.Valid.{Valid}
+use mathlib.Core.Path.{_≡_, sym, _∙_}
+use Prim.Native.Nat.{_≤_}
+use lib.ListN.{length}
 use borrow.Author.Needs.{needs}
 use Rattle.book.proofs.Book.step.Statement.{statement}
 use Rattle.book.proofs.Book.step.Tie as tie
@@ -16,6 +22,15 @@ use Rattle.book.proofs.Book.strategy.Reads as strategy-reads
 use Rattle.book.proofs.Book.sweep.Reads as sweep-reads
 use Rattle.book.proofs.refuse.Reads as refuse-reads
 use Rattle.frames.proofs.read.Reads as read-reads
+
+-- the event that the frame carries, and what the function of its kind asks
+carried : (k : tie.After-reading2) → R.Event (k .reading2 .given .0 .0) ≡ readOf (k .before .before .before .before .before .args .frame .now)
+carried k = sym (k .reading2 .given .1) ∙ k .before .before .read .ensures
+
+asked : (k : tie.After-reading2) {e : Event} → k .reading2 .given .0 .0 ≡ e → Valid (k .before .before .before .before .before .args .self .state) × FitEvent e × (15_360 ≤ length (k .before .before .before .before .before .args .space .now))
+asked k h =
+    let p = k .before .before .before .before .before in
+    event-asks (p .args .self .state) _ (p .args .space .now) (carried k) h (p .pre) (k .before .before .before .if1 .left)
 
 refuse-requires : tie.Need-refuse-requires
 refuse-requires c κs = search needs
@@ -39,49 +54,49 @@ enum-known-event : tie.Need-enum-known-event
 enum-known-event c = search needs
 
 strategy-requires : tie.Need-strategy-requires
-strategy-requires c κs = (c .before .before .before .before .before .before .before .before .before .before .pre, subst FitEvent (c .before .before .event .given .1) (event-fit _ (sym (c .before .before .before .before .before .reading2 .given .1) ∙ c .before .before .before .before .before .before .before .read .ensures)), c .before .before .before .before .before .before .before .before .if1 .left)
+strategy-requires c κs = asked (c .before .before .before .before .before) (c .before .before .event .given .1)
 
 enum-known-event-2 : tie.Need-enum-known-event-2
 enum-known-event-2 c = search needs
 
 order-requires : tie.Need-order-requires
-order-requires c κs = (c .before .before .before .before .before .before .before .before .before .before .pre, subst FitEvent (c .before .before .event2 .given .1) (event-fit _ (sym (c .before .before .before .before .before .reading2 .given .1) ∙ c .before .before .before .before .before .before .before .read .ensures)), c .before .before .before .before .before .before .before .before .if1 .left)
+order-requires c κs = asked (c .before .before .before .before .before) (c .before .before .event2 .given .1)
 
 enum-known-event-3 : tie.Need-enum-known-event-3
 enum-known-event-3 c = search needs
 
 sweep-requires : tie.Need-sweep-requires
-sweep-requires c κs = (c .before .before .before .before .before .before .before .before .before .before .pre, subst FitEvent (c .before .before .event3 .given .1) (event-fit _ (sym (c .before .before .before .before .before .reading2 .given .1) ∙ c .before .before .before .before .before .before .before .read .ensures)), c .before .before .before .before .before .before .before .before .if1 .left)
+sweep-requires c κs = asked (c .before .before .before .before .before) (c .before .before .event3 .given .1)
 
 enum-known-event-4 : tie.Need-enum-known-event-4
 enum-known-event-4 c = search needs
 
 leg-order-requires : tie.Need-leg-order-requires
-leg-order-requires c κs = (c .before .before .before .before .before .before .before .before .before .before .pre, subst FitEvent (c .before .before .event4 .given .1) (event-fit _ (sym (c .before .before .before .before .before .reading2 .given .1) ∙ c .before .before .before .before .before .before .before .read .ensures)), c .before .before .before .before .before .before .before .before .if1 .left)
+leg-order-requires c κs = asked (c .before .before .before .before .before) (c .before .before .event4 .given .1)
 
 enum-known-event-5 : tie.Need-enum-known-event-5
 enum-known-event-5 c = search needs
 
 cancel-requires : tie.Need-cancel-requires
-cancel-requires c κs = (c .before .before .before .before .before .before .before .before .before .before .pre, subst FitEvent (c .before .before .event5 .given .1) (event-fit _ (sym (c .before .before .before .before .before .reading2 .given .1) ∙ c .before .before .before .before .before .before .before .read .ensures)), c .before .before .before .before .before .before .before .before .if1 .left)
+cancel-requires c κs = asked (c .before .before .before .before .before) (c .before .before .event5 .given .1)
 
 enum-known-event-6 : tie.Need-enum-known-event-6
 enum-known-event-6 c = search needs
 
 series-requires : tie.Need-series-requires
-series-requires c κs = (c .before .before .before .before .before .before .before .before .before .before .pre, subst FitEvent (c .before .before .event6 .given .1) (event-fit _ (sym (c .before .before .before .before .before .reading2 .given .1) ∙ c .before .before .before .before .before .before .before .read .ensures)), c .before .before .before .before .before .before .before .before .if1 .left)
+series-requires c κs = asked (c .before .before .before .before .before) (c .before .before .event6 .given .1)
 
 enum-known-event-7 : tie.Need-enum-known-event-7
 enum-known-event-7 c = search needs
 
 clock-requires : tie.Need-clock-requires
-clock-requires c κs = (c .before .before .before .before .before .before .before .before .before .before .pre, subst FitEvent (c .before .before .event7 .given .1) (event-fit _ (sym (c .before .before .before .before .before .reading2 .given .1) ∙ c .before .before .before .before .before .before .before .read .ensures)), c .before .before .before .before .before .before .before .before .if1 .left)
+clock-requires c κs = asked (c .before .before .before .before .before) (c .before .before .event7 .given .1)
 
 enum-known-event-8 : tie.Need-enum-known-event-8
 enum-known-event-8 c = search needs
 
 day-end-requires : tie.Need-day-end-requires
-day-end-requires c κs = (c .before .before .before .before .before .before .before .before .before .before .pre, subst FitEvent (c .before .before .event8 .given .1) (event-fit _ (sym (c .before .before .before .before .before .reading2 .given .1) ∙ c .before .before .before .before .before .before .before .read .ensures)), c .before .before .before .before .before .before .before .before .if1 .left)
+day-end-requires c κs = asked (c .before .before .before .before .before) (c .before .before .event8 .given .1)
 
 returns-2 : tie.Need-returns-2
 returns-2 c = stepped-refused _ _ _ (c .before .before .before .before .before .before .before .before .pre) (c .before .before .before .before .before .before .if1 .left) (sym (c .before .before .before .reading .given .1) ∙ c .before .before .before .before .before .read .ensures) (c .refuse2 .ensures)
@@ -90,49 +105,49 @@ same-length : tie.Need-same-length
 same-length c = search needs
 
 returns-3 : tie.Need-returns-3
-returns-3 c = stepped _ _ _ (sym (c .before .before .before .before .before .before .before .reading2 .given .1) ∙ c .before .before .before .before .before .before .before .before .before .read .ensures) (took-of _ _ (c .before .before .before .before .event .given .1) (c .before .strategy .ensures))
+returns-3 c = stepped _ _ _ (carried (c .before .before .before .before .before .before .before)) (c .before .before .before .before .event .given .1) (c .before .strategy .ensures)
 
 same-length-2 : tie.Need-same-length-2
 same-length-2 c = search needs
 
 returns-4 : tie.Need-returns-4
-returns-4 c = stepped _ _ _ (sym (c .before .before .before .before .before .before .before .reading2 .given .1) ∙ c .before .before .before .before .before .before .before .before .before .read .ensures) (took-of _ _ (c .before .before .before .before .event2 .given .1) (c .before .order .ensures))
+returns-4 c = stepped _ _ _ (carried (c .before .before .before .before .before .before .before)) (c .before .before .before .before .event2 .given .1) (c .before .order .ensures)
 
 same-length-3 : tie.Need-same-length-3
 same-length-3 c = search needs
 
 returns-5 : tie.Need-returns-5
-returns-5 c = stepped _ _ _ (sym (c .before .before .before .before .before .before .before .reading2 .given .1) ∙ c .before .before .before .before .before .before .before .before .before .read .ensures) (took-of _ _ (c .before .before .before .before .event3 .given .1) (c .before .sweep .ensures))
+returns-5 c = stepped _ _ _ (carried (c .before .before .before .before .before .before .before)) (c .before .before .before .before .event3 .given .1) (c .before .sweep .ensures)
 
 same-length-4 : tie.Need-same-length-4
 same-length-4 c = search needs
 
 returns-6 : tie.Need-returns-6
-returns-6 c = stepped _ _ _ (sym (c .before .before .before .before .before .before .before .reading2 .given .1) ∙ c .before .before .before .before .before .before .before .before .before .read .ensures) (took-of _ _ (c .before .before .before .before .event4 .given .1) (c .before .leg-order .ensures))
+returns-6 c = stepped _ _ _ (carried (c .before .before .before .before .before .before .before)) (c .before .before .before .before .event4 .given .1) (c .before .leg-order .ensures)
 
 same-length-5 : tie.Need-same-length-5
 same-length-5 c = search needs
 
 returns-7 : tie.Need-returns-7
-returns-7 c = stepped _ _ _ (sym (c .before .before .before .before .before .before .before .reading2 .given .1) ∙ c .before .before .before .before .before .before .before .before .before .read .ensures) (took-of _ _ (c .before .before .before .before .event5 .given .1) (c .before .cancel .ensures))
+returns-7 c = stepped _ _ _ (carried (c .before .before .before .before .before .before .before)) (c .before .before .before .before .event5 .given .1) (c .before .cancel .ensures)
 
 same-length-6 : tie.Need-same-length-6
 same-length-6 c = search needs
 
 returns-8 : tie.Need-returns-8
-returns-8 c = stepped _ _ _ (sym (c .before .before .before .before .before .before .before .reading2 .given .1) ∙ c .before .before .before .before .before .before .before .before .before .read .ensures) (took-of _ _ (c .before .before .before .before .event6 .given .1) (c .before .series .ensures))
+returns-8 c = stepped _ _ _ (carried (c .before .before .before .before .before .before .before)) (c .before .before .before .before .event6 .given .1) (c .before .series .ensures)
 
 same-length-7 : tie.Need-same-length-7
 same-length-7 c = search needs
 
 returns-9 : tie.Need-returns-9
-returns-9 c = stepped _ _ _ (sym (c .before .before .before .before .before .before .before .reading2 .given .1) ∙ c .before .before .before .before .before .before .before .before .before .read .ensures) (took-of _ _ (c .before .before .before .before .event7 .given .1) (c .before .clock .ensures))
+returns-9 c = stepped _ _ _ (carried (c .before .before .before .before .before .before .before)) (c .before .before .before .before .event7 .given .1) (c .before .clock .ensures)
 
 same-length-8 : tie.Need-same-length-8
 same-length-8 c = search needs
 
 returns-10 : tie.Need-returns-10
-returns-10 c = stepped _ _ _ (sym (c .before .before .before .before .before .before .before .reading2 .given .1) ∙ c .before .before .before .before .before .before .before .before .before .read .ensures) (took-of _ _ (c .before .before .before .before .event8 .given .1) (c .before .day-end .ensures))
+returns-10 c = stepped _ _ _ (carried (c .before .before .before .before .before .before .before)) (c .before .before .before .before .event8 .given .1) (c .before .day-end .ensures)
 
 pub step-spec : {M : Type 1} → statement M
 step-spec =

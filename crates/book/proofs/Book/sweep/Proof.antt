@@ -1,6 +1,4 @@
-use Rattle.book.specs.Premises.{sweep-premises, sweep-accepts, sweep-value}
-use Rattle.book.specs.Outcomes.{took, room-event}
-use Rattle.records.specs.Done.{done-of, room-of}
+use Rattle.book.specs.Premises.{sweep-asks, sweep-took}
 use Rattle.book.specs.Outcomes.{took-refused}
 use borrow.Author.Needs.{needs}
 use Rattle.book.proofs.Book.sweep.Statement.{statement}
@@ -21,18 +19,13 @@ refuse-requires : tie.Need-refuse-requires
 refuse-requires c κs = search needs
 
 returns : tie.Need-returns
-returns c = took-refused _ _ _ (c .before .before .before .before .pre .0) (c .before .before .before .before .pre .2) (c .before .before .sweep-refusal .ensures) (c .before .if1 .taken) (c .refuse .ensures)
+returns c = took-refused _ _ _ (c .before .before .sweep-refusal .ensures) (c .before .before .before .before .pre) (c .before .if1 .taken) (c .refuse .ensures)
 
 sweep-given-requires : tie.Need-sweep-given-requires
 sweep-given-requires c κs = search needs
 
 on-sweep-requires : tie.Need-on-sweep-requires
-on-sweep-requires c κs =
-    let p = c .before .before .before .before .before .pre in
-    let r = c .before .before .before .sweep-refusal .ensures in
-    let z = c .before .before .if1 .left in
-    let g = c .before .sweep-given .ensures in
-    (sweep-premises _ _ (p .0) (p .1) r z g, room-of (sweep-accepts _ _ g) (room-event _ _ _ (p .0) (p .1) (p .2) r z))
+on-sweep-requires c κs = let k = c .before in sweep-asks _ _ _ (k .before .before .sweep-refusal .ensures) (k .before .before .before .before .pre) (k .before .if1 .left) (k .sweep-given .ensures)
 
 number-taken-requires : tie.Need-number-taken-requires
 number-taken-requires c κs = search needs
@@ -44,7 +37,7 @@ same-length : tie.Need-same-length
 same-length c = search needs
 
 returns-2 : tie.Need-returns-2
-returns-2 c = took _ _ _ (c .before .before .before .before .before .before .before .before .before .before .pre .0) (c .before .before .before .before .before .before .before .before .before .before .pre .2) (c .before .before .before .before .before .before .before .before .sweep-refusal .ensures) (c .before .before .before .before .before .before .before .if1 .left) (c .before .before .before .before .before .before .before .before .before .before .pre .1) (done-of (sweep-accepts _ _ (c .before .before .before .before .before .before .sweep-given .ensures)) (c .before .before .before .before .on-sweep .ensures)) (sweep-value _ _ (c .before .before .before .before .before .before .sweep-given .ensures) (c .before .number-taken .ensures)) (c .admit .ensures)
+returns-2 c = let k = c .before .before .before .before .before .before in sweep-took _ _ _ (k .before .before .sweep-refusal .ensures) (k .before .before .before .before .pre) (k .before .if1 .left) (k .sweep-given .ensures) (c .before .before .before .before .on-sweep .ensures) (c .before .number-taken .ensures) (c .admit .ensures)
 
 pub sweep-spec : {M : Type 1} → statement M
 sweep-spec =
