@@ -43,11 +43,11 @@ unfolding and-then
 room-after x f r d = rw (d .state) (room-next (x .records) (f (x .state) .records) r (d .wrote))
 
 -- the loop over the slots: none passed yet, and one more
-pub each-first : (sp : List ℤ) (n : ℕ) (f : ℕ → State → Moved) (b : State) → Done sp sp n n b (each f 0 b)
+each-first : (sp : List ℤ) (n : ℕ) (f : ℕ → State → Moved) (b : State) → Done sp sp n n b (each f 0 b)
 unfolding each
 each-first sp n f b = done-still sp n b
 
-pub each-next : (f : ℕ → State → Moved) (i : ℕ) (b₀ : State) {sp sq sr : List ℤ} {n m k : ℕ} {b c : State} → Done sp sq n m b (each f i b₀) → Done sq sr m k c (f i b) → Done sp sr n k c (each f (i + 1) b₀)
+each-next : (f : ℕ → State → Moved) (i : ℕ) (b₀ : State) {sp sq sr : List ℤ} {n m k : ℕ} {b c : State} → Done sp sq n m b (each f i b₀) → Done sq sr m k c (f i b) → Done sp sr n k c (each f (i + 1) b₀)
 unfolding each
 each-next f i b₀ d e = rw (add-one i) (done-then (each f i b₀) (f i) d e)
 
@@ -62,7 +62,7 @@ each-small f b zero i h a = absurd (omega arith)
 each-small f b (suc k) i h a = ⊎-elim (λ e. rw e (all-rest (each f k b .records) _ a)) (λ l. each-small f b k i l (all-first (each f k b .records) _ a)) (below h)
 
 -- room for all slots is room for the next one
-pub room-each : (f : ℕ → State → Moved) (k i : ℕ) (b₀ : State) {sp sq : List ℤ} {n m : ℕ} {b : State} → Room sp n (each f k b₀ .records) → i < k → Done sp sq n m b (each f i b₀) → Room sq m (f i b .records)
+room-each : (f : ℕ → State → Moved) (k i : ℕ) (b₀ : State) {sp sq : List ℤ} {n m : ℕ} {b : State} → Room sp n (each f k b₀ .records) → i < k → Done sp sq n m b (each f i b₀) → Room sq m (f i b .records)
 unfolding each and-then
 room-each f k i b₀ r h d =
     let q : k ≡ k - suc i + suc i = omega arith in

@@ -29,7 +29,7 @@ same-length : tie.Need-same-length Inv-loop μ-loop
 same-length c = done-length (c .before .before .before .loop .inv .done)
 
 returns : tie.Need-returns Inv-loop μ-loop
-returns c = 
+returns c =
     let k = c .before .before .before in
     lowest-stops _ _ (c .before .before .loop-test .taken) (k .loop .inv .done) (lowest-none (numbered-each cancelLowest lowest-shrinks _ _ (k .before .pre .0) (k .loop .inv .done)) (sym (c .before .lowest-live .ensures) ∙ c .if1 .taken))
 
