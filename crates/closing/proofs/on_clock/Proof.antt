@@ -1,6 +1,6 @@
 use Rattle.rules.proofs.Control.{endDue-kept}
 use Rattle.base.specs.Pick.{told}
-use Rattle.auctions.specs.Ranged.{ranged-kept}
+use Rattle.auctions.specs.Ranged.{Ranged, ranged-kept}
 use Rattle.closing.specs.Closing.{clock-is, ranged-clock, ranged-each, due-fits, due-yes, due-not}
 use Rattle.rules.specs.Auctions.{endDue}
 use mathlib.Core.Logic.{⊎-elim}
@@ -22,6 +22,12 @@ Inv-loop t space₀ n c₀ m₀ k₀ space c m k = Visited endDue 16 c₀ space�
 abbrev μ-loop : tie.MeasureT-loop
 μ-loop t space₀ n c₀ m₀ k₀ space c m k = 16 - k
 
+-- the ranges of the book in the loop
+ranges : (l : tie.At-loop Inv-loop μ-loop) → Ranged (l .loop .c)
+ranges l =
+    let p = l .before .before .pre .0 in
+    ranged-each endDue (endDue-kept ranged-kept) _ _ (ranged-clock _ _ (l .before .with-clock .ensures) (p .0) (p .1)) (l .loop .inv .done)
+
 with-clock-requires : tie.Need-with-clock-requires Inv-loop μ-loop
 with-clock-requires c κs = search needs
 
@@ -35,13 +41,12 @@ element-copy-out-s : tie.Need-element-copy-out-s Inv-loop μ-loop
 element-copy-out-s c = c .loop-test .taken
 
 due-requires : tie.Need-due-requires Inv-loop μ-loop
-due-requires c κs = let p = c .before .before .before in
-    due-fits _ _ (ranged-each endDue (endDue-kept ranged-kept) _ _ (ranged-clock _ _ (p .with-clock .ensures) (p .before .pre .0 .0) (p .before .pre .0 .1)) (c .before .before .loop .inv .done))
+due-requires c κs = due-fits _ _ (ranges (c .before .before))
 
 end-auction-requires : tie.Need-end-auction-requires Inv-loop μ-loop
 end-auction-requires c κs = let l = c .before .before .before .before in
     let p = l .before .before in
-    ((l .loop-test .taken, ranged-each endDue (endDue-kept ranged-kept) _ _ (ranged-clock _ _ (p .with-clock .ensures) (p .before .pre .0 .0) (p .before .pre .0 .1)) (l .before .loop .inv .done) .fit), visit-room (l .before .loop .inv) (l .loop-test .taken) (due-yes _ _ (told (c .before .before .due .ensures) (c .before .if1 .taken))) (room-of (clock-is _ _ (p .with-clock .ensures)) (p .before .pre .1)))
+    ((l .loop-test .taken, ranges (l .before) .fit), visit-room (l .before .loop .inv) (l .loop-test .taken) (due-yes _ _ (told (c .before .before .due .ensures) (c .before .if1 .taken))) (room-of (clock-is _ _ (p .with-clock .ensures)) (p .before .pre .1)))
 
 add-k : tie.Need-add-k Inv-loop μ-loop
 add-k c = omega arith

@@ -1,6 +1,6 @@
 use Rattle.fills.specs.Gives.{slots-shrink}
 use Rattle.fills.specs.Fills.{filled, whole-some}
-use Rattle.ranges.specs.Fit.{fit-done, fit-entry, fit-legs}
+use Rattle.ranges.specs.Fit.{Fit, fit-done, fit-entry, fit-legs}
 use Rattle.records.specs.Done.{Visited, visit-none, visit-moves, visit-stays, visit-room, visit-all, done-length}
 use Rattle.rules.specs.State.{withEntries}
 use Rattle.rules.specs.Fills.{cut}
@@ -22,6 +22,10 @@ Inv-loop a level space₀ n qs c₀ m₀ i₀ space c m i = Visited (giveAt a le
 
 abbrev μ-loop : tie.MeasureT-loop
 μ-loop a level space₀ n qs c₀ m₀ i₀ space c m i = 32 - i
+
+-- the ranges of the book in the loop
+fits : (l : tie.At-loop Inv-loop μ-loop) → Fit (l .loop .c)
+fits l = let s = l .before .args in fit-done (l .loop .inv .done) (slots-shrink (s .a) (s .level) (s .t4) (l .loop .i) _) (l .before .pre .0 .1)
 
 loop-holds : tie.Need-loop-holds Inv-loop μ-loop
 loop-holds c = visit-none _ _ _ _ _
@@ -51,17 +55,12 @@ mul-s : tie.Need-mul-s Inv-loop μ-loop
 mul-s c = search needs
 
 element-copy-out-s : tie.Need-element-copy-out-s Inv-loop μ-loop
-element-copy-out-s c = let l = c .before .before .before .before .before in
-    let s = l .before .args in
-    fit-entry (fit-done (l .loop .inv .done) (slots-shrink (s .a) (s .level) (s .t4) (l .loop .i) _) (l .before .pre .0 .1) .entries) (s .a) .strategy
+element-copy-out-s c = fit-entry (fits (c .before .before .before .before .before) .entries) (c .before .before .before .before .before .before .args .a) .strategy
 
 fill-records-requires : tie.Need-fill-records-requires Inv-loop μ-loop
 unfolding filled give
-fill-records-requires c κs = let p = c .before .before .before .before .before .before .before .before .pre in
-    let s = c .before .before .before .before .before .before .before .before .args in
-    let l = c .before .before .before .before .before .before .before .loop in
-    let fit = fit-done (l .inv .done) (slots-shrink (s .a) (s .level) (s .t4) (l .i) _) (p .0 .1) in
-    (fit-legs (fit .strategies) _ .count, visit-room (l .inv) (c .before .before .before .before .before .before .loop-test .taken) (whole-some _ _ _ _ _ (c .before .before .before .before .before .if1 .taken)) (p .1))
+fill-records-requires c κs = let l = c .before .before .before .before .before .before .before in
+    (fit-legs (fits l .strategies) _ .count, visit-room (l .loop .inv) (c .before .before .before .before .before .before .loop-test .taken) (whole-some _ _ _ _ _ (c .before .before .before .before .before .if1 .taken)) (l .before .pre .1))
 
 cut-entry-requires : tie.Need-cut-entry-requires Inv-loop μ-loop
 cut-entry-requires c κs = search needs

@@ -1,4 +1,4 @@
-use mathlib.Core.Path.{sym, ap, _∙_}
+use mathlib.Core.Path.{_≡_, sym, ap, _∙_}
 use Rattle.rules.specs.declared.Allocation.{Allocation}
 use Rattle.passes.specs.Passes.{oppositeIn}
 use borrow.Author.Needs.{needs}
@@ -7,6 +7,10 @@ use Rattle.passes.proofs.opposite.Tie as tie
 use Rattle.passes.proofs.opposite.Reads as reads
 use Rattle.passes.proofs.opposite.Lts as lts
 use Rattle.quotas.proofs.best_opposite.Reads as best-opposite-reads
+
+-- the rule by the way that is found
+by-way : (k : tie.Start) {w : Allocation} → k .args .way ≡ w → oppositeIn w (k .args .es) (k .args .e) ≡ oppositeIn (k .args .way) (k .args .es) (k .args .e)
+by-way k e = sym (ap (λ (w : Allocation). oppositeIn w (k .args .es) (k .args .e)) e)
 
 enum-told : tie.Need-enum-told
 enum-told c = search needs
@@ -25,15 +29,15 @@ best-opposite-requires-2 c κs = search needs
 
 returns : tie.Need-returns
 unfolding oppositeIn
-returns c = sym (ap (λ (w : Allocation). oppositeIn w (c .before .before .args .es) (c .before .before .args .e)) (c .enum-told .given .1))
+returns c = by-way (c .before .before) (c .enum-told .given .1)
 
 returns-2 : tie.Need-returns-2
 unfolding oppositeIn
-returns-2 c = c .best-opposite .ensures ∙ sym (ap (λ (w : Allocation). oppositeIn w (c .before .before .before .args .es) (c .before .before .before .args .e)) (c .before .enum-told2 .given .1))
+returns-2 c = c .best-opposite .ensures ∙ by-way (c .before .before .before) (c .before .enum-told2 .given .1)
 
 returns-3 : tie.Need-returns-3
 unfolding oppositeIn
-returns-3 c = c .best-opposite2 .ensures ∙ sym (ap (λ (w : Allocation). oppositeIn w (c .before .before .before .args .es) (c .before .before .before .args .e)) (c .before .enum-told3 .given .1))
+returns-3 c = c .best-opposite2 .ensures ∙ by-way (c .before .before .before) (c .before .enum-told3 .given .1)
 
 pub opposite-spec : {M : Type 1} → statement M
 opposite-spec =

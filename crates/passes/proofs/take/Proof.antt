@@ -1,7 +1,7 @@
 use Rattle.rules.specs.Passes.{take}
 use Rattle.rules.specs.declared.Turn.{Turn}
 use Rattle.records.specs.Done.{done-still, done-of, room-of}
-use mathlib.Core.Path.{ap}
+use mathlib.Core.Path.{_≡_, ap}
 use borrow.Author.Needs.{needs}
 use Rattle.passes.proofs.take.Statement.{statement}
 use Rattle.passes.proofs.take.Tie as tie
@@ -9,6 +9,10 @@ use Rattle.passes.proofs.take.Reads as reads
 use Rattle.passes.proofs.take.Lts as lts
 use Rattle.legging.proofs.leg_fill.Reads as leg-fill-reads
 use Rattle.passes.proofs.meet_limit.Reads as meet-limit-reads
+
+-- the rule by the turn that is found
+by-turn : (k : tie.Start) {t : Turn} → k .args .t ≡ t → take (k .args .way) (k .args .a) (k .args .t) (k .args .b) ≡ take (k .args .way) (k .args .a) t (k .args .b)
+by-turn k e = ap (λ (t : Turn). take (k .args .way) (k .args .a) t (k .args .b)) e
 
 enum-told : tie.Need-enum-told
 enum-told c = search needs
@@ -18,32 +22,32 @@ enum-told-2 c = search needs
 
 leg-fill-requires : tie.Need-leg-fill-requires
 unfolding take
-leg-fill-requires c κs = (c .before .before .before .pre .0, room-of (ap (λ (t : Turn). take (c .before .before .before .args .way) (c .before .before .before .args .a) t (c .before .before .before .args .b)) (c .before .enum-told2 .given .1)) (c .before .before .before .pre .1))
+leg-fill-requires c κs = let k = c .before .before .before in (k .pre .0, room-of (by-turn k (c .before .enum-told2 .given .1)) (k .pre .1))
 
 enum-known-t : tie.Need-enum-known-t
 enum-known-t c = search needs
 
 meet-limit-requires : tie.Need-meet-limit-requires
 unfolding take
-meet-limit-requires c κs = (c .before .before .before .before .pre .0, room-of (ap (λ (t : Turn). take (c .before .before .before .before .args .way) (c .before .before .before .before .args .a) t (c .before .before .before .before .args .b)) (c .before .before .t .given .1)) (c .before .before .before .before .pre .1))
+meet-limit-requires c κs = let k = c .before .before .before .before in (k .pre .0, room-of (by-turn k (c .before .before .t .given .1)) (k .pre .1))
 
 returns : tie.Need-returns
 unfolding take
-returns c = done-of (ap (λ (t : Turn). take (c .before .before .args .way) (c .before .before .args .a) t (c .before .before .args .b)) (c .enum-told .given .1)) (done-still _ _ _)
+returns c = done-of (by-turn (c .before .before) (c .enum-told .given .1)) (done-still _ _ _)
 
 same-length : tie.Need-same-length
 same-length c = search needs
 
 returns-2 : tie.Need-returns-2
 unfolding take
-returns-2 c = done-of (ap (λ (t : Turn). take (c .before .before .before .before .before .args .way) (c .before .before .before .before .before .args .a) t (c .before .before .before .before .before .args .b)) (c .before .before .before .enum-told2 .given .1)) (c .before .leg-fill .ensures)
+returns-2 c = done-of (by-turn (c .before .before .before .before .before) (c .before .before .before .enum-told2 .given .1)) (c .before .leg-fill .ensures)
 
 same-length-2 : tie.Need-same-length-2
 same-length-2 c = search needs
 
 returns-3 : tie.Need-returns-3
 unfolding take
-returns-3 c = done-of (ap (λ (t : Turn). take (c .before .before .before .before .before .before .args .way) (c .before .before .before .before .before .before .args .a) t (c .before .before .before .before .before .before .args .b)) (c .before .before .before .before .t .given .1)) (c .before .meet-limit .ensures)
+returns-3 c = done-of (by-turn (c .before .before .before .before .before .before) (c .before .before .before .before .t .given .1)) (c .before .meet-limit .ensures)
 
 pub take-spec : {M : Type 1} → statement M
 take-spec =
