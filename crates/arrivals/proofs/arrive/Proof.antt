@@ -8,15 +8,6 @@ use mathlib.Core.Path.{_≡_}
 use borrow.Author.Needs.{needs}
 use Rattle.arrivals.proofs.arrive.Statement.{statement}
 use Rattle.arrivals.proofs.arrive.Tie as tie
-use Rattle.arrivals.proofs.arrive.Reads as reads
-use Rattle.arrivals.proofs.arrive.Lts as lts
-use Rattle.arrivals.proofs.rest_or_cancel.Reads as rest-or-cancel-reads
-use Rattle.arrivals.proofs.starts.Reads as starts-reads
-use Rattle.arrivals.proofs.trades.Reads as trades-reads
-use Rattle.arrivals.proofs.waits.Reads as waits-reads
-use Rattle.auctions.proofs.begin.Reads as begin-reads
-use Rattle.endings.proofs.running.Reads as running-reads
-use Rattle.matching.proofs.all_open.Reads as all-open-reads
 
 -- the rule by the tests that the code has made: an auction runs, one starts, neither, or a series is shut
 waiting : (k : tie.Then2) → let p = k .before .before .before .before .before .before .args in arrive (p .i) (p .t1) ≡ waits (p .i) (p .t1)

@@ -4,9 +4,6 @@ use Rattle.records.specs.Done.{done-still, done-of}
 use borrow.Author.Needs.{needs}
 use Rattle.arrivals.proofs.cancel_at.Statement.{statement}
 use Rattle.arrivals.proofs.cancel_at.Tie as tie
-use Rattle.arrivals.proofs.cancel_at.Reads as reads
-use Rattle.arrivals.proofs.cancel_at.Lts as lts
-use Rattle.fills.proofs.cancel_entry.Reads as cancel-entry-reads
 
 cancel-entry-requires : tie.Need-cancel-entry-requires
 cancel-entry-requires c κs = search needs

@@ -3,11 +3,6 @@ use Rattle.base.specs.Pick.{told}
 use borrow.Author.Needs.{needs}
 use Rattle.arrivals.proofs.enter_sweep.Statement.{statement}
 use Rattle.arrivals.proofs.enter_sweep.Tie as tie
-use Rattle.arrivals.proofs.enter_sweep.Reads as reads
-use Rattle.arrivals.proofs.enter_sweep.Lts as lts
-use Rattle.auctions.proofs.answer.Reads as answer-reads
-use Rattle.entries.proofs.enter.Reads as enter-reads
-use Rattle.entries.proofs.live.Reads as live-reads
 
 live-requires : tie.Need-live-requires
 live-requires c κs = search needs

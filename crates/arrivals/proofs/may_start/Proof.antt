@@ -4,9 +4,6 @@ use Rattle.base.specs.Pick.{pick-true, pick-false, told}
 use borrow.Author.Needs.{needs}
 use Rattle.arrivals.proofs.may_start.Statement.{statement}
 use Rattle.arrivals.proofs.may_start.Tie as tie
-use Rattle.arrivals.proofs.may_start.Reads as reads
-use Rattle.arrivals.proofs.may_start.Lts as lts
-use Rattle.arrivals.proofs.is_either.Reads as is-either-reads
 
 is-either-requires : tie.Need-is-either-requires
 is-either-requires c κs = search needs

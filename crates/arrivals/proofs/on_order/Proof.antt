@@ -4,10 +4,6 @@ use Rattle.records.specs.Done.{done-of, room-of}
 use borrow.Author.Needs.{needs}
 use Rattle.arrivals.proofs.on_order.Statement.{statement}
 use Rattle.arrivals.proofs.on_order.Tie as tie
-use Rattle.arrivals.proofs.on_order.Reads as reads
-use Rattle.arrivals.proofs.on_order.Lts as lts
-use Rattle.arrivals.proofs.arrive.Reads as arrive-reads
-use Rattle.entries.proofs.enter.Reads as enter-reads
 
 enter-requires : tie.Need-enter-requires
 enter-requires c κs = search needs

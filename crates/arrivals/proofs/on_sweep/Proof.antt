@@ -5,11 +5,6 @@ use Rattle.records.specs.Done.{done-still, done-of, done-then, room-of, room-th
 use borrow.Author.Needs.{needs}
 use Rattle.arrivals.proofs.on_sweep.Statement.{statement}
 use Rattle.arrivals.proofs.on_sweep.Tie as tie
-use Rattle.arrivals.proofs.on_sweep.Reads as reads
-use Rattle.arrivals.proofs.on_sweep.Lts as lts
-use Rattle.arrivals.proofs.cancel_at.Reads as cancel-at-reads
-use Rattle.arrivals.proofs.enter_sweep.Reads as enter-sweep-reads
-use Rattle.entries.proofs.old_sweep.Reads as old-sweep-reads
 
 old-sweep-requires : tie.Need-old-sweep-requires
 old-sweep-requires c κs = search needs

@@ -3,9 +3,6 @@ use Rattle.records.specs.Done.{done-still, done-of, room-of}
 use borrow.Author.Needs.{needs}
 use Rattle.arrivals.proofs.rest_or_cancel.Statement.{statement}
 use Rattle.arrivals.proofs.rest_or_cancel.Tie as tie
-use Rattle.arrivals.proofs.rest_or_cancel.Reads as reads
-use Rattle.arrivals.proofs.rest_or_cancel.Lts as lts
-use Rattle.fills.proofs.cancel_entry.Reads as cancel-entry-reads
 
 mul-e : tie.Need-mul-e
 mul-e c = search needs

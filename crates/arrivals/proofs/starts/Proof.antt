@@ -3,12 +3,6 @@ use Rattle.base.specs.Pick.{told}
 use borrow.Author.Needs.{needs}
 use Rattle.arrivals.proofs.starts.Statement.{statement}
 use Rattle.arrivals.proofs.starts.Tie as tie
-use Rattle.arrivals.proofs.starts.Reads as reads
-use Rattle.arrivals.proofs.starts.Lts as lts
-use Rattle.arrivals.proofs.may_start.Reads as may-start-reads
-use Rattle.nets.proofs.leg_net.Reads as leg-net-reads
-use Rattle.sides.proofs.better.Reads as better-reads
-use Rattle.sides.proofs.other.Reads as other-reads
 
 may-start-requires : tie.Need-may-start-requires
 may-start-requires c κs = search needs

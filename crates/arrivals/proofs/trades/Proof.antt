@@ -3,10 +3,6 @@ use Rattle.records.specs.Done.{done-then, room-then, room-after}
 use borrow.Author.Needs.{needs}
 use Rattle.arrivals.proofs.trades.Statement.{statement}
 use Rattle.arrivals.proofs.trades.Tie as tie
-use Rattle.arrivals.proofs.trades.Reads as reads
-use Rattle.arrivals.proofs.trades.Lts as lts
-use Rattle.arrivals.proofs.rest_or_cancel.Reads as rest-or-cancel-reads
-use Rattle.passes.proofs.pass.Reads as pass-reads
 
 pass-requires : tie.Need-pass-requires
 unfolding trades

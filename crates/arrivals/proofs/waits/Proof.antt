@@ -4,10 +4,6 @@ use Rattle.records.specs.Done.{done-still, done-of, room-of}
 use borrow.Author.Needs.{needs}
 use Rattle.arrivals.proofs.waits.Statement.{statement}
 use Rattle.arrivals.proofs.waits.Tie as tie
-use Rattle.arrivals.proofs.waits.Reads as reads
-use Rattle.arrivals.proofs.waits.Lts as lts
-use Rattle.auctions.proofs.answer.Reads as answer-reads
-use Rattle.fills.proofs.cancel_entry.Reads as cancel-entry-reads
 
 mul-e : tie.Need-mul-e
 mul-e c = search needs

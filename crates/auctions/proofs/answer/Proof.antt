@@ -3,12 +3,6 @@ use mathlib.Core.Path.{_∙_}
 use borrow.Author.Needs.{needs}
 use Rattle.auctions.proofs.answer.Statement.{statement}
 use Rattle.auctions.proofs.answer.Tie as tie
-use Rattle.auctions.proofs.answer.Reads as reads
-use Rattle.auctions.proofs.answer.Lts as lts
-use Rattle.auctions.proofs.put_auction.Reads as put-auction-reads
-use Rattle.auctions.proofs.side_at.Reads as side-at-reads
-use Rattle.auctions.proofs.starter_slot.Reads as starter-slot-reads
-use Rattle.sides.proofs.other.Reads as other-reads
 
 starter-slot-requires : tie.Need-starter-slot-requires
 starter-slot-requires c κs = search needs

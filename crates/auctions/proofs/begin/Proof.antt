@@ -3,11 +3,6 @@ use Rattle.rules.specs.Auctions.{begin}
 use borrow.Author.Needs.{needs}
 use Rattle.auctions.proofs.begin.Statement.{statement}
 use Rattle.auctions.proofs.begin.Tie as tie
-use Rattle.auctions.proofs.begin.Reads as reads
-use Rattle.auctions.proofs.begin.Lts as lts
-use Rattle.auctions.proofs.begun_record.Reads as begun-record-reads
-use Rattle.auctions.proofs.put_auction.Reads as put-auction-reads
-use Rattle.records.proofs.push.Reads as push-reads
 
 mul-e : tie.Need-mul-e
 mul-e c = search needs

@@ -8,10 +8,6 @@ use borrow.Author.Needs.{needs}
 use native.Mathlib.Omega.{arith}
 use Rattle.auctions.proofs.cancel_lapses.Statement.{statement}
 use Rattle.auctions.proofs.cancel_lapses.Tie as tie
-use Rattle.auctions.proofs.cancel_lapses.Reads as reads
-use Rattle.auctions.proofs.cancel_lapses.Lts as lts
-use Rattle.auctions.proofs.lapses.Reads as lapses-reads
-use Rattle.fills.proofs.cancel_entry.Reads as cancel-entry-reads
 
 abbrev Inv-loop : tie.InvT-loop
 Inv-loop k space₀ n c₀ m₀ i₀ space c m i = Visited (cancelLapsed k) 32 c₀ space₀ space n m c i

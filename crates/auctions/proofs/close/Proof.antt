@@ -2,11 +2,6 @@ use Rattle.rules.specs.Auctions.{close}
 use borrow.Author.Needs.{needs}
 use Rattle.auctions.proofs.close.Statement.{statement}
 use Rattle.auctions.proofs.close.Tie as tie
-use Rattle.auctions.proofs.close.Reads as reads
-use Rattle.auctions.proofs.close.Lts as lts
-use Rattle.auctions.proofs.ended_record.Reads as ended-record-reads
-use Rattle.auctions.proofs.put_auction.Reads as put-auction-reads
-use Rattle.records.proofs.push.Reads as push-reads
 
 mul-s : tie.Need-mul-s
 mul-s c = search needs

@@ -3,8 +3,6 @@ use Rattle.rules.specs.Auctions.{endUnfilled}
 use borrow.Author.Needs.{needs}
 use Rattle.auctions.proofs.end_unfilled.Statement.{statement}
 use Rattle.auctions.proofs.end_unfilled.Tie as tie
-use Rattle.auctions.proofs.end_unfilled.Reads as reads
-use Rattle.auctions.proofs.end_unfilled.Lts as lts
 
 cancel-lapses-requires : tie.Need-cancel-lapses-requires
 unfolding endUnfilled

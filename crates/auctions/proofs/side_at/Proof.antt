@@ -2,8 +2,6 @@ use Rattle.auctions.specs.Auctions.{side-past}
 use borrow.Author.Needs.{needs}
 use Rattle.auctions.proofs.side_at.Statement.{statement}
 use Rattle.auctions.proofs.side_at.Tie as tie
-use Rattle.auctions.proofs.side_at.Reads as reads
-use Rattle.auctions.proofs.side_at.Lts as lts
 
 mul-e : tie.Need-mul-e
 mul-e c = search needs

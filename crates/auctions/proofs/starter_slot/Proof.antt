@@ -6,9 +6,6 @@ use borrow.Author.Needs.{needs}
 use native.Mathlib.Omega.{arith}
 use Rattle.auctions.proofs.starter_slot.Statement.{statement}
 use Rattle.auctions.proofs.starter_slot.Tie as tie
-use Rattle.auctions.proofs.starter_slot.Reads as reads
-use Rattle.auctions.proofs.starter_slot.Lts as lts
-use Rattle.auctions.proofs.is_number.Reads as is-number-reads
 
 abbrev Inv-loop : tie.InvT-loop
 Inv-loop k b n i₀ i = (i ≤ 32) × Passed (isNumber b k n) i

@@ -2,8 +2,6 @@ use mathlib.Core.Path.{refl}
 use Rattle.book.specs.Outcomes.{admit}
 use Rattle.book.proofs.admit.Statement.{statement}
 use Rattle.book.proofs.admit.Tie as tie
-use Rattle.book.proofs.admit.Reads as reads
-use Rattle.book.proofs.admit.Lts as lts
 
 returns : tie.Need-returns
 unfolding admit

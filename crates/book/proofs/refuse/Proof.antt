@@ -2,8 +2,6 @@ use mathlib.Core.Path.{refl}
 use Rattle.book.specs.Outcomes.{refuse}
 use Rattle.book.proofs.refuse.Statement.{statement}
 use Rattle.book.proofs.refuse.Tie as tie
-use Rattle.book.proofs.refuse.Reads as reads
-use Rattle.book.proofs.refuse.Lts as lts
 
 returns : tie.Need-returns
 unfolding refuse

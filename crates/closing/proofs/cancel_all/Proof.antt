@@ -8,10 +8,6 @@ use borrow.Author.Needs.{needs}
 use native.Mathlib.Omega.{arith}
 use Rattle.closing.proofs.cancel_all.Statement.{statement}
 use Rattle.closing.proofs.cancel_all.Tie as tie
-use Rattle.closing.proofs.cancel_all.Reads as reads
-use Rattle.closing.proofs.cancel_all.Lts as lts
-use Rattle.closing.proofs.cancel_number.Reads as cancel-number-reads
-use Rattle.closing.proofs.lowest_live.Reads as lowest-live-reads
 
 abbrev Inv-loop : tie.InvT-loop
 Inv-loop space₀ n c₀ m₀ i₀ space c m i = Visited cancelLowest 64 c₀ space₀ space n m c i

@@ -8,10 +8,6 @@ use Prim.Native.Nat.{_-_}
 use Rattle.base.specs.Pick.{told}
 use Rattle.closing.proofs.cancel_entries.Statement.{statement}
 use Rattle.closing.proofs.cancel_entries.Tie as tie
-use Rattle.closing.proofs.cancel_entries.Reads as reads
-use Rattle.closing.proofs.cancel_entries.Lts as lts
-use Rattle.closing.proofs.has_live.Reads as has-live-reads
-use Rattle.fills.proofs.cancel_entry.Reads as cancel-entry-reads
 
 abbrev Inv-loop : tie.InvT-loop
 Inv-loop number space₀ n c₀ m₀ i₀ space c m i = Visited (cancelEntryOf number) 32 c₀ space₀ space n m c i

@@ -3,8 +3,6 @@ use Rattle.rules.specs.Events.{cancelNumber}
 use borrow.Author.Needs.{needs}
 use Rattle.closing.proofs.cancel_number.Statement.{statement}
 use Rattle.closing.proofs.cancel_number.Tie as tie
-use Rattle.closing.proofs.cancel_number.Reads as reads
-use Rattle.closing.proofs.cancel_number.Lts as lts
 
 cancel-entries-requires : tie.Need-cancel-entries-requires
 unfolding cancelNumber

@@ -8,10 +8,6 @@ use Prim.Native.Nat.{_-_}
 use Rattle.base.specs.Pick.{told}
 use Rattle.closing.proofs.cancel_orders.Statement.{statement}
 use Rattle.closing.proofs.cancel_orders.Tie as tie
-use Rattle.closing.proofs.cancel_orders.Reads as reads
-use Rattle.closing.proofs.cancel_orders.Lts as lts
-use Rattle.closing.proofs.has_live.Reads as has-live-reads
-use Rattle.trades.proofs.cancel_order.Reads as cancel-order-reads
 
 abbrev Inv-loop : tie.InvT-loop
 Inv-loop number space₀ n c₀ m₀ i₀ space c m i = Visited (cancelOrderOf number) 32 c₀ space₀ space n m c i

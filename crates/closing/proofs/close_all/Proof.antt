@@ -7,9 +7,6 @@ use native.Mathlib.Omega.{arith}
 use borrow.Author.Needs.{needs}
 use Rattle.closing.proofs.close_all.Statement.{statement}
 use Rattle.closing.proofs.close_all.Tie as tie
-use Rattle.closing.proofs.close_all.Reads as reads
-use Rattle.closing.proofs.close_all.Lts as lts
-use Rattle.auctions.proofs.close.Reads as close-reads
 
 abbrev Inv-loop : tie.InvT-loop
 Inv-loop space₀ n c₀ m₀ k₀ space c m k = Visited closeRunning 16 c₀ space₀ space n m c k

@@ -2,9 +2,6 @@ use borrow.Author.Needs.{needs}
 use Rattle.rules.specs.State.{fresh}
 use Rattle.closing.proofs.fresh.Statement.{statement}
 use Rattle.closing.proofs.fresh.Tie as tie
-use Rattle.closing.proofs.fresh.Reads as reads
-use Rattle.closing.proofs.fresh.Lts as lts
-use Rattle.closing.proofs.free_strategy.Reads as free-strategy-reads
 
 free-strategy-requires : tie.Need-free-strategy-requires
 free-strategy-requires c κs = search needs

@@ -3,9 +3,6 @@ use Rattle.records.specs.Done.{done-still, done-of, room-of}
 use borrow.Author.Needs.{needs}
 use Rattle.closing.proofs.if_rests.Statement.{statement}
 use Rattle.closing.proofs.if_rests.Tie as tie
-use Rattle.closing.proofs.if_rests.Reads as reads
-use Rattle.closing.proofs.if_rests.Lts as lts
-use Rattle.matching.proofs.leg_passes.Reads as leg-passes-reads
 
 mul-o : tie.Need-mul-o
 mul-o c = search needs

@@ -6,9 +6,6 @@ use borrow.Author.Needs.{needs}
 use native.Mathlib.Omega.{arith}
 use Rattle.closing.proofs.lowest_live.Statement.{statement}
 use Rattle.closing.proofs.lowest_live.Tie as tie
-use Rattle.closing.proofs.lowest_live.Reads as reads
-use Rattle.closing.proofs.lowest_live.Lts as lts
-use Rattle.closing.proofs.lower_live.Reads as lower-live-reads
 
 abbrev Inv-loop : tie.InvT-loop
 Inv-loop b n₀ i₀ n i = (i ≤ 32) × (n ≡ walk (lowerBoth b) 0 i)

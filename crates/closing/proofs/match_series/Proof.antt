@@ -10,10 +10,6 @@ use native.Mathlib.Omega.{arith}
 use borrow.Author.Needs.{needs}
 use Rattle.closing.proofs.match_series.Statement.{statement}
 use Rattle.closing.proofs.match_series.Tie as tie
-use Rattle.closing.proofs.match_series.Reads as reads
-use Rattle.closing.proofs.match_series.Lts as lts
-use Rattle.closing.proofs.matches.Reads as matches-reads
-use Rattle.matching.proofs.match_in.Reads as match-in-reads
 
 abbrev Inv-loop : tie.InvT-loop
 Inv-loop s space₀ n c₀ m₀ k₀ space c m k = Visited (matchIn s) 16 c₀ space₀ space n m c k

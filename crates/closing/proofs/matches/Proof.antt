@@ -4,9 +4,6 @@ use Rattle.closing.specs.Closing.{held-not, held-yes}
 use borrow.Author.Needs.{needs}
 use Rattle.closing.proofs.matches.Statement.{statement}
 use Rattle.closing.proofs.matches.Tie as tie
-use Rattle.closing.proofs.matches.Reads as reads
-use Rattle.closing.proofs.matches.Lts as lts
-use Rattle.strategies.proofs.has.Reads as has-reads
 
 has-requires : tie.Need-has-requires
 has-requires c κs = search needs

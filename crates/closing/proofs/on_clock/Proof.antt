@@ -10,11 +10,6 @@ use native.Mathlib.Omega.{arith}
 use borrow.Author.Needs.{needs}
 use Rattle.closing.proofs.on_clock.Statement.{statement}
 use Rattle.closing.proofs.on_clock.Tie as tie
-use Rattle.closing.proofs.on_clock.Reads as reads
-use Rattle.closing.proofs.on_clock.Lts as lts
-use Rattle.closing.proofs.due.Reads as due-reads
-use Rattle.closing.proofs.with_clock.Reads as with-clock-reads
-use Rattle.endings.proofs.end_auction.Reads as end-auction-reads
 
 abbrev Inv-loop : tie.InvT-loop
 Inv-loop t space₀ n c₀ m₀ k₀ space c m k = Visited endDue 16 c₀ space₀ space n m c k

@@ -5,11 +5,6 @@ use Rattle.records.specs.Done.{room-then, room-after}
 use borrow.Author.Needs.{needs}
 use Rattle.closing.proofs.on_day_end.Statement.{statement}
 use Rattle.closing.proofs.on_day_end.Tie as tie
-use Rattle.closing.proofs.on_day_end.Reads as reads
-use Rattle.closing.proofs.on_day_end.Lts as lts
-use Rattle.closing.proofs.cancel_all.Reads as cancel-all-reads
-use Rattle.closing.proofs.close_all.Reads as close-all-reads
-use Rattle.closing.proofs.fresh.Reads as fresh-reads
 
 close-all-requires : tie.Need-close-all-requires
 unfolding onDayEnd

@@ -3,12 +3,6 @@ use Rattle.records.specs.Done.{done-then, done-of, room-of, room-then, room-aft
 use borrow.Author.Needs.{needs}
 use Rattle.closing.proofs.on_leg_order.Statement.{statement}
 use Rattle.closing.proofs.on_leg_order.Tie as tie
-use Rattle.closing.proofs.on_leg_order.Reads as reads
-use Rattle.closing.proofs.on_leg_order.Lts as lts
-use Rattle.closing.proofs.if_rests.Reads as if-rests-reads
-use Rattle.legs.proofs.enter_order.Reads as enter-order-reads
-use Rattle.legs.proofs.free_order_slot.Reads as free-order-slot-reads
-use Rattle.trades.proofs.trade_all.Reads as trade-all-reads
 
 free-order-slot-requires : tie.Need-free-order-slot-requires
 free-order-slot-requires c κs = search needs

@@ -4,8 +4,6 @@ use Rattle.closing.specs.Closing.{series-shuts, series-stays, series-sta
 use borrow.Author.Needs.{needs}
 use Rattle.closing.proofs.on_series.Statement.{statement}
 use Rattle.closing.proofs.on_series.Tie as tie
-use Rattle.closing.proofs.on_series.Reads as reads
-use Rattle.closing.proofs.on_series.Lts as lts
 
 is-open-requires : tie.Need-is-open-requires
 is-open-requires c κs = search needs

@@ -7,8 +7,6 @@ use Rattle.closing.specs.Closing.{reopen-is, fit-opened, fit-each}
 use borrow.Author.Needs.{needs}
 use Rattle.closing.proofs.reopen.Statement.{statement}
 use Rattle.closing.proofs.reopen.Tie as tie
-use Rattle.closing.proofs.reopen.Reads as reads
-use Rattle.closing.proofs.reopen.Lts as lts
 
 with-series-requires : tie.Need-with-series-requires
 with-series-requires c κs = (c .pre .0 .0, add-lt (c .args .b .opened) (c .args .s) (c .pre .0 .0) (omega arith) (c .pre .0 .2))

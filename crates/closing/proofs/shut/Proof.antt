@@ -9,12 +9,6 @@ use native.Mathlib.Omega.{arith}
 use borrow.Author.Needs.{needs}
 use Rattle.closing.proofs.shut.Statement.{statement}
 use Rattle.closing.proofs.shut.Tie as tie
-use Rattle.closing.proofs.shut.Reads as reads
-use Rattle.closing.proofs.shut.Lts as lts
-use Rattle.auctions.proofs.end_unfilled.Reads as end-unfilled-reads
-use Rattle.closing.proofs.ends.Reads as ends-reads
-use Rattle.closing.proofs.with_opened.Reads as with-opened-reads
-use Rattle.records.proofs.less.Reads as less-reads
 
 abbrev Inv-loop : tie.InvT-loop
 Inv-loop s space₀ n left c₀ m₀ k₀ space c m k = Visited (endHolding s) 16 c₀ space₀ space n m c k

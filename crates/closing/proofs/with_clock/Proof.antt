@@ -2,8 +2,6 @@ use Rattle.rules.specs.State.{withClock}
 use mathlib.Core.Path.{refl}
 use Rattle.closing.proofs.with_clock.Statement.{statement}
 use Rattle.closing.proofs.with_clock.Tie as tie
-use Rattle.closing.proofs.with_clock.Reads as reads
-use Rattle.closing.proofs.with_clock.Lts as lts
 
 returns : tie.Need-returns
 unfolding withClock

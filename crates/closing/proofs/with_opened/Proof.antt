@@ -2,8 +2,6 @@ use Rattle.rules.specs.State.{withOpened}
 use mathlib.Core.Path.{refl}
 use Rattle.closing.proofs.with_opened.Statement.{statement}
 use Rattle.closing.proofs.with_opened.Tie as tie
-use Rattle.closing.proofs.with_opened.Reads as reads
-use Rattle.closing.proofs.with_opened.Lts as lts
 
 returns : tie.Need-returns
 unfolding withOpened

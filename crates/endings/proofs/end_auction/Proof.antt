@@ -4,11 +4,6 @@ use Rattle.rules.specs.Auctions.{endAuction}
 use borrow.Author.Needs.{needs}
 use Rattle.endings.proofs.end_auction.Statement.{statement}
 use Rattle.endings.proofs.end_auction.Tie as tie
-use Rattle.endings.proofs.end_auction.Reads as reads
-use Rattle.endings.proofs.end_auction.Lts as lts
-use Rattle.auctions.proofs.end_unfilled.Reads as end-unfilled-reads
-use Rattle.endings.proofs.later_passes.Reads as later-passes-reads
-use Rattle.endings.proofs.starter_pass.Reads as starter-pass-reads
 
 mul-s : tie.Need-mul-s
 mul-s c = search needs

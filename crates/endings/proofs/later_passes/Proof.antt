@@ -9,10 +9,6 @@ use borrow.Author.Needs.{needs}
 use native.Mathlib.Omega.{arith}
 use Rattle.endings.proofs.later_passes.Statement.{statement}
 use Rattle.endings.proofs.later_passes.Tie as tie
-use Rattle.endings.proofs.later_passes.Reads as reads
-use Rattle.endings.proofs.later_passes.Lts as lts
-use Rattle.endings.proofs.later.Reads as later-reads
-use Rattle.passes.proofs.pass.Reads as pass-reads
 
 abbrev Inv-loop : tie.InvT-loop
 Inv-loop k n space₀ m c₀ o₀ i₀ space c o i = Visited (laterPass k n) 32 c₀ space₀ space m o c i

@@ -4,10 +4,6 @@ use mathlib.Core.Path.{refl}
 use borrow.Author.Needs.{needs}
 use Rattle.endings.proofs.starter_pass.Statement.{statement}
 use Rattle.endings.proofs.starter_pass.Tie as tie
-use Rattle.endings.proofs.starter_pass.Reads as reads
-use Rattle.endings.proofs.starter_pass.Lts as lts
-use Rattle.auctions.proofs.starter_slot.Reads as starter-slot-reads
-use Rattle.passes.proofs.pass.Reads as pass-reads
 
 starter-slot-requires : tie.Need-starter-slot-requires
 starter-slot-requires c κs = search needs

@@ -5,11 +5,6 @@ use Rattle.rules.specs.Fills.{cut}
 use borrow.Author.Needs.{needs}
 use Rattle.fills.proofs.cancel_entry.Statement.{statement}
 use Rattle.fills.proofs.cancel_entry.Tie as tie
-use Rattle.fills.proofs.cancel_entry.Reads as reads
-use Rattle.fills.proofs.cancel_entry.Lts as lts
-use Rattle.fills.proofs.cancel_record.Reads as cancel-record-reads
-use Rattle.fills.proofs.cut_entry.Reads as cut-entry-reads
-use Rattle.records.proofs.push.Reads as push-reads
 
 mul-e : tie.Need-mul-e
 mul-e c = search needs

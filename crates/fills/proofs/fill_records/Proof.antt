@@ -2,9 +2,6 @@ use Rattle.records.specs.Space.{wrote-append, room-first, room-next}
 use borrow.Author.Needs.{needs}
 use Rattle.fills.proofs.fill_records.Statement.{statement}
 use Rattle.fills.proofs.fill_records.Tie as tie
-use Rattle.fills.proofs.fill_records.Reads as reads
-use Rattle.fills.proofs.fill_records.Lts as lts
-use Rattle.fills.proofs.party_records.Reads as party-records-reads
 
 party-records-requires : tie.Need-party-records-requires
 party-records-requires c κs = (c .before .pre .0, room-first _ _ (c .before .pre .1))

@@ -12,10 +12,6 @@ use mathlib.Core.Logic.{⊎-elim}
 use Rattle.rules.proofs.Gives.{whole-none}
 use Rattle.fills.proofs.give.Statement.{statement}
 use Rattle.fills.proofs.give.Tie as tie
-use Rattle.fills.proofs.give.Reads as reads
-use Rattle.fills.proofs.give.Lts as lts
-use Rattle.fills.proofs.cut_entry.Reads as cut-entry-reads
-use Rattle.fills.proofs.fill_records.Reads as fill-records-reads
 
 abbrev Inv-loop : tie.InvT-loop
 Inv-loop a level space₀ n qs c₀ m₀ i₀ space c m i = Visited (giveAt a level qs) 32 c₀ space₀ space n m c i

@@ -4,11 +4,6 @@ use Rattle.ranges.specs.Fit.{fit-entry}
 use Rattle.quotas.specs.Bounds.{sizes-most}
 use Rattle.fills.proofs.give_group.Statement.{statement}
 use Rattle.fills.proofs.give_group.Tie as tie
-use Rattle.fills.proofs.give_group.Reads as reads
-use Rattle.fills.proofs.give_group.Lts as lts
-use Rattle.fills.proofs.give.Reads as give-reads
-use Rattle.quotas.proofs.share.Reads as share-reads
-use Rattle.quotas.proofs.sizes.Reads as sizes-reads
 
 mul-e : tie.Need-mul-e
 mul-e c = search needs

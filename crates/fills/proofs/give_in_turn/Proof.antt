@@ -2,11 +2,6 @@ use borrow.Author.Needs.{needs}
 use Rattle.rules.specs.Passes.{giveInTurn}
 use Rattle.fills.proofs.give_in_turn.Statement.{statement}
 use Rattle.fills.proofs.give_in_turn.Tie as tie
-use Rattle.fills.proofs.give_in_turn.Reads as reads
-use Rattle.fills.proofs.give_in_turn.Lts as lts
-use Rattle.fills.proofs.give.Reads as give-reads
-use Rattle.quotas.proofs.in_turn.Reads as in-turn-reads
-use Rattle.quotas.proofs.sizes.Reads as sizes-reads
 
 mul-e : tie.Need-mul-e
 mul-e c = search needs

@@ -5,10 +5,6 @@ use Rattle.ranges.specs.Fit.{fit-done}
 use Rattle.fills.specs.Gives.{inTurn-shrinks, group-shrinks}
 use Rattle.fills.proofs.give_shared.Statement.{statement}
 use Rattle.fills.proofs.give_shared.Tie as tie
-use Rattle.fills.proofs.give_shared.Reads as reads
-use Rattle.fills.proofs.give_shared.Lts as lts
-use Rattle.fills.proofs.give_in_turn.Reads as give-in-turn-reads
-use Rattle.fills.proofs.give_group.Reads as give-group-reads
 
 give-in-turn-requires : tie.Need-give-in-turn-requires
 unfolding giveShared

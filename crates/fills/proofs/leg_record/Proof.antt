@@ -2,9 +2,6 @@ use native.Mathlib.Omega.{arith}
 use borrow.Author.Needs.{needs}
 use Rattle.fills.proofs.leg_record.Statement.{statement}
 use Rattle.fills.proofs.leg_record.Tie as tie
-use Rattle.fills.proofs.leg_record.Reads as reads
-use Rattle.fills.proofs.leg_record.Lts as lts
-use Rattle.sides.proofs.leg_side.Reads as leg-side-reads
 
 leg-side-requires : tie.Need-leg-side-requires
 leg-side-requires c κs = search needs

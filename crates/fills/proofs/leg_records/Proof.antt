@@ -7,10 +7,6 @@ use Rattle.records.specs.Space.{Wrote, wrote-first, wrote-next, wrote-length, r
 use Rattle.base.specs.All.{all-head}
 use Rattle.fills.proofs.leg_records.Statement.{statement}
 use Rattle.fills.proofs.leg_records.Tie as tie
-use Rattle.fills.proofs.leg_records.Reads as reads
-use Rattle.fills.proofs.leg_records.Lts as lts
-use Rattle.records.proofs.push.Reads as push-reads
-use Rattle.fills.proofs.leg_record.Reads as leg-record-reads
 
 abbrev Inv-loop : tie.InvT-loop
 Inv-loop space₀ n e q prices legs count m₀ i₀ space m i = (i ≤ count) × Wrote space₀ space n m (joinN (legRecordAt e legs q prices) i)

@@ -3,11 +3,6 @@ use Rattle.rules.specs.Fills.{partyRecords}
 use Rattle.records.specs.Space.{wrote-append, room-first, room-next}
 use Rattle.fills.proofs.party_records.Statement.{statement}
 use Rattle.fills.proofs.party_records.Tie as tie
-use Rattle.fills.proofs.party_records.Reads as reads
-use Rattle.fills.proofs.party_records.Lts as lts
-use Rattle.records.proofs.push.Reads as push-reads
-use Rattle.fills.proofs.leg_records.Reads as leg-records-reads
-use Rattle.fills.proofs.whole_record.Reads as whole-record-reads
 
 whole-record-requires : tie.Need-whole-record-requires
 whole-record-requires c κs = search needs

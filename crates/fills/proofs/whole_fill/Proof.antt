@@ -7,10 +7,6 @@ use Rattle.rules.proofs.Gives.{whole-none}
 use borrow.Author.Needs.{needs}
 use Rattle.fills.proofs.whole_fill.Statement.{statement}
 use Rattle.fills.proofs.whole_fill.Tie as tie
-use Rattle.fills.proofs.whole_fill.Reads as reads
-use Rattle.fills.proofs.whole_fill.Lts as lts
-use Rattle.fills.proofs.cut_entry.Reads as cut-entry-reads
-use Rattle.fills.proofs.fill_records.Reads as fill-records-reads
 
 returns : tie.Need-returns
 returns c = done-of (whole-none _ _ _ _ _ (c .if1 .taken)) (done-still _ _ _)

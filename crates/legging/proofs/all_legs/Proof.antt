@@ -6,9 +6,6 @@ use mathlib.Core.Path.{_≡_}
 use native.Mathlib.Omega.{arith}
 use Rattle.legging.proofs.all_legs.Statement.{statement}
 use Rattle.legging.proofs.all_legs.Tie as tie
-use Rattle.legging.proofs.all_legs.Reads as reads
-use Rattle.legging.proofs.all_legs.Lts as lts
-use Rattle.legging.proofs.one_leg.Reads as one-leg-reads
 
 abbrev Inv-loop : tie.InvT-loop
 Inv-loop os side q space₀ n ps count legs c₀ i₀ space c i = (i ≤ count) × AllLegs space₀ space n (c .count) (c .rows) os side q legs ps i

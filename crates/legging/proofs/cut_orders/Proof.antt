@@ -8,9 +8,6 @@ use borrow.Author.Needs.{needs}
 use native.Mathlib.Omega.{arith}
 use Rattle.legging.proofs.cut_orders.Statement.{statement}
 use Rattle.legging.proofs.cut_orders.Tie as tie
-use Rattle.legging.proofs.cut_orders.Reads as reads
-use Rattle.legging.proofs.cut_orders.Lts as lts
-use Rattle.trades.proofs.cut_order.Reads as cut-order-reads
 
 abbrev Inv-loop : tie.InvT-loop
 Inv-loop os qs ps₀ i₀ ps i = (i ≤ 32) × (ps ≡ seam (cutAt os qs) os i)

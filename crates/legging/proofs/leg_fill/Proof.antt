@@ -7,11 +7,6 @@ use native.Mathlib.Nat.{le-trans}
 use borrow.Author.Needs.{needs}
 use Rattle.legging.proofs.leg_fill.Statement.{statement}
 use Rattle.legging.proofs.leg_fill.Tie as tie
-use Rattle.legging.proofs.leg_fill.Reads as reads
-use Rattle.legging.proofs.leg_fill.Lts as lts
-use Rattle.legging.proofs.take_legs.Reads as take-legs-reads
-use Rattle.nets.proofs.leg_prices.Reads as leg-prices-reads
-use Rattle.nets.proofs.units_of.Reads as units-of-reads
 
 mul-e : tie.Need-mul-e
 mul-e c = search needs

@@ -2,12 +2,6 @@ use Rattle.rules.specs.Fills.{legQuotas}
 use borrow.Author.Needs.{needs}
 use Rattle.legging.proofs.leg_quotas.Statement.{statement}
 use Rattle.legging.proofs.leg_quotas.Tie as tie
-use Rattle.legging.proofs.leg_quotas.Reads as reads
-use Rattle.legging.proofs.leg_quotas.Lts as lts
-use Rattle.sides.proofs.leg_side.Reads as leg-side-reads
-use Rattle.sides.proofs.other.Reads as other-reads
-use Rattle.nets.proofs.lots.Reads as lots-reads
-use Rattle.quotas.proofs.in_turn.Reads as in-turn-reads
 
 leg-side-requires : tie.Need-leg-side-requires
 leg-side-requires c κs = search needs

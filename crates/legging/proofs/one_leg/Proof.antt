@@ -3,11 +3,6 @@ use native.Mathlib.Omega.{arith}
 use borrow.Author.Needs.{needs}
 use Rattle.legging.proofs.one_leg.Statement.{statement}
 use Rattle.legging.proofs.one_leg.Tie as tie
-use Rattle.legging.proofs.one_leg.Reads as reads
-use Rattle.legging.proofs.one_leg.Lts as lts
-use Rattle.legging.proofs.cut_orders.Reads as cut-orders-reads
-use Rattle.legging.proofs.leg_quotas.Reads as leg-quotas-reads
-use Rattle.legging.proofs.order_rows.Reads as order-rows-reads
 
 cast-ratio : tie.Need-cast-ratio
 cast-ratio c = search needs

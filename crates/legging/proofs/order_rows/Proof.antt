@@ -6,9 +6,6 @@ use mathlib.Core.Path.{_≡_}
 use native.Mathlib.Omega.{arith}
 use Rattle.legging.proofs.order_rows.Statement.{statement}
 use Rattle.legging.proofs.order_rows.Tie as tie
-use Rattle.legging.proofs.order_rows.Reads as reads
-use Rattle.legging.proofs.order_rows.Lts as lts
-use Rattle.trades.proofs.order_row.Reads as order-row-reads
 
 abbrev Inv-loop : tie.InvT-loop
 Inv-loop space₀ n price os qs m₀ i₀ space m i = (i ≤ 32) × Wrote space₀ space n m (joinN (orderRows os qs price) i)

@@ -4,11 +4,6 @@ use Rattle.rules.specs.State.{withOrders}
 use borrow.Author.Needs.{needs}
 use Rattle.legging.proofs.take_legs.Statement.{statement}
 use Rattle.legging.proofs.take_legs.Tie as tie
-use Rattle.legging.proofs.take_legs.Reads as reads
-use Rattle.legging.proofs.take_legs.Lts as lts
-use Rattle.fills.proofs.cut.Reads as cut-reads
-use Rattle.fills.proofs.party_records.Reads as party-records-reads
-use Rattle.legging.proofs.all_legs.Reads as all-legs-reads
 
 mul-e : tie.Need-mul-e
 mul-e c = search needs

@@ -2,9 +2,6 @@ use Rattle.matching.specs.Matching.{open-is}
 use borrow.Author.Needs.{needs}
 use Rattle.matching.proofs.all_open.Statement.{statement}
 use Rattle.matching.proofs.all_open.Tie as tie
-use Rattle.matching.proofs.all_open.Reads as reads
-use Rattle.matching.proofs.all_open.Lts as lts
-use Rattle.matching.proofs.none_shut.Reads as none-shut-reads
 
 mul-t : tie.Need-mul-t
 mul-t c = search needs

@@ -10,9 +10,6 @@ use borrow.Author.Needs.{needs}
 use native.Mathlib.Omega.{arith}
 use Rattle.matching.proofs.best_slot.Statement.{statement}
 use Rattle.matching.proofs.best_slot.Tie as tie
-use Rattle.matching.proofs.best_slot.Reads as reads
-use Rattle.matching.proofs.best_slot.Lts as lts
-use Rattle.matching.proofs.ahead.Reads as ahead-reads
 
 abbrev Inv-loop : tie.InvT-loop
 Inv-loop k side es best₀ level₀ i₀ best level i = (i ≤ 32) × (best ≡ walk (bestNext es k side) 32 i) × (level ≡ getD es best noEntry .level)

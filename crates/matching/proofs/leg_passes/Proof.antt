@@ -8,10 +8,6 @@ use borrow.Author.Needs.{needs}
 use native.Mathlib.Omega.{arith}
 use Rattle.matching.proofs.leg_passes.Statement.{statement}
 use Rattle.matching.proofs.leg_passes.Tie as tie
-use Rattle.matching.proofs.leg_passes.Reads as reads
-use Rattle.matching.proofs.leg_passes.Lts as lts
-use Rattle.matching.proofs.leg_passes_of.Reads as leg-passes-of-reads
-use Rattle.matching.proofs.passes_legs.Reads as passes-legs-reads
 
 abbrev Inv-loop : tie.InvT-loop
 Inv-loop s space₀ n c₀ m₀ k₀ space c m k = Visited (legPassesIn s) 16 c₀ space₀ space n m c k

@@ -10,12 +10,6 @@ use borrow.Author.Needs.{needs}
 use native.Mathlib.Omega.{arith}
 use Rattle.matching.proofs.leg_passes_of.Statement.{statement}
 use Rattle.matching.proofs.leg_passes_of.Tie as tie
-use Rattle.matching.proofs.leg_passes_of.Reads as reads
-use Rattle.matching.proofs.leg_passes_of.Lts as lts
-use Rattle.matching.proofs.day_order.Reads as day-order-reads
-use Rattle.nets.proofs.net_ready.Reads as net-ready-reads
-use Rattle.passes.proofs.legs_idle.Reads as legs-idle-reads
-use Rattle.passes.proofs.pass.Reads as pass-reads
 
 abbrev Inv-loop : tie.InvT-loop
 Inv-loop k space₀ n c₀ m₀ i₀ space c m i = Visited (legPass k) 32 c₀ space₀ space n m c i

@@ -7,11 +7,6 @@ use borrow.Author.Needs.{needs}
 use native.Mathlib.Omega.{arith}
 use Rattle.matching.proofs.match_all.Statement.{statement}
 use Rattle.matching.proofs.match_all.Tie as tie
-use Rattle.matching.proofs.match_all.Reads as reads
-use Rattle.matching.proofs.match_all.Lts as lts
-use Rattle.matching.proofs.best_slot.Reads as best-slot-reads
-use Rattle.matching.proofs.crossed.Reads as crossed-reads
-use Rattle.matching.proofs.match_once.Reads as match-once-reads
 
 abbrev Inv-loop : tie.InvT-loop
 Inv-loop k space₀ n c₀ m₀ i₀ space c m i = Visited (matchOnce k) 32 c₀ space₀ space n m c i

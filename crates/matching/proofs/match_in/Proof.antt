@@ -6,11 +6,6 @@ use mathlib.Core.Path.{_≡_}
 use borrow.Author.Needs.{needs}
 use Rattle.matching.proofs.match_in.Statement.{statement}
 use Rattle.matching.proofs.match_in.Tie as tie
-use Rattle.matching.proofs.match_in.Reads as reads
-use Rattle.matching.proofs.match_in.Lts as lts
-use Rattle.endings.proofs.holds.Reads as holds-reads
-use Rattle.matching.proofs.match_all.Reads as match-all-reads
-use Rattle.matching.proofs.none_shut.Reads as none-shut-reads
 
 -- the rule where the series is in it and none of its series is shut
 opened : (k : tie.Then2) → let p = k .before .before .before .before .before in matchIn (p .args .s) (p .args .k) (p .args .t1) ≡ matchAll (p .args .k) (p .args .t1)

@@ -3,10 +3,6 @@ use Rattle.records.specs.Done.{done-of, room-of}
 use borrow.Author.Needs.{needs}
 use Rattle.matching.proofs.match_once.Statement.{statement}
 use Rattle.matching.proofs.match_once.Tie as tie
-use Rattle.matching.proofs.match_once.Reads as reads
-use Rattle.matching.proofs.match_once.Lts as lts
-use Rattle.fills.proofs.whole_fill.Reads as whole-fill-reads
-use Rattle.records.proofs.least.Reads as least-reads
 
 mul-e : tie.Need-mul-e
 mul-e c = search needs

@@ -3,8 +3,6 @@ use native.Mathlib.Omega.{arith}
 use borrow.Author.Needs.{needs}
 use Rattle.matching.proofs.none_shut.Statement.{statement}
 use Rattle.matching.proofs.none_shut.Tie as tie
-use Rattle.matching.proofs.none_shut.Reads as reads
-use Rattle.matching.proofs.none_shut.Lts as lts
 
 sub-shut : tie.Need-sub-shut
 sub-shut c = search needs

@@ -5,9 +5,6 @@ use Prim.Native.Nat.{_≤_, _-_}
 use native.Mathlib.Omega.{arith}
 use Rattle.nets.proofs.best_of.Statement.{statement}
 use Rattle.nets.proofs.best_of.Tie as tie
-use Rattle.nets.proofs.best_of.Reads as reads
-use Rattle.nets.proofs.best_of.Lts as lts
-use Rattle.nets.proofs.best_with.Reads as best-with-reads
 
 abbrev Inv-loop : tie.InvT-loop
 Inv-loop s side os b₀ i₀ b i = (i ≤ 32) × (b ≡ bestIn os s side i)

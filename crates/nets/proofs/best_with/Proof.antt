@@ -4,10 +4,6 @@ use Rattle.base.specs.Pick.{tests, told}
 use borrow.Author.Needs.{needs}
 use Rattle.nets.proofs.best_with.Statement.{statement}
 use Rattle.nets.proofs.best_with.Tie as tie
-use Rattle.nets.proofs.best_with.Reads as reads
-use Rattle.nets.proofs.best_with.Lts as lts
-use Rattle.nets.proofs.stands.Reads as stands-reads
-use Rattle.sides.proofs.best_price.Reads as best-price-reads
 
 stands-requires : tie.Need-stands-requires
 stands-requires c κs = search needs

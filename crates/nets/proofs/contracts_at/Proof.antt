@@ -11,9 +11,6 @@ use borrow.Author.Needs.{needs}
 use native.Mathlib.Omega.{arith}
 use Rattle.nets.proofs.contracts_at.Statement.{statement}
 use Rattle.nets.proofs.contracts_at.Tie as tie
-use Rattle.nets.proofs.contracts_at.Reads as reads
-use Rattle.nets.proofs.contracts_at.Lts as lts
-use Rattle.nets.proofs.lot.Reads as lot-reads
 
 abbrev Inv-loop : tie.InvT-loop
 Inv-loop s side price os n₀ i₀ n i = (i ≤ 32) × (n ≡ sumN (lotAt os s side price) i)

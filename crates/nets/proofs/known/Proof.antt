@@ -7,8 +7,6 @@ use Prim.Native.Nat.{_≤_, _-_}
 use native.Mathlib.Omega.{arith}
 use Rattle.nets.proofs.known.Statement.{statement}
 use Rattle.nets.proofs.known.Tie as tie
-use Rattle.nets.proofs.known.Reads as reads
-use Rattle.nets.proofs.known.Lts as lts
 
 abbrev Inv-loop : tie.InvT-loop
 Inv-loop count ps i₀ i = (i ≤ count) × (allN (pricedAt ps) i ≡ true)

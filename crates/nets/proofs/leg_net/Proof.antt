@@ -5,9 +5,6 @@ use Rattle.nets.specs.Nets.{legPrices, net-past}
 use borrow.Author.Needs.{needs}
 use Rattle.nets.proofs.leg_net.Statement.{statement}
 use Rattle.nets.proofs.leg_net.Tie as tie
-use Rattle.nets.proofs.leg_net.Reads as reads
-use Rattle.nets.proofs.leg_net.Lts as lts
-use Rattle.nets.proofs.leg_prices.Reads as leg-prices-reads
 
 returns : tie.Need-returns
 returns c = net-past _ _ _ (simp length-map at (c .before .good .0 .1 .1 .0 .1 .0 .1)) (c .if1 .taken)

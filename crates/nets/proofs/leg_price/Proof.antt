@@ -2,11 +2,6 @@ use Rattle.rules.specs.Nets.{legPrice}
 use borrow.Author.Needs.{needs}
 use Rattle.nets.proofs.leg_price.Statement.{statement}
 use Rattle.nets.proofs.leg_price.Tie as tie
-use Rattle.nets.proofs.leg_price.Reads as reads
-use Rattle.nets.proofs.leg_price.Lts as lts
-use Rattle.nets.proofs.price_of.Reads as price-of-reads
-use Rattle.sides.proofs.leg_side.Reads as leg-side-reads
-use Rattle.sides.proofs.other.Reads as other-reads
 
 leg-side-requires : tie.Need-leg-side-requires
 leg-side-requires c κs = search needs

@@ -2,10 +2,6 @@ use Rattle.nets.specs.Nets.{legPrices, prices-most}
 use borrow.Author.Needs.{needs}
 use Rattle.nets.proofs.leg_prices.Statement.{statement}
 use Rattle.nets.proofs.leg_prices.Tie as tie
-use Rattle.nets.proofs.leg_prices.Reads as reads
-use Rattle.nets.proofs.leg_prices.Lts as lts
-use Rattle.nets.proofs.net_of.Reads as net-of-reads
-use Rattle.nets.proofs.prices.Reads as prices-reads
 
 prices-requires : tie.Need-prices-requires
 prices-requires c κs = search needs

@@ -3,12 +3,6 @@ use Rattle.rules.specs.Nets.{legUnits}
 use borrow.Author.Needs.{needs}
 use Rattle.nets.proofs.leg_units.Statement.{statement}
 use Rattle.nets.proofs.leg_units.Tie as tie
-use Rattle.nets.proofs.leg_units.Reads as reads
-use Rattle.nets.proofs.leg_units.Lts as lts
-use Rattle.nets.proofs.contracts_at.Reads as contracts-at-reads
-use Rattle.nets.proofs.whole_units.Reads as whole-units-reads
-use Rattle.sides.proofs.leg_side.Reads as leg-side-reads
-use Rattle.sides.proofs.other.Reads as other-reads
 
 leg-side-requires : tie.Need-leg-side-requires
 leg-side-requires c κs = search needs

@@ -6,9 +6,6 @@ use borrow.Author.Needs.{needs}
 use native.Mathlib.Omega.{arith}
 use Rattle.nets.proofs.lots.Statement.{statement}
 use Rattle.nets.proofs.lots.Tie as tie
-use Rattle.nets.proofs.lots.Reads as reads
-use Rattle.nets.proofs.lots.Lts as lts
-use Rattle.nets.proofs.lot.Reads as lot-reads
 
 abbrev Inv-loop : tie.InvT-loop
 Inv-loop s side price os xs₀ i₀ xs i = (i ≤ 32) × (xs ≡ stored 32 (lotAt os s side price) i)

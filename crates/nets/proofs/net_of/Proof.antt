@@ -6,10 +6,6 @@ use Rattle.rules.specs.Nets.{weighed}
 use borrow.Author.Needs.{needs}
 use Rattle.nets.proofs.net_of.Statement.{statement}
 use Rattle.nets.proofs.net_of.Tie as tie
-use Rattle.nets.proofs.net_of.Reads as reads
-use Rattle.nets.proofs.net_of.Lts as lts
-use Rattle.nets.proofs.known.Reads as known-reads
-use Rattle.nets.proofs.weighed.Reads as weighed-reads
 
 -- what is bought, or sold, of the legs
 most : (w : ℕ) (k : tie.Start) → weighed w (k .args .s .legs) (k .args .ps) (k .args .s .count) ≤ k .args .s .count * 1_199_988

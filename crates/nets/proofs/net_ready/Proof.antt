@@ -11,14 +11,6 @@ use Rattle.nets.specs.Ready.{Netting, sum-next, contracts-add, weight-ad
 use Rattle.nets.specs.Nets.{prices-most, weighed-most}
 use Rattle.nets.proofs.net_ready.Statement.{statement}
 use Rattle.nets.proofs.net_ready.Tie as tie
-use Rattle.nets.proofs.net_ready.Reads as reads
-use Rattle.nets.proofs.net_ready.Lts as lts
-use Rattle.nets.proofs.lot.Reads as lot-reads
-use Rattle.nets.proofs.price_with.Reads as price-with-reads
-use Rattle.nets.proofs.weight.Reads as weight-reads
-use Rattle.nets.proofs.whole_units.Reads as whole-units-reads
-use Rattle.sides.proofs.leg_side.Reads as leg-side-reads
-use Rattle.sides.proofs.other.Reads as other-reads
 
 abbrev Inv-loop2 : tie.InvT-loop2
 Inv-loop2 side os count legs buys sells i l on p₀ j₀ p j = (j ≤ 32) × (p ≡ walk (priceStep os (l .series) on) 0 j)

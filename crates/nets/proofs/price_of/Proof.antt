@@ -6,9 +6,6 @@ use borrow.Author.Needs.{needs}
 use native.Mathlib.Omega.{arith}
 use Rattle.nets.proofs.price_of.Statement.{statement}
 use Rattle.nets.proofs.price_of.Tie as tie
-use Rattle.nets.proofs.price_of.Reads as reads
-use Rattle.nets.proofs.price_of.Lts as lts
-use Rattle.nets.proofs.price_with.Reads as price-with-reads
 
 abbrev Inv-loop : tie.InvT-loop
 Inv-loop s side os p₀ i₀ p i = (i ≤ 32) × (p ≡ walk (priceStep os s side) 0 i)

@@ -6,9 +6,6 @@ use borrow.Author.Needs.{needs}
 use native.Mathlib.Omega.{arith}
 use Rattle.nets.proofs.prices.Statement.{statement}
 use Rattle.nets.proofs.prices.Tie as tie
-use Rattle.nets.proofs.prices.Reads as reads
-use Rattle.nets.proofs.prices.Lts as lts
-use Rattle.nets.proofs.leg_price.Reads as leg-price-reads
 
 abbrev Inv-loop : tie.InvT-loop
 Inv-loop os side legs ps₀ i₀ ps i = (i ≤ 6) × (ps ≡ stored 6 (priceAt os side legs) i)

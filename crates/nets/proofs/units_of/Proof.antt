@@ -6,10 +6,6 @@ use borrow.Author.Needs.{needs}
 use native.Mathlib.Omega.{arith}
 use Rattle.nets.proofs.units_of.Statement.{statement}
 use Rattle.nets.proofs.units_of.Tie as tie
-use Rattle.nets.proofs.units_of.Reads as reads
-use Rattle.nets.proofs.units_of.Lts as lts
-use Rattle.nets.proofs.leg_units.Reads as leg-units-reads
-use Rattle.records.proofs.least.Reads as least-reads
 
 abbrev Inv-loop : tie.InvT-loop
 Inv-loop os side most ps count legs n₀ i₀ n i = (i ≤ count) × (n ≡ walk (unitsStep os side legs ps) n₀ i)

@@ -10,9 +10,6 @@ use Prim.Native.Nat.{_≤_, _-_}
 use native.Mathlib.Omega.{arith}
 use Rattle.nets.proofs.weighed.Statement.{statement}
 use Rattle.nets.proofs.weighed.Tie as tie
-use Rattle.nets.proofs.weighed.Reads as reads
-use Rattle.nets.proofs.weighed.Lts as lts
-use Rattle.nets.proofs.weight.Reads as weight-reads
 
 abbrev Inv-loop : tie.InvT-loop
 Inv-loop w count legs ps n₀ i₀ n i = (i ≤ count) × (n ≡ weighed w legs ps i)

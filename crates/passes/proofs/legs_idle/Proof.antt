@@ -3,10 +3,6 @@ use mathlib.Core.Path.{ap, _∙_}
 use borrow.Author.Needs.{needs}
 use Rattle.passes.proofs.legs_idle.Statement.{statement}
 use Rattle.passes.proofs.legs_idle.Tie as tie
-use Rattle.passes.proofs.legs_idle.Reads as reads
-use Rattle.passes.proofs.legs_idle.Lts as lts
-use Rattle.passes.proofs.stops.Reads as stops-reads
-use Rattle.passes.proofs.turn_at.Reads as turn-at-reads
 
 turn-at-requires : tie.Need-turn-at-requires
 turn-at-requires c κs = search needs

@@ -5,10 +5,6 @@ use mathlib.Core.Path.{_≡_, ap}
 use borrow.Author.Needs.{needs}
 use Rattle.passes.proofs.meet_limit.Statement.{statement}
 use Rattle.passes.proofs.meet_limit.Tie as tie
-use Rattle.passes.proofs.meet_limit.Reads as reads
-use Rattle.passes.proofs.meet_limit.Lts as lts
-use Rattle.fills.proofs.give_in_turn.Reads as give-in-turn-reads
-use Rattle.fills.proofs.give_shared.Reads as give-shared-reads
 
 -- the rule by the way that is found
 by-way : (k : tie.Start) {w : Allocation} → k .args .way ≡ w → meetLimit (k .args .way) (k .args .a) (k .args .level) (k .args .b) ≡ meetLimit w (k .args .a) (k .args .level) (k .args .b)

@@ -4,9 +4,6 @@ use Rattle.passes.specs.Passes.{oppositeIn}
 use borrow.Author.Needs.{needs}
 use Rattle.passes.proofs.opposite.Statement.{statement}
 use Rattle.passes.proofs.opposite.Tie as tie
-use Rattle.passes.proofs.opposite.Reads as reads
-use Rattle.passes.proofs.opposite.Lts as lts
-use Rattle.quotas.proofs.best_opposite.Reads as best-opposite-reads
 
 -- the rule by the way that is found
 by-way : (k : tie.Start) {w : Allocation} → k .args .way ≡ w → oppositeIn w (k .args .es) (k .args .e) ≡ oppositeIn (k .args .way) (k .args .es) (k .args .e)

@@ -9,11 +9,6 @@ use Rattle.ranges.specs.Fit.{Fit, fit-entry, fit-legs}
 use Rattle.rules.specs.Passes.{pass, turn, turnOf}
 use Rattle.passes.proofs.pass.Statement.{statement}
 use Rattle.passes.proofs.pass.Tie as tie
-use Rattle.passes.proofs.pass.Reads as reads
-use Rattle.passes.proofs.pass.Lts as lts
-use Rattle.passes.proofs.stops.Reads as stops-reads
-use Rattle.passes.proofs.take.Reads as take-reads
-use Rattle.passes.proofs.turn_of.Reads as turn-of-reads
 
 abbrev Inv-loop : tie.InvT-loop
 Inv-loop way legs a space₀ n c₀ units m₀ i₀ space c m i = Visited (turn way legs a) units c₀ space₀ space n m c i

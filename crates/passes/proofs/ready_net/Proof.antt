@@ -4,9 +4,6 @@ use mathlib.Core.Path.{sym, _∙_}
 use borrow.Author.Needs.{needs}
 use Rattle.passes.proofs.ready_net.Statement.{statement}
 use Rattle.passes.proofs.ready_net.Tie as tie
-use Rattle.passes.proofs.ready_net.Reads as reads
-use Rattle.passes.proofs.ready_net.Lts as lts
-use Rattle.nets.proofs.net_ready.Reads as net-ready-reads
 
 net-ready-requires : tie.Need-net-ready-requires
 net-ready-requires c κs = search needs

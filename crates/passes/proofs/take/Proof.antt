@@ -5,10 +5,6 @@ use mathlib.Core.Path.{_≡_, ap}
 use borrow.Author.Needs.{needs}
 use Rattle.passes.proofs.take.Statement.{statement}
 use Rattle.passes.proofs.take.Tie as tie
-use Rattle.passes.proofs.take.Reads as reads
-use Rattle.passes.proofs.take.Lts as lts
-use Rattle.legging.proofs.leg_fill.Reads as leg-fill-reads
-use Rattle.passes.proofs.meet_limit.Reads as meet-limit-reads
 
 -- the rule by the turn that is found
 by-turn : (k : tie.Start) {t : Turn} → k .args .t ≡ t → take (k .args .way) (k .args .a) (k .args .t) (k .args .b) ≡ take (k .args .way) (k .args .a) t (k .args .b)

@@ -2,11 +2,6 @@ use Rattle.passes.specs.Passes.{turn-empty}
 use borrow.Author.Needs.{needs}
 use Rattle.passes.proofs.turn_of.Statement.{statement}
 use Rattle.passes.proofs.turn_of.Tie as tie
-use Rattle.passes.proofs.turn_of.Reads as reads
-use Rattle.passes.proofs.turn_of.Lts as lts
-use Rattle.passes.proofs.opposite.Reads as opposite-reads
-use Rattle.passes.proofs.ready_net.Reads as ready-net-reads
-use Rattle.passes.proofs.turn_at.Reads as turn-at-reads
 
 returns : tie.Need-returns
 returns c = turn-empty _ _ _ (c .if1 .taken)

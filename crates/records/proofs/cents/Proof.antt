@@ -6,8 +6,6 @@ use mathlib.Core.Path.{ap, _∙_}
 use borrow.Author.Needs.{needs}
 use Rattle.records.proofs.cents.Statement.{statement}
 use Rattle.records.proofs.cents.Tie as tie
-use Rattle.records.proofs.cents.Reads as reads
-use Rattle.records.proofs.cents.Lts as lts
 
 cast-result : tie.Need-cast-result
 cast-result c = search needs

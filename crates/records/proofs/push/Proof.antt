@@ -10,10 +10,6 @@ use Prim.Native.Nat.{_<_, _^_}
 use borrow.Author.Needs.{needs}
 use Rattle.records.proofs.push.Statement.{statement}
 use Rattle.records.proofs.push.Tie as tie
-use Rattle.records.proofs.push.Reads as reads
-use Rattle.records.proofs.push.Lts as lts
-use Rattle.records.proofs.cents.Reads as cents-reads
-use Rattle.records.proofs.kind_number.Reads as kind-number-reads
 
 kind-number-requires : tie.Need-kind-number-requires
 kind-number-requires c κs = search needs

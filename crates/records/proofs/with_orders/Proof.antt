@@ -2,8 +2,6 @@ use Rattle.rules.specs.State.{withOrders}
 use mathlib.Core.Path.{refl}
 use Rattle.records.proofs.with_orders.Statement.{statement}
 use Rattle.records.proofs.with_orders.Tie as tie
-use Rattle.records.proofs.with_orders.Reads as reads
-use Rattle.records.proofs.with_orders.Lts as lts
 
 returns : tie.Need-returns
 unfolding withOrders

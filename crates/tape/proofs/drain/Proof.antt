@@ -3,9 +3,6 @@ use mathlib.Core.Path.{sym}
 use borrow.Author.Needs.{needs}
 use Rattle.tape.proofs.drain.Statement.{statement}
 use Rattle.tape.proofs.drain.Tie as tie
-use Rattle.tape.proofs.drain.Reads as reads
-use Rattle.tape.proofs.drain.Lts as lts
-use Rattle.io.proofs.write_all.Reads as write-all-reads
 
 sub-if1 : tie.Need-sub-if1
 sub-if1 c = search needs

@@ -2,10 +2,6 @@ use Rattle.tape.specs.Rests.{more-none, more-slid}
 use borrow.Author.Needs.{needs}
 use Rattle.tape.proofs.fill.Statement.{statement}
 use Rattle.tape.proofs.fill.Tie as tie
-use Rattle.tape.proofs.fill.Reads as reads
-use Rattle.tape.proofs.fill.Lts as lts
-use Rattle.tape.proofs.read_up.Reads as read-up-reads
-use Rattle.tape.proofs.slide.Reads as slide-reads
 
 sub-n : tie.Need-sub-n
 sub-n c = search needs

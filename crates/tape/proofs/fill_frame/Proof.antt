@@ -2,10 +2,6 @@ use Rattle.tape.specs.Rests.{more-then}
 use borrow.Author.Needs.{needs}
 use Rattle.tape.proofs.fill_frame.Statement.{statement}
 use Rattle.tape.proofs.fill_frame.Tie as tie
-use Rattle.tape.proofs.fill_frame.Reads as reads
-use Rattle.tape.proofs.fill_frame.Lts as lts
-use Rattle.lines.proofs.needed.Reads as needed-reads
-use Rattle.tape.proofs.fill.Reads as fill-reads
 
 fill-requires : tie.Need-fill-requires
 fill-requires c κs = search needs

@@ -4,10 +4,6 @@ use Rattle.tape.specs.Rests.{added-part}
 use borrow.Author.Needs.{needs}
 use Rattle.tape.proofs.read_on.Statement.{statement}
 use Rattle.tape.proofs.read_on.Tie as tie
-use Rattle.tape.proofs.read_on.Reads as reads
-use Rattle.tape.proofs.read_on.Lts as lts
-use Rattle.io.proofs.count.Reads as count-reads
-use Rattle.libc.proofs.read.Reads as read-reads
 
 sub-part : tie.Need-sub-part
 sub-part c = search needs

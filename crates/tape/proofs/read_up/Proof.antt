@@ -6,9 +6,6 @@ use native.Mathlib.Omega.{arith}
 use Rattle.tape.specs.Rests.{Added, added-none, added-then}
 use Rattle.tape.proofs.read_up.Statement.{statement}
 use Rattle.tape.proofs.read_up.Tie as tie
-use Rattle.tape.proofs.read_up.Reads as reads
-use Rattle.tape.proofs.read_up.Lts as lts
-use Rattle.tape.proofs.read_on.Reads as read-on-reads
 
 abbrev Inv-loop : tie.InvT-loop
 Inv-loop block₀ n need m₀ block m = Added block₀ block n m

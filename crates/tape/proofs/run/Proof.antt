@@ -6,15 +6,6 @@ use mathlib.Core.Path.{sym, _∙_}
 use borrow.Author.Tests.{ltb-true}
 use Rattle.tape.proofs.run.Statement.{statement}
 use Rattle.tape.proofs.run.Tie as tie
-use Rattle.tape.proofs.run.Reads as reads
-use Rattle.tape.proofs.run.Lts as lts
-use Rattle.book.proofs.Book.first.Reads as first-reads
-use Rattle.io.proofs.write_all.Reads as write-all-reads
-use Rattle.lines.proofs.cut.Reads as cut-reads
-use Rattle.tape.proofs.drain.Reads as drain-reads
-use Rattle.tape.proofs.fill_frame.Reads as fill-frame-reads
-use Rattle.tape.proofs.tell.Reads as tell-reads
-use Rattle.tape.proofs.tell_end.Reads as tell-end-reads
 
 abbrev Inv-loop : tie.InvT-loop
 Inv-loop block₀ space₀ out₀ book₀ rest₀ used₀ on₀ index₀ block space out book rest used on index = Running block₀ space₀ out₀ (record { book = book; rest = rest; used = used; on = on }) index block space out

@@ -4,8 +4,6 @@ use native.Mathlib.Omega.{arith}
 use Rattle.tape.specs.Rests.{Sliding, sliding-first, sliding-next, sliding-done}
 use Rattle.tape.proofs.slide.Statement.{statement}
 use Rattle.tape.proofs.slide.Tie as tie
-use Rattle.tape.proofs.slide.Reads as reads
-use Rattle.tape.proofs.slide.Lts as lts
 
 abbrev Inv-loop : tie.InvT-loop
 Inv-loop block₀ at n i₀ block i = Sliding block₀ block at n i

@@ -5,10 +5,6 @@ use Rattle.tape.specs.Tapes.{tells}
 use borrow.Author.Needs.{needs}
 use Rattle.tape.proofs.tell.Statement.{statement}
 use Rattle.tape.proofs.tell.Tie as tie
-use Rattle.tape.proofs.tell.Reads as reads
-use Rattle.tape.proofs.tell.Lts as lts
-use Rattle.book.proofs.Book.step.Reads as step-reads
-use Rattle.lines.proofs.put_event.Reads as put-event-reads
 
 step-requires : tie.Need-step-requires
 step-requires c κs = search needs

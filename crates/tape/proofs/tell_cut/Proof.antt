@@ -4,9 +4,6 @@ use Rattle.tape.specs.Tapes.{cut-told}
 use borrow.Author.Needs.{needs}
 use Rattle.tape.proofs.tell_cut.Statement.{statement}
 use Rattle.tape.proofs.tell_cut.Tie as tie
-use Rattle.tape.proofs.tell_cut.Reads as reads
-use Rattle.tape.proofs.tell_cut.Lts as lts
-use Rattle.lines.proofs.put_event.Reads as put-event-reads
 
 put-event-requires : tie.Need-put-event-requires
 unfolding answerCount

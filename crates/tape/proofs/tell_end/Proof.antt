@@ -2,9 +2,6 @@ use Rattle.tape.specs.Tapes.{ended, ended-cut}
 use borrow.Author.Needs.{needs}
 use Rattle.tape.proofs.tell_end.Statement.{statement}
 use Rattle.tape.proofs.tell_end.Tie as tie
-use Rattle.tape.proofs.tell_end.Reads as reads
-use Rattle.tape.proofs.tell_end.Lts as lts
-use Rattle.tape.proofs.tell_cut.Reads as tell-cut-reads
 
 returns : tie.Need-returns
 returns c = ended _ (c .before .before .before .args .space .now) (c .before .before .before .pre .0 .0) (c .before .before .before .pre .1 .0) (c .before .before .before .pre .1 .1) (c .if1 .taken)

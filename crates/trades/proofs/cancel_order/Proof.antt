@@ -4,11 +4,6 @@ use Rattle.records.specs.Done.{done-still, done-of}
 use borrow.Author.Needs.{needs}
 use Rattle.trades.proofs.cancel_order.Statement.{statement}
 use Rattle.trades.proofs.cancel_order.Tie as tie
-use Rattle.trades.proofs.cancel_order.Reads as reads
-use Rattle.trades.proofs.cancel_order.Lts as lts
-use Rattle.records.proofs.push.Reads as push-reads
-use Rattle.trades.proofs.cancel_leg_record.Reads as cancel-leg-record-reads
-use Rattle.trades.proofs.cut_leg.Reads as cut-leg-reads
 
 returns : tie.Need-returns
 returns c = done-of (cancel-past _ _ (simp length-map at (c .before .good .0 .1 .1 .1 .1 .0 .1 .0 .1)) (c .if1 .taken)) (done-still _ _ _)

@@ -3,11 +3,6 @@ use Rattle.trades.specs.Trades.{trade-room, trade-done}
 use borrow.Author.Needs.{needs}
 use Rattle.trades.proofs.leg_trade.Statement.{statement}
 use Rattle.trades.proofs.leg_trade.Tie as tie
-use Rattle.trades.proofs.leg_trade.Reads as reads
-use Rattle.trades.proofs.leg_trade.Lts as lts
-use Rattle.records.proofs.least.Reads as least-reads
-use Rattle.trades.proofs.cut_leg.Reads as cut-leg-reads
-use Rattle.trades.proofs.report.Reads as report-reads
 
 mul-o : tie.Need-mul-o
 mul-o c = search needs

@@ -3,9 +3,6 @@ use Rattle.trades.specs.Trades.{next-none, next-past, next-some}
 use borrow.Author.Needs.{needs}
 use Rattle.trades.proofs.next_trade.Statement.{statement}
 use Rattle.trades.proofs.next_trade.Tie as tie
-use Rattle.trades.proofs.next_trade.Reads as reads
-use Rattle.trades.proofs.next_trade.Lts as lts
-use Rattle.legs.proofs.best_order.Reads as best-order-reads
 
 returns : tie.Need-returns
 returns c = next-past _ _ (simp length-map at (c .before .good .0 .1 .1 .1 .1 .0 .1 .0 .1)) (c .if1 .taken)

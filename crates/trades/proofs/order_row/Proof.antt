@@ -4,10 +4,6 @@ use Rattle.records.specs.Space.{wrote-nil}
 use borrow.Author.Needs.{needs}
 use Rattle.trades.proofs.order_row.Statement.{statement}
 use Rattle.trades.proofs.order_row.Tie as tie
-use Rattle.trades.proofs.order_row.Reads as reads
-use Rattle.trades.proofs.order_row.Lts as lts
-use Rattle.records.proofs.push.Reads as push-reads
-use Rattle.trades.proofs.order_record.Reads as order-record-reads
 
 returns : tie.Need-returns
 returns c = rw (row-none _ _ _ (c .if1 .taken)) (wrote-nil _ _)

@@ -4,10 +4,6 @@ use mathlib.Core.List.{[], _∷_}
 use borrow.Author.Needs.{needs}
 use Rattle.trades.proofs.report.Statement.{statement}
 use Rattle.trades.proofs.report.Tie as tie
-use Rattle.trades.proofs.report.Reads as reads
-use Rattle.trades.proofs.report.Lts as lts
-use Rattle.records.proofs.push.Reads as push-reads
-use Rattle.trades.proofs.order_record.Reads as order-record-reads
 
 order-record-requires : tie.Need-order-record-requires
 order-record-requires c κs = all-head (c .pre .small) .level

@@ -8,10 +8,6 @@ use Prim.Native.Nat.{_-_}
 use native.Mathlib.Omega.{arith}
 use Rattle.trades.proofs.trade_all.Statement.{statement}
 use Rattle.trades.proofs.trade_all.Tie as tie
-use Rattle.trades.proofs.trade_all.Reads as reads
-use Rattle.trades.proofs.trade_all.Lts as lts
-use Rattle.trades.proofs.leg_trade.Reads as leg-trade-reads
-use Rattle.trades.proofs.next_trade.Reads as next-trade-reads
 
 abbrev Inv-loop : tie.InvT-loop
 Inv-loop a space₀ n c₀ m₀ i₀ space c m i = Visited (tradeOnce a) 32 c₀ space₀ space n m c i

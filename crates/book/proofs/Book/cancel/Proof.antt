@@ -3,12 +3,6 @@ use Rattle.book.specs.Outcomes.{took, took-refused, room-event}
 use borrow.Author.Needs.{needs}
 use Rattle.book.proofs.Book.cancel.Statement.{statement}
 use Rattle.book.proofs.Book.cancel.Tie as tie
-use Rattle.book.proofs.Book.cancel.Reads as reads
-use Rattle.book.proofs.Book.cancel.Lts as lts
-use Rattle.book.proofs.admit.Reads as admit-reads
-use Rattle.book.proofs.refuse.Reads as refuse-reads
-use Rattle.closing.proofs.cancel_number.Reads as cancel-number-reads
-use Rattle.refusals.proofs.cancel_refusal.Reads as cancel-refusal-reads
 
 cancel-refusal-requires : tie.Need-cancel-refusal-requires
 cancel-refusal-requires c κs = search needs

@@ -4,12 +4,6 @@ use Rattle.auctions.specs.Ranged.{ranged-sound}
 use borrow.Author.Needs.{needs}
 use Rattle.book.proofs.Book.clock.Statement.{statement}
 use Rattle.book.proofs.Book.clock.Tie as tie
-use Rattle.book.proofs.Book.clock.Reads as reads
-use Rattle.book.proofs.Book.clock.Lts as lts
-use Rattle.book.proofs.admit.Reads as admit-reads
-use Rattle.book.proofs.refuse.Reads as refuse-reads
-use Rattle.closing.proofs.on_clock.Reads as on-clock-reads
-use Rattle.refusals.proofs.clock_refusal.Reads as clock-refusal-reads
 
 clock-refusal-requires : tie.Need-clock-refusal-requires
 clock-refusal-requires c κs = search needs

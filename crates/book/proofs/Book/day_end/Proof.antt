@@ -4,10 +4,6 @@ use mathlib.Core.Path.{refl}
 use borrow.Author.Needs.{needs}
 use Rattle.book.proofs.Book.day_end.Statement.{statement}
 use Rattle.book.proofs.Book.day_end.Tie as tie
-use Rattle.book.proofs.Book.day_end.Reads as reads
-use Rattle.book.proofs.Book.day_end.Lts as lts
-use Rattle.book.proofs.admit.Reads as admit-reads
-use Rattle.closing.proofs.on_day_end.Reads as on-day-end-reads
 
 on-day-end-requires : tie.Need-on-day-end-requires
 on-day-end-requires c κs = let p = c .before .before .pre in (p .0, room-event _ _ _ (day-end-none _ _) p refl (day-end-accepts _ _))

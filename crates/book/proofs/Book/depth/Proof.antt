@@ -1,9 +1,6 @@
 use borrow.Author.Needs.{needs}
 use Rattle.book.proofs.Book.depth.Statement.{statement}
 use Rattle.book.proofs.Book.depth.Tie as tie
-use Rattle.book.proofs.Book.depth.Reads as reads
-use Rattle.book.proofs.Book.depth.Lts as lts
-use Rattle.lookups.proofs.depth.Reads as depth-reads
 
 depth-requires : tie.Need-depth-requires
 depth-requires c κs = let v = c .before .before .pre .sound in (v .orders, record { at = λ i l. v .liveOrder i l .price })

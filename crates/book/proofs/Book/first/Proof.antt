@@ -3,9 +3,6 @@ use Rattle.rules.proofs.Validity.{valid-fresh}
 use borrow.Author.Needs.{needs}
 use Rattle.book.proofs.Book.first.Statement.{statement}
 use Rattle.book.proofs.Book.first.Tie as tie
-use Rattle.book.proofs.Book.first.Reads as reads
-use Rattle.book.proofs.Book.first.Lts as lts
-use Rattle.closing.proofs.fresh.Reads as fresh-reads
 
 fresh-requires : tie.Need-fresh-requires
 fresh-requires c κs = search needs

@@ -3,13 +3,6 @@ use Rattle.book.specs.Outcomes.{took-refused}
 use borrow.Author.Needs.{needs}
 use Rattle.book.proofs.Book.leg_order.Statement.{statement}
 use Rattle.book.proofs.Book.leg_order.Tie as tie
-use Rattle.book.proofs.Book.leg_order.Reads as reads
-use Rattle.book.proofs.Book.leg_order.Lts as lts
-use Rattle.book.proofs.admit.Reads as admit-reads
-use Rattle.book.proofs.refuse.Reads as refuse-reads
-use Rattle.closing.proofs.on_leg_order.Reads as on-leg-order-reads
-use Rattle.given.proofs.leg_order_given.Reads as leg-order-given-reads
-use Rattle.refusals.proofs.leg_order_refusal.Reads as leg-order-refusal-reads
 
 leg-order-refusal-requires : tie.Need-leg-order-refusal-requires
 leg-order-refusal-requires c κs = search needs

@@ -3,13 +3,6 @@ use Rattle.book.specs.Outcomes.{took-refused}
 use borrow.Author.Needs.{needs}
 use Rattle.book.proofs.Book.order.Statement.{statement}
 use Rattle.book.proofs.Book.order.Tie as tie
-use Rattle.book.proofs.Book.order.Reads as reads
-use Rattle.book.proofs.Book.order.Lts as lts
-use Rattle.arrivals.proofs.on_order.Reads as on-order-reads
-use Rattle.book.proofs.admit.Reads as admit-reads
-use Rattle.book.proofs.refuse.Reads as refuse-reads
-use Rattle.given.proofs.order_given.Reads as order-given-reads
-use Rattle.refusals.proofs.order_refusal.Reads as order-refusal-reads
 
 order-refusal-requires : tie.Need-order-refusal-requires
 order-refusal-requires c κs = search needs

@@ -5,10 +5,6 @@ use mathlib.Core.Path.{refl}
 use borrow.Author.Needs.{needs}
 use Rattle.book.proofs.Book.series.Statement.{statement}
 use Rattle.book.proofs.Book.series.Tie as tie
-use Rattle.book.proofs.Book.series.Reads as reads
-use Rattle.book.proofs.Book.series.Lts as lts
-use Rattle.book.proofs.admit.Reads as admit-reads
-use Rattle.closing.proofs.on_series.Reads as on-series-reads
 
 cast-on-series : tie.Need-cast-on-series
 cast-on-series c = search needs

@@ -10,18 +10,6 @@ use lib.ListN.{length}
 use borrow.Author.Needs.{needs}
 use Rattle.book.proofs.Book.step.Statement.{statement}
 use Rattle.book.proofs.Book.step.Tie as tie
-use Rattle.book.proofs.Book.step.Reads as reads
-use Rattle.book.proofs.Book.step.Lts as lts
-use Rattle.book.proofs.Book.cancel.Reads as cancel-reads
-use Rattle.book.proofs.Book.clock.Reads as clock-reads
-use Rattle.book.proofs.Book.day_end.Reads as day-end-reads
-use Rattle.book.proofs.Book.leg_order.Reads as leg-order-reads
-use Rattle.book.proofs.Book.order.Reads as order-reads
-use Rattle.book.proofs.Book.series.Reads as series-reads
-use Rattle.book.proofs.Book.strategy.Reads as strategy-reads
-use Rattle.book.proofs.Book.sweep.Reads as sweep-reads
-use Rattle.book.proofs.refuse.Reads as refuse-reads
-use Rattle.frames.proofs.read.Reads as read-reads
 
 -- the event that the frame carries, and what the function of its kind asks
 carried : (k : tie.After-reading2) → R.Event (k .reading2 .given .0 .0) ≡ readOf (k .before .before .before .before .before .args .frame .now)

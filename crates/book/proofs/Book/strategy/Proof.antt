@@ -7,14 +7,6 @@ use Rattle.book.specs.Premises.{number-most, strategy-ill, strategy-held
 use borrow.Author.Needs.{needs}
 use Rattle.book.proofs.Book.strategy.Statement.{statement}
 use Rattle.book.proofs.Book.strategy.Tie as tie
-use Rattle.book.proofs.Book.strategy.Reads as reads
-use Rattle.book.proofs.Book.strategy.Lts as lts
-use Rattle.book.proofs.admit.Reads as admit-reads
-use Rattle.book.proofs.refuse.Reads as refuse-reads
-use Rattle.given.proofs.ill_formed.Reads as ill-formed-reads
-use Rattle.given.proofs.strategy_given.Reads as strategy-given-reads
-use Rattle.strategies.proofs.add.Reads as add-reads
-use Rattle.strategies.proofs.number_of.Reads as number-of-reads
 
 ill-formed-requires : tie.Need-ill-formed-requires
 ill-formed-requires c κs = search needs

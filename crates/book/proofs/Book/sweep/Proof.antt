@@ -3,14 +3,6 @@ use Rattle.book.specs.Outcomes.{took-refused}
 use borrow.Author.Needs.{needs}
 use Rattle.book.proofs.Book.sweep.Statement.{statement}
 use Rattle.book.proofs.Book.sweep.Tie as tie
-use Rattle.book.proofs.Book.sweep.Reads as reads
-use Rattle.book.proofs.Book.sweep.Lts as lts
-use Rattle.arrivals.proofs.on_sweep.Reads as on-sweep-reads
-use Rattle.book.proofs.admit.Reads as admit-reads
-use Rattle.book.proofs.number_taken.Reads as number-taken-reads
-use Rattle.book.proofs.refuse.Reads as refuse-reads
-use Rattle.given.proofs.sweep_given.Reads as sweep-given-reads
-use Rattle.refusals.proofs.sweep_refusal.Reads as sweep-refusal-reads
 
 sweep-refusal-requires : tie.Need-sweep-refusal-requires
 sweep-refusal-requires c κs = search needs
