@@ -8,7 +8,7 @@ use Rattle.events.specs.declared.Event.{Event}
 use Rattle.events.specs.declared.Reading.the-variants as R
 use Rattle.rules.specs.State.{first}
 use Rattle.rules.specs.declared.State.{State}
-use Rattle.rules.specs.Step.{Outcome, decide, step, answerOf, answerCount}
+use Rattle.rules.specs.Step.{Outcome, refuseOrPerform, step, answerOf, answerCount}
 use Rattle.rules.specs.Valid.{Valid}
 use Rattle.records.specs.Space.{laid}
 use Rattle.book.specs.declared.Book.{Book}
@@ -31,7 +31,7 @@ pub record Handed (o : Outcome) (s t : List ℤ) (x : Taken) : Type 0 where
 
 -- an event of any kind
 abbrev pub Took : State → Event → List ℤ → List ℤ → Taken → Type 0
-Took b e s t x = Handed (decide b (R.Event e) (length s)) s t x
+Took b e s t x = Handed (refuseOrPerform b (R.Event e) (length s)) s t x
 
 -- a frame of any bytes, with a record space of any length
 abbrev pub Stepped : State → List ℕ → List ℤ → List ℤ → Taken → Type 0

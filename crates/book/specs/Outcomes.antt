@@ -14,8 +14,8 @@ use Rattle.events.specs.declared.Reading.the-variants as R
 use Rattle.frames.specs.Frames.{readOf}
 use Rattle.rules.specs.declared.State.{State}
 use Rattle.rules.specs.declared.Answer.the-variants as A
-use Rattle.rules.specs.Refusals.{first, causes, readCauses, tableOf, refusal}
-use Rattle.rules.specs.Step.{Outcome, valueOf, accept, refused, perform, decide, step, answerOf, answerCount}
+use Rattle.rules.specs.Refusals.{firstCause, causes, readCauses, tableOf, refusal}
+use Rattle.rules.specs.Step.{Outcome, valueOf, accept, refused, perform, refuseOrPerform, step, answerOf, answerCount}
 use Rattle.rules.specs.Moves.{Moved}
 use Rattle.rules.specs.Fits.{FitReading, FitEvent}
 use Rattle.rules.specs.Valid.{Valid}
@@ -48,23 +48,23 @@ unfolding answerOf perform
 performed-answer b e = pick-true _ _ _ (eq-eqb 0 0 refl)
 
 -- in a space of that length the causes are the event's own
-refusal-event : (b : State) (e : Event) (space : ℕ) → 15_360 ≤ space → refusal b (R.Event e) space ≡ first (causes b e)
-unfolding refusal tableOf readCauses first
+refusal-event : (b : State) (e : Event) (space : ℕ) → 15_360 ≤ space → refusal b (R.Event e) space ≡ firstCause (causes b e)
+unfolding refusal tableOf readCauses firstCause
 refusal-event b e space h = pick-false _ _ _ (le-ltb space 15_360 h)
 
 refusal-short : (b : State) (r : Reading) (space : ℕ) → space < 15_360 → refusal b r space ≡ 1
-unfolding refusal tableOf first
+unfolding refusal tableOf firstCause
 refusal-short b r space h = pick-true _ _ _ (lt-ltb space 15_360 h)
 
 refusal-read : (b : State) (n space : ℕ) → 15_360 ≤ space → refusal b (R.Refused n) space ≡ n
-unfolding refusal tableOf readCauses first pick
+unfolding refusal tableOf readCauses firstCause pick
 refusal-read b n space h = rw (le-ltb space 15_360 h)
 
 -- refused: the book and the space are as they were
-handed-refused : (b : State) (r : Reading) (s : List ℤ) → Valid b → {n : ℕ} {x : Taken} → n ≡ refusal b r (length s) → (n ≡ 0 → ⊥) → x ≡ refuse b n → Handed (decide b r (length s)) s s x
-unfolding decide refused refuse answerCount
+handed-refused : (b : State) (r : Reading) (s : List ℤ) → Valid b → {n : ℕ} {x : Taken} → n ≡ refusal b r (length s) → (n ≡ 0 → ⊥) → x ≡ refuse b n → Handed (refuseOrPerform b r (length s)) s s x
+unfolding refuseOrPerform refused refuse answerCount
 handed-refused b r s v {n} {x} e h g =
-    let o : decide b r (length s) ≡ refused n b = rw (← e) (pick-false _ _ _ (ne-eqb n 0 h)) in
+    let o : refuseOrPerform b r (length s) ≡ refused n b = rw (← e) (pick-false _ _ _ (ne-eqb n 0 h)) in
     rw (o, g)
     (record {
       answer = sym (refused-answer n b h);
@@ -76,7 +76,7 @@ handed-refused b r s v {n} {x} e h g =
     })
 
 -- an event of the cause n, with what its function asks: a valid book, numbers that fit, and the space
-module _ (b : State) (e : Event) (s : List ℤ) {n : ℕ} (c : n ≡ first (causes b e)) (q : Valid b × FitEvent e × (15_360 ≤ length s)) where
+module _ (b : State) (e : Event) (s : List ℤ) {n : ℕ} (c : n ≡ firstCause (causes b e)) (q : Valid b × FitEvent e × (15_360 ≤ length s)) where
   pub took-refused : (n ≡ 0 → ⊥) → {x : Taken} → x ≡ refuse b n → Took b e s s x
   took-refused z g = handed-refused b (R.Event e) s (q .0) (c ∙ sym (refusal-event b e (length s) (q .2))) z g
 
@@ -85,11 +85,11 @@ module _ (b : State) (e : Event) (s : List ℤ) {n : ℕ} (c : n ≡ first (caus
   room-event z a = room-of a (record { count = omega (arith, accept-few b e (six-sound b (q .0 .sound))); space = q .2; small = accept-small b e (q .0) (q .1) (sym c ∙ z) })
 
   pub took : n ≡ 0 → {y : Moved} → accept b e ≡ y → {t : List ℤ} {m value : ℕ} {d : State} {x : Taken} → Done s t 0 m d y → value ≡ valueOf b e → x ≡ admit d value m → Took b e s t x
-  unfolding decide perform admit answerCount
+  unfolding refuseOrPerform perform admit answerCount
   took z a {t} {m} {value} {d} {x} w i g =
       let h = done-of a w in
       let r : refusal b (R.Event e) (length s) ≡ 0 = refusal-event b e (length s) (q .2) ∙ (sym c ∙ z) in
-      let o : decide b (R.Event e) (length s) ≡ perform b (R.Event e) = pick-true _ _ _ (eq-eqb _ 0 r) in
+      let o : refuseOrPerform b (R.Event e) (length s) ≡ perform b (R.Event e) = pick-true _ _ _ (eq-eqb _ 0 r) in
       let k : m ≡ length (accept b e .records) = h .wrote .count ∙ zero-add _ in
       rw g
       (record {

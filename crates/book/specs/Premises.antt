@@ -27,7 +27,7 @@ use Rattle.rules.specs.Moves.{still}
 use Rattle.rules.specs.Strategies.{sameAt, held, numberOf, added, define}
 use Rattle.rules.specs.Events.{freeSlot, freeOrderSlot, onOrder, onSweep, onLegOrder, cancelNumber, onSeries, onClock, onDayEnd}
 use Rattle.rules.specs.Given.{strategyGiven, orderGiven, sweepGiven, legOrderGiven}
-use Rattle.rules.specs.Refusals.{first, causes, illFormed, strategiesFull}
+use Rattle.rules.specs.Refusals.{firstCause, causes, illFormed, strategiesFull}
 use Rattle.rules.specs.Step.{valueOf, accept}
 use Rattle.rules.specs.Fits.{FitOrderGiven, FitSweepGiven, FitLegOrderGiven}
 use Rattle.rules.specs.Valid.{FitEntry, FitOrder, Valid}
@@ -43,8 +43,8 @@ use Rattle.book.specs.Books.{Took}
 use Rattle.book.specs.Outcomes.{admit, took, room-event}
 
 -- a definition by what the code has found: ill-formed, held already, no slot left, or a new one
-pub strategy-ill : (b : State) (e : GivenStrategy) → illFormed e ≡ true → 5 ≡ first (causes b (E.Strategy e))
-unfolding causes first
+pub strategy-ill : (b : State) (e : GivenStrategy) → illFormed e ≡ true → 5 ≡ firstCause (causes b (E.Strategy e))
+unfolding causes firstCause
 strategy-ill b e h = sym (pick-true _ _ _ h)
 
 module _ (b : State) (e : GivenStrategy) {t : Strategy} {k : ℕ} (well : illFormed e ≡ false) (g : t ≡ strategyGiven e) (q : k ≡ numberOf b t) where
@@ -54,16 +54,16 @@ module _ (b : State) (e : GivenStrategy) {t : Strategy} {k : ℕ} (well : illFor
   missing : b .defined ≤ k → held b (strategyGiven e) ≡ false
   missing h = rw (← g, ← q) (le-ltb k (b .defined) h)
 
-  pub strategy-held : k < b .defined → (0 ≡ first (causes b (E.Strategy e))) × (accept b (E.Strategy e) ≡ still b)
-  unfolding causes first strategiesFull accept define
+  pub strategy-held : k < b .defined → (0 ≡ firstCause (causes b (E.Strategy e))) × (accept b (E.Strategy e) ≡ still b)
+  unfolding causes firstCause strategiesFull accept define
   strategy-held h = rw (well, found h) (search tests, search tests)
 
-  pub strategy-full : b .defined ≤ k → 16 ≤ b .defined → 12 ≡ first (causes b (E.Strategy e))
-  unfolding causes first strategiesFull
+  pub strategy-full : b .defined ≤ k → 16 ≤ b .defined → 12 ≡ firstCause (causes b (E.Strategy e))
+  unfolding causes firstCause strategiesFull
   strategy-full h f = rw (well, missing h) (search tests)
 
-  pub strategy-new : b .defined ≤ k → b .defined < 16 → {c : State} → c ≡ added t b → (0 ≡ first (causes b (E.Strategy e))) × (accept b (E.Strategy e) ≡ still c)
-  unfolding causes first strategiesFull accept define
+  pub strategy-new : b .defined ≤ k → b .defined < 16 → {c : State} → c ≡ added t b → (0 ≡ firstCause (causes b (E.Strategy e))) × (accept b (E.Strategy e) ≡ still c)
+  unfolding causes firstCause strategiesFull accept define
   strategy-new h f c = rw (well, missing h, c, g) (search tests, search tests)
 
 -- what is accepted, by the rows that the code has made
@@ -129,12 +129,12 @@ module _ (b : State) where
   day-end-value e = refl
 
 -- a series and a day's end are never refused
-pub series-none : (b : State) (e : GivenSeries) → 0 ≡ first (causes b (E.Series e))
-unfolding causes first
+pub series-none : (b : State) (e : GivenSeries) → 0 ≡ firstCause (causes b (E.Series e))
+unfolding causes firstCause
 series-none b e = refl
 
-pub day-end-none : (b : State) (e : GivenDayEnd) → 0 ≡ first (causes b (E.DayEnd e))
-unfolding causes first
+pub day-end-none : (b : State) (e : GivenDayEnd) → 0 ≡ firstCause (causes b (E.DayEnd e))
+unfolding causes firstCause
 day-end-none b e = refl
 
 -- a strategy's number
@@ -143,7 +143,7 @@ unfolding numberOf
 number-most b t g h = omega (arith, g, first-le (sameAt b t) (b .defined))
 
 -- an order that nothing refuses, as a row: its slot, the ranges and the room; and what is handed back after its rule
-module _ (b : State) (e : GivenOrder) (s : List ℤ) {n : ℕ} (c : n ≡ first (causes b (E.Order e))) (q : Valid b × FitOrderGiven e × (15_360 ≤ length s)) (z : n ≡ 0) {r : Entry} (g : r ≡ orderGiven b e) where
+module _ (b : State) (e : GivenOrder) (s : List ℤ) {n : ℕ} (c : n ≡ firstCause (causes b (E.Order e))) (q : Valid b × FitOrderGiven e × (15_360 ≤ length s)) (z : n ≡ 0) {r : Entry} (g : r ≡ orderGiven b e) where
   pub order-asks : ((freeSlot b < 32) × FitEntry r × Fit b) × Room s 0 (onOrder r b .records)
   order-asks =
       let k = order-clear b e (q .0 .sound) (q .1) (sym c ∙ z) in
@@ -153,7 +153,7 @@ module _ (b : State) (e : GivenOrder) (s : List ℤ) {n : ℕ} (c : n ≡ first 
   order-took w h = took b (E.Order e) s c q z (order-accepts b e g) w (order-value b e g) h
 
 -- the same of a sweep, which enters if it has units
-module _ (b : State) (e : GivenSweep) (s : List ℤ) {n : ℕ} (c : n ≡ first (causes b (E.Sweep e))) (q : Valid b × FitSweepGiven e × (15_360 ≤ length s)) (z : n ≡ 0) {r : Entry} (g : r ≡ sweepGiven b e) where
+module _ (b : State) (e : GivenSweep) (s : List ℤ) {n : ℕ} (c : n ≡ firstCause (causes b (E.Sweep e))) (q : Valid b × FitSweepGiven e × (15_360 ≤ length s)) (z : n ≡ 0) {r : Entry} (g : r ≡ sweepGiven b e) where
   pub sweep-asks : (MayEnter r × Fit b) × Room s 0 (onSweep r b .records)
   unfolding sweepGiven
   sweep-asks =
@@ -164,7 +164,7 @@ module _ (b : State) (e : GivenSweep) (s : List ℤ) {n : ℕ} (c : n ≡ first 
   sweep-took w i h = took b (E.Sweep e) s c q z (sweep-accepts b e g) w (sweep-value b e g i) h
 
 -- the same of a leg order
-module _ (b : State) (e : GivenLegOrder) (s : List ℤ) {n : ℕ} (c : n ≡ first (causes b (E.LegOrder e))) (q : Valid b × FitLegOrderGiven e × (15_360 ≤ length s)) (z : n ≡ 0) {r : LegOrder} (g : r ≡ legOrderGiven b e) where
+module _ (b : State) (e : GivenLegOrder) (s : List ℤ) {n : ℕ} (c : n ≡ firstCause (causes b (E.LegOrder e))) (q : Valid b × FitLegOrderGiven e × (15_360 ≤ length s)) (z : n ≡ 0) {r : LegOrder} (g : r ≡ legOrderGiven b e) where
   pub leg-asks : ((freeOrderSlot b < 32) × FitOrder r × Fit b) × Room s 0 (onLegOrder r b .records)
   unfolding freeOrderSlot
   leg-asks =

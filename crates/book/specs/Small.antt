@@ -25,7 +25,7 @@ use Rattle.rules.specs.Sides.{other, legSide, meets}
 use Rattle.rules.specs.Nets.{lotAt, lots, prices, netOf, unitsOf}
 use Rattle.rules.specs.Fills.{partyRecords, legRecordAt, noPrices, wholeFill, legQuotas, orderRow, orderRows, orderRecords, quotasAt, takeLegs, legFill, legTrade, cancelEntry, cancelOrder}
 use Rattle.rules.specs.Auctions.{begin, close}
-use Rattle.rules.specs.Refusals.{first, causes}
+use Rattle.rules.specs.Refusals.{firstCause, causes}
 use Rattle.rules.specs.Step.{accept}
 use Rattle.rules.specs.Fits.{FitEvent}
 use Rattle.rules.specs.Valid.{FitEntry, FitOrder, Valid}
@@ -153,7 +153,7 @@ small-kept = record {
 }
 
 -- The states from which an event that nothing refuses moves.
-starts : (b : State) (e : Event) → Valid b → FitEvent e → first (causes b e) ≡ 0 → Starts Ranged b e
+starts : (b : State) (e : Event) → Valid b → FitEvent e → firstCause (causes b e) ≡ 0 → Starts Ranged b e
 starts b (E.Strategy e) v f c = tt
 starts b (E.Order e) v f c = ranged-sound (sound-enter b _ (v .sound) (order-clear b e (v .sound) f c))
 starts b (E.Sweep e) v f c = ranged-sound (v .sound)
@@ -163,5 +163,5 @@ starts b (E.Series e) v f c = λ x. ranged-opened b x refl (ranged-sound (v .sou
 starts b (E.Clock e) v f c = ranged-sound (sound-clock b (e .time) (v .sound) f)
 starts b (E.DayEnd e) v f c = ranged-sound (v .sound)
 
-pub accept-small : (b : State) (e : Event) → Valid b → FitEvent e → first (causes b e) ≡ 0 → All Small (accept b e .records)
+pub accept-small : (b : State) (e : Event) → Valid b → FitEvent e → firstCause (causes b e) ≡ 0 → All Small (accept b e .records)
 accept-small b e v f c = accept-told small-kept b e (starts b e v f c)

@@ -20,7 +20,7 @@ use Rattle.rules.specs.Moves.{Moved, still, and-then, each}
 use Rattle.rules.specs.Strategies.{holds, shutSet}
 use Rattle.rules.specs.Fills.{cancelEntry, cancelOrder}
 use Rattle.rules.specs.Auctions.{running, close, endUnfilled, endAuction, due, endDue, endHolding, legPasses, matchIn}
-use Rattle.rules.specs.Events.{live, liveOrder, enterOrder, freeOrderSlot, tradeAll, ifRests, onLegOrder, cancelEntryOf, cancelOrderOf, cancelNumber, onClock, shut, reopen, onSeries, closeRunning, lower, lowerEntry, lowerOrder, lowestLive, cancelLowest, restart, onDayEnd}
+use Rattle.rules.specs.Events.{live, liveOrder, enterOrder, freeOrderSlot, tradeAll, ifRests, onLegOrder, cancelEntryOf, cancelOrderOf, cancelNumber, onClock, shut, reopen, onSeries, closeRunning, lowerNumber, lowerEntry, lowerOrder, lowestLive, cancelLowest, restart, onDayEnd}
 use Rattle.rules.specs.Valid.{FitOrder}
 use Rattle.rules.proofs.Shrinks.{Shrinks}
 use Rattle.rules.proofs.Finishes.{each-shrinks}
@@ -58,41 +58,41 @@ module _ (n i : ℕ) (b : State) where
   order-yes h = pick-true _ _ _ (pick-yes (eqb (orderAt b i .number) n) h .0)
 
 -- the lower of some numbers does not depend on their order
-lower-none : (n : ℕ) → lower n 0 ≡ n
-unfolding lower
+lower-none : (n : ℕ) → lowerNumber n 0 ≡ n
+unfolding lowerNumber
 lower-none n = pick-by (λ (x : ℕ). x ≡ n) (eqb n 0) (λ z. sym (eqb-true n 0 z)) (λ z. pick-true _ _ _ (eq-eqb 0 0 refl))
 
-lower-zero : (m : ℕ) → lower 0 m ≡ m
-unfolding lower
+lower-zero : (m : ℕ) → lowerNumber 0 m ≡ m
+unfolding lowerNumber
 lower-zero m = pick-true _ _ _ (eq-eqb 0 0 refl)
 
-lower-min : (n m : ℕ) → 0 < n → 0 < m → lower n m ≡ min n m
-unfolding lower
+lower-min : (n m : ℕ) → 0 < n → 0 < m → lowerNumber n m ≡ min n m
+unfolding lowerNumber
 lower-min n m h l =
     let p : ¬ (n ≡ 0) = omega arith in
     let q : ¬ (m ≡ 0) = omega arith in
     search tests
 
-pub lower-first : (n m : ℕ) → ¬ (n ≡ 0) → n ≤ m → n ≡ lower n m
+pub lower-first : (n m : ℕ) → ¬ (n ≡ 0) → n ≤ m → n ≡ lowerNumber n m
 lower-first n m p h = omega (arith, lower-min n m (omega arith) (omega arith))
 
-pub lower-second : (n m : ℕ) → ¬ (n ≡ 0) → ¬ (m ≡ 0) → m < n → m ≡ lower n m
+pub lower-second : (n m : ℕ) → ¬ (n ≡ 0) → ¬ (m ≡ 0) → m < n → m ≡ lowerNumber n m
 lower-second n m p q h = omega (arith, lower-min n m (omega arith) (omega arith))
 
-lower-comm : (n m : ℕ) → lower n m ≡ lower m n
+lower-comm : (n m : ℕ) → lowerNumber n m ≡ lowerNumber m n
 lower-comm zero m = lower-zero m ∙ sym (lower-none m)
 lower-comm (suc n) zero = lower-none (suc n) ∙ sym (lower-zero (suc n))
 lower-comm (suc n) (suc m) = rw (lower-min (suc n) (suc m) (omega arith) (omega arith), lower-min (suc m) (suc n) (omega arith) (omega arith)) (omega arith)
 
-lower-swap : (n x y : ℕ) → lower (lower n x) y ≡ lower (lower n y) x
+lower-swap : (n x y : ℕ) → lowerNumber (lowerNumber n x) y ≡ lowerNumber (lowerNumber n y) x
 lower-swap zero x y = rw (lower-zero x, lower-zero y) (lower-comm x y)
-lower-swap (suc n) zero y = rw (lower-none (suc n), lower-none (lower (suc n) y))
-lower-swap (suc n) (suc x) zero = rw (lower-none (suc n), lower-none (lower (suc n) (suc x)))
+lower-swap (suc n) zero y = rw (lower-none (suc n), lower-none (lowerNumber (suc n) y))
+lower-swap (suc n) (suc x) zero = rw (lower-none (suc n), lower-none (lowerNumber (suc n) (suc x)))
 lower-swap (suc n) (suc x) (suc y) =
     rw (lower-min (suc n) (suc x) (omega arith) (omega arith), lower-min (suc n) (suc y) (omega arith) (omega arith))
     (lower-min (min (suc n) (suc x)) (suc y) (omega arith) (omega arith) ∙ (omega arith) ∙ sym (lower-min (min (suc n) (suc y)) (suc x) (omega arith) (omega arith)))
 
-live-swap : (t u : Bool) (n x y : ℕ) → pick t (lower (pick u (lower n x) n) y) (pick u (lower n x) n) ≡ pick u (lower (pick t (lower n y) n) x) (pick t (lower n y) n)
+live-swap : (t u : Bool) (n x y : ℕ) → pick t (lowerNumber (pick u (lowerNumber n x) n) y) (pick u (lowerNumber n x) n) ≡ pick u (lowerNumber (pick t (lowerNumber n y) n) x) (pick t (lowerNumber n y) n)
 unfolding pick
 live-swap true true n x y = lower-swap n x y
 live-swap true false n x y = refl
@@ -115,8 +115,8 @@ module _ {A : Type 0} (f g : ℕ → A → A) (swap : (i j : ℕ) (a : A) → g 
 abbrev pub lowerBoth : State → ℕ → ℕ → ℕ
 lowerBoth b i n = lowerOrder b i (lowerEntry b i n)
 
-pub lower-next : (b : State) (i : ℕ) {n x y : ℕ} → n ≡ walk (lowerBoth b) 0 i → x ≡ pick (not (eqb (entryAt b i .units) 0)) (lower n (entryAt b i .number)) n
-    → y ≡ pick (not (eqb (orderAt b i .contracts) 0)) (lower x (orderAt b i .number)) x → y ≡ walk (lowerBoth b) 0 (i + 1)
+pub lower-next : (b : State) (i : ℕ) {n x y : ℕ} → n ≡ walk (lowerBoth b) 0 i → x ≡ pick (not (eqb (entryAt b i .units) 0)) (lowerNumber n (entryAt b i .number)) n
+    → y ≡ pick (not (eqb (orderAt b i .contracts) 0)) (lowerNumber x (orderAt b i .number)) x → y ≡ walk (lowerBoth b) 0 (i + 1)
 unfolding live liveOrder
 lower-next b i p q r = walk-next (lowerBoth b) 0 i p (r ∙ ap (lowerOrder b i) q)
 

@@ -8,7 +8,7 @@ ghost use Rattle.base.specs.Sets.{has, minus};
 ghost use Rattle.rules.specs.State.{fresh, freeStrategy, withOpened, withClock};
 ghost use Rattle.rules.specs.Moves.{each};
 ghost use Rattle.rules.specs.Auctions.{matchIn};
-ghost use Rattle.rules.specs.Events.{freeOrderSlot, ifRests, onLegOrder, cancelEntryOf, cancelOrderOf, cancelNumber, onClock, shut, reopen, onSeries, closeRunning, lower, lowestLive, cancelLowest, onDayEnd};
+ghost use Rattle.rules.specs.Events.{freeOrderSlot, ifRests, onLegOrder, cancelEntryOf, cancelOrderOf, cancelNumber, onClock, shut, reopen, onSeries, closeRunning, lowerNumber, lowestLive, cancelLowest, onDayEnd};
 ghost use Rattle.rules.specs.Valid.{FitOrder, Valid};
 ghost use Rattle.rules.proofs.DayEnd.{Numbered};
 ghost use Rattle.records.specs.Space.{Room};
@@ -124,8 +124,8 @@ pub fn cancel_number(b: State, number: u32, space: &mut [i32], n: usize) -> Afte
 }
 
 // The lower of two numbers, of which 0 is none.
-fn lower(n: u32, m: u32) -> u32
-    ensures { λ r. ⌜ r ≡ lower n m ⌝ }
+fn lower_number(n: u32, m: u32) -> u32
+    ensures { λ r. ⌜ r ≡ lowerNumber n m ⌝ }
 {
     if n == 0 {
         return m;
@@ -141,12 +141,12 @@ fn lower(n: u32, m: u32) -> u32
 
 // The lower of a number and that of a row, where the row is live.
 fn lower_live(n: u32, number: u32, quantity: u32) -> u32
-    ensures { λ r. ⌜ r ≡ pick (not (eqb quantity 0)) (lower n number) n ⌝ }
+    ensures { λ r. ⌜ r ≡ pick (not (eqb quantity 0)) (lowerNumber n number) n ⌝ }
 {
     if quantity == 0 {
         return n;
     }
-    lower(n, number)
+    lower_number(n, number)
 }
 
 // The lowest number that is live, 0 where none is.

@@ -9,7 +9,7 @@ use lib.ListN.{length, replicate}
 use Rattle.base.specs.Pick.{pick, pick-by}
 use Rattle.events.specs.Fields.{high, bias, rawOf}
 use Rattle.events.specs.Kinds.{kindOf, codeOf, lengthOf}
-use Rattle.events.specs.Rows.{kindIn, rowOf, eventOf, answerOf}
+use Rattle.events.specs.Rows.{kindIn, rowOf, eventOf, readingNumber}
 use Rattle.events.specs.Laws.{Sound}
 use Rattle.events.specs.declared.Field.{Field}
 use Rattle.events.specs.declared.Kind.{Kind}
@@ -80,7 +80,7 @@ kind-back K.Clock v = refl
 kind-back K.DayEnd v = refl
 kind-back K.Unknown v = refl
 
-pub answer-event : (k : Kind) (v : List ℕ) (n : ℕ) → 4 ≤ lengthOf k n → answerOf (eventOf k v) ≡ 0
+pub answer-event : (k : Kind) (v : List ℕ) (n : ℕ) → 4 ≤ lengthOf k n → readingNumber (eventOf k v) ≡ 0
 unfolding lengthOf pick
 answer-event K.Strategy v n h = refl
 answer-event K.Order v n h = refl

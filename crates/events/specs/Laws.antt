@@ -132,7 +132,7 @@ offset-fits K.DayEnd n h = omega arith
 offset-fits K.Unknown n h = omega arith
 
 -- the fields fill the frame, where a strategy's count is at most six
-pub record Exact (k : Kind) (n : ℕ) : Type 0 where
+pub record FillsFrame (k : Kind) (n : ℕ) : Type 0 where
   pub whole : offset (layoutOf k n) 19 ≡ lengthOf k n
   pub short : lengthOf k n ≤ 23
 
@@ -147,7 +147,7 @@ exact-six (suc (suc (suc (suc (suc zero))))) h = refl
 exact-six (suc (suc (suc (suc (suc (suc zero)))))) h = refl
 exact-six (suc (suc (suc (suc (suc (suc (suc n))))))) h = absurd (omega arith)
 
-pub exact : (k : Kind) (n : ℕ) → (k ≡ K.Strategy → n ≤ 6) → 4 ≤ lengthOf k n → Exact k n
+pub exact : (k : Kind) (n : ℕ) → (k ≡ K.Strategy → n ≤ 6) → 4 ≤ lengthOf k n → FillsFrame k n
 unfolding offset layoutOf layout presentOf lengthOf pick
 exact K.Strategy n s h = let t : n ≤ 6 = s refl in record { whole = exact-six n t; short = omega arith }
 exact K.Order n s h = record { whole = refl; short = omega arith }
@@ -223,7 +223,7 @@ four-in e = four-le e (getD (rowOf e) 0 0)
 
 -- the frame of an event that fits
 module _ (e : Event) (t : fitting e ≡ true) where
-  exact-in : Exact (kindIn e) (getD (rowOf e) 0 0)
+  exact-in : FillsFrame (kindIn e) (getD (rowOf e) 0 0)
   unfolding fitting layoutIn
   exact-in = exact (kindIn e) (getD (rowOf e) 0 0) (count-le (kindIn e) _ (rowOf e) t) (four-le e _)
 

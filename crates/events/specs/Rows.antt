@@ -42,12 +42,12 @@ rowOf (E.Clock e) = e .time ∷ replicate 18 0
 rowOf (E.DayEnd e) = e .timer ∷ replicate 18 0
 
 -- the leg whose numbers begin at place i
-abbrev pub legAt : List ℕ → ℕ → Leg
-legAt v i = record { series = getD v i 0; side = getD v (i + 1) 0; ratio = getD v (i + 2) 0 }
+abbrev pub legFrom : List ℕ → ℕ → Leg
+legFrom v i = record { series = getD v i 0; side = getD v (i + 1) 0; ratio = getD v (i + 2) 0 }
 
 -- the event of a kind with these values; "unknown kind" is refused 2
 abbrev pub eventOf : Kind → List ℕ → Reading
-eventOf K.Strategy v = R.Event (E.Strategy (record { count = getD v 0 0; legs = (legAt v 1, legAt v 4, legAt v 7, legAt v 10, legAt v 13, legAt v 16) }))
+eventOf K.Strategy v = R.Event (E.Strategy (record { count = getD v 0 0; legs = (legFrom v 1, legFrom v 4, legFrom v 7, legFrom v 10, legFrom v 13, legFrom v 16) }))
 eventOf K.Order v = R.Event (E.Order (record { member = getD v 0 0; strategy = getD v 1 0; side = getD v 2 0; class = getD v 3 0; life = getD v 4 0; units = getD v 5 0; level = getD v 6 0 }))
 eventOf K.Sweep v = R.Event (E.Sweep (record { member = getD v 0 0; strategy = getD v 1 0; side = getD v 2 0; units = getD v 3 0; level = getD v 4 0 }))
 eventOf K.LegOrder v = R.Event (E.LegOrder (record { member = getD v 0 0; series = getD v 1 0; side = getD v 2 0; contracts = getD v 3 0; price = getD v 4 0 }))
@@ -70,6 +70,6 @@ unfoldable pub lengthIn : Event → ℕ
 lengthIn e = lengthOf (kindIn e) (getD (rowOf e) 0 0)
 
 -- "Answer 0 is accepted", else the refusal's number
-abbrev pub answerOf : Reading → ℕ
-answerOf (R.Event e) = 0
-answerOf (R.Refused n) = n
+abbrev pub readingNumber : Reading → ℕ
+readingNumber (R.Event e) = 0
+readingNumber (R.Refused n) = n

@@ -1,7 +1,7 @@
 // Events as rows of 19 numbers: the values of the fields in order, and zeros after them.
 ghost use mathlib.Core.Path.{_≡_};
 ghost use Prim.Native.Nat.{_+_, _<_};
-ghost use Rattle.events.specs.Rows.{kindIn, rowOf, legAt, eventOf, lengthIn, fitting};
+ghost use Rattle.events.specs.Rows.{kindIn, rowOf, legFrom, eventOf, lengthIn, fitting};
 use super::Cancel;
 use super::Clock;
 use super::DayEnd;
@@ -131,7 +131,7 @@ pub fn event_of(kind: Kind, row: [u32; 19]) -> Reading
 // The leg whose numbers begin at place i.
 fn leg_at(row: [u32; 19], i: usize) -> Leg
     requires { ⌜ i + 2 < 19 ⌝ }
-    ensures { λ r. ⌜ r ≡ legAt row i ⌝ }
+    ensures { λ r. ⌜ r ≡ legFrom row i ⌝ }
 {
     Leg {
         series: row[i],

@@ -6,8 +6,8 @@ use lib.Dec.{ltb}
 use lib.ListN.{length, getD, take, drop}
 use Rattle.base.specs.Pick.{pick}
 use Rattle.events.specs.Kinds.{kindOf, codeOf}
-use Rattle.events.specs.Rows.{kindIn, rowOf, eventOf, answerOf}
-use Rattle.frames.specs.Frames.{readOf, writtenOf, spaceOf, numberOf}
+use Rattle.events.specs.Rows.{kindIn, rowOf, eventOf, readingNumber}
+use Rattle.frames.specs.Frames.{readOf, writtenOf, spaceOf, writtenNumber}
 use Rattle.events.specs.declared.Event.{Event}
 use Rattle.events.specs.declared.Reading.{Reading}
 use Rattle.events.specs.declared.Reading.the-variants as R
@@ -27,7 +27,7 @@ valuesAfter (R.Refused n) vs = vs
 
 -- what writing the event of 20 numbers answers: as the writer does; an unknown kind is "a field outside its range", 3
 abbrev pub answerAfter : Reading → ℕ → ℕ
-answerAfter (R.Event e) room = numberOf (writtenOf e room)
+answerAfter (R.Event e) room = writtenNumber (writtenOf e room)
 answerAfter (R.Refused n) room = 3
 
 -- and what it leaves in the space
@@ -37,7 +37,7 @@ spaceAfter (R.Refused n) sp = sp
 
 -- what `frame_read` answers: 1 where there are fewer than 20 values, else as the judge
 unfoldable pub frameRead : List ℕ → List ℕ → ℕ
-frameRead f vs = pick (ltb (length vs) 20) 1 (answerOf (readOf f))
+frameRead f vs = pick (ltb (length vs) 20) 1 (readingNumber (readOf f))
 
 -- and what it leaves in the values
 unfoldable pub frameValues : List ℕ → List ℕ → List ℕ
@@ -56,8 +56,8 @@ pub record ReadOut (f vs ws : List ℕ) (r : ℕ) : Type 0 where
   pub answer : r ≡ frameRead f vs
   pub values : ws ≡ frameValues f vs
 
-pub record Sent (e : Event) (sp sq : List ℕ) (r : ℕ) : Type 0 where
-  pub answer : r ≡ numberOf (writtenOf e (length sp))
+pub record WrittenOut (e : Event) (sp sq : List ℕ) (r : ℕ) : Type 0 where
+  pub answer : r ≡ writtenNumber (writtenOf e (length sp))
   pub space : sq ≡ spaceOf e sp
 
 pub record WriteOut (vs sp sq : List ℕ) (r : ℕ) : Type 0 where

@@ -10,7 +10,7 @@ use lib.Seq.{take-suc, take-all, take-at, length-take-le, getD-drop, sets, sets-
 use Rattle.base.specs.Pick.{tests}
 use Rattle.base.specs.Walks.{slot, table}
 use Rattle.events.specs.Kinds.{codeOf}
-use Rattle.events.specs.Rows.{kindIn, rowOf, answerOf}
+use Rattle.events.specs.Rows.{kindIn, rowOf, readingNumber}
 use Rattle.events.specs.Laws.{short-in, four-in}
 use Rattle.events.specs.Cases.{length-row-of, kind-code, event-row}
 use Rattle.frames.specs.Frames.{readOf, writtenOf}
@@ -63,7 +63,7 @@ pub read-one : (f vs : List ℕ) → length vs < 20 → ReadOut f vs vs 1
 unfolding frameRead frameValues
 read-one f vs h = record { answer = search tests; values = search tests }
 
-pub read-out : (f vs : List ℕ) {r : Reading} {ws : List ℕ} → 20 ≤ length vs → r ≡ readOf f → ws ≡ valuesAfter r vs → ReadOut f vs ws (answerOf r)
+pub read-out : (f vs : List ℕ) {r : Reading} {ws : List ℕ} → 20 ≤ length vs → r ≡ readOf f → ws ≡ valuesAfter r vs → ReadOut f vs ws (readingNumber r)
 unfolding frameRead frameValues
 read-out f vs h p q = rw (q, p) (record { answer = search tests; values = search tests })
 

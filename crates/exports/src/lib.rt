@@ -3,7 +3,7 @@ ghost use mathlib.Core.Path.{_≡_};
 ghost use mathlib.Core.List.{_++_};
 ghost use Prim.Native.Nat.{_≤_};
 ghost use lib.ListN.{length, take, drop};
-ghost use Rattle.exports.specs.Exports.{valuesOf, eventIn, ReadOut, Sent, WriteOut};
+ghost use Rattle.exports.specs.Exports.{valuesOf, eventIn, ReadOut, WrittenOut, WriteOut};
 use events::Event;
 use events::Reading;
 use events::kinds::code_of;
@@ -54,7 +54,7 @@ fn event_in(values: &[u32]) -> Reading
 
 // The writer, with its answer as a number.
 fn send(event: Event, space: &mut [u8]) -> u32
-    ensures { λ r. ⌜ Sent event (now (space .entry)) (now (space .exit)) r ⌝ }
+    ensures { λ r. ⌜ WrittenOut event (now (space .entry)) (now (space .exit)) r ⌝ }
 {
     let written = write(event, space);
     match written {

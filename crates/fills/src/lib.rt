@@ -5,7 +5,7 @@ ghost use Prim.Native.Nat.{_+_, _*_, _-_, _<_, _≤_};
 ghost use Rattle.base.specs.Walks.{joinN};
 ghost use Rattle.rules.specs.Fills.{wholeRecord, legRecord, legRecordAt, partyRecords, noPrices, cutEntry, cut, wholeFill, cancelRecord, cancelEntry};
 ghost use Rattle.rules.specs.Passes.{give, giveInTurn, giveGroup, giveShared};
-ghost use Rattle.records.specs.Space.{Wrote, Room};
+ghost use Rattle.records.specs.Space.{Appended, Room};
 ghost use Rattle.records.specs.Done.{Done};
 ghost use Rattle.ranges.specs.Fit.{Fit};
 use quotas::in_turn;
@@ -62,7 +62,7 @@ fn leg_records(
 ) -> usize
     requires { ⌜ s .count ≤ 6 ⌝ }
     requires { ⌜ Room (now space) n (joinN (legRecordAt e (s .legs) q prices) (s .count)) ⌝ }
-    ensures { λ m. ⌜ Wrote (now (space .entry)) (now (space .exit)) n m (joinN (legRecordAt e (s .legs) q prices) (s .count)) ⌝ }
+    ensures { λ m. ⌜ Appended (now (space .entry)) (now (space .exit)) n m (joinN (legRecordAt e (s .legs) q prices) (s .count)) ⌝ }
 {
     let legs = s.legs;
     let count = s.count as usize;
@@ -88,7 +88,7 @@ pub fn party_records(
 ) -> usize
     requires { ⌜ s .count ≤ 6 ⌝ }
     requires { ⌜ Room (now space) n (partyRecords e s q level prices) ⌝ }
-    ensures { λ m. ⌜ Wrote (now (space .entry)) (now (space .exit)) n m (partyRecords e s q level prices) ⌝ }
+    ensures { λ m. ⌜ Appended (now (space .entry)) (now (space .exit)) n m (partyRecords e s q level prices) ⌝ }
 {
     let r = whole_record(e, q, level);
     let m = push(space, n, r);
@@ -126,7 +126,7 @@ fn fill_records(
 ) -> usize
     requires { ⌜ s .count ≤ 6 ⌝ }
     requires { ⌜ Room (now space) n (partyRecords e s q level noPrices ++ partyRecords f s q level noPrices) ⌝ }
-    ensures { λ m. ⌜ Wrote (now (space .entry)) (now (space .exit)) n m (partyRecords e s q level noPrices ++ partyRecords f s q level noPrices) ⌝ }
+    ensures { λ m. ⌜ Appended (now (space .entry)) (now (space .exit)) n m (partyRecords e s q level noPrices ++ partyRecords f s q level noPrices) ⌝ }
 {
     let prices: [u32; 6] = [0; 6];
     let m = party_records(space, n, e, s, q, level, prices);

@@ -57,9 +57,9 @@ unfoldable pub spaceOf : Event → List ℕ → List ℕ
 spaceOf e sp = pick (fitting e) (pick (ltb (length sp) (lengthIn e)) sp (frameOf e ++ drop (lengthIn e) sp)) sp
 
 -- the number that writing answers: "the frame's length", or the refusal's
-abbrev pub numberOf : Written → ℕ
-numberOf (W.Length n) = n
-numberOf (W.Refused n) = n
+abbrev pub writtenNumber : Written → ℕ
+writtenNumber (W.Length n) = n
+writtenNumber (W.Refused n) = n
 
 -- what the writer's contract says
 pub record Wrote (e : Event) (sp sq : List ℕ) (r : Written) : Type 0 where

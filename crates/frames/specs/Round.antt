@@ -13,7 +13,7 @@ use Rattle.base.specs.Pick.{pick, pick-all}
 use Rattle.events.specs.Fields.{width, bias, rawOf, layout, presentOf, offset, offset-room, fit-at}
 use Rattle.events.specs.Kinds.{codeOf, lengthOf}
 use Rattle.events.specs.Table.{count, layoutOf}
-use Rattle.events.specs.Rows.{kindIn, rowOf, eventOf, layoutIn, fitting, lengthIn, answerOf}
+use Rattle.events.specs.Rows.{kindIn, rowOf, eventOf, layoutIn, fitting, lengthIn, readingNumber}
 use Rattle.events.specs.Laws.{Sound, field-is, exact, field-same, length-same, first-field, count-le, short-in, four-in}
 use Rattle.events.specs.Cases.{event-row, length-row-of, kind-code, code-lt, kindRead, rowRead, kind-back, answer-event, event-is, code-kind, value-raw, raw-value}
 use Rattle.frames.specs.Number.{number, bytes, Bytes, length-bytes, number-bytes, bytes-number, number-le}
@@ -212,10 +212,10 @@ judge-event f z =
 
 -- 0 where the reader gives an event, its refusal where it refuses
 
-pub judge-reads : (f : List ℕ) → judgeOf f ≡ answerOf (readOf f)
+pub judge-reads : (f : List ℕ) → judgeOf f ≡ readingNumber (readOf f)
 judge-reads f = by (eqb (judgeOf f) 0) refl
   where
-    by : (t : Bool) → eqb (judgeOf f) 0 ≡ t → judgeOf f ≡ answerOf (readOf f)
+    by : (t : Bool) → eqb (judgeOf f) 0 ≡ t → judgeOf f ≡ readingNumber (readOf f)
     by true h =
         let z : judgeOf f ≡ 0 = eqb-true _ _ h in
         let w = judged f z .whole in

@@ -13,18 +13,18 @@ use Rattle.rules.specs.declared.State.{State}
 use Rattle.rules.specs.State.{noLeg, entryAt, strategyOf}
 use Rattle.rules.specs.Nets.{netOf, unitsOf}
 use Rattle.rules.specs.Fills.{legQuotas, orderRows, cutOrders, orderRecords, cutStep, cutByLegs, takeLegs, legFill}
-use Rattle.records.specs.Space.{Wrote, wrote-first, wrote-next}
+use Rattle.records.specs.Space.{Appended, wrote-first, wrote-next}
 use Rattle.nets.specs.declared.LegPrices.{LegPrices}
 use Rattle.nets.specs.Nets.{legPrices}
 
 -- one leg: its records are written, and its quotas taken from the rows
 pub record OneLeg (sp sq : List ℤ) (n m : ℕ) (rows rest os : List LegOrder) (side q price : ℕ) (l : Leg) : Type 0 where
-  pub wrote : Wrote sp sq n m (joinN (orderRows os (legQuotas os side (l .ratio * q) price l) price) 32)
+  pub wrote : Appended sp sq n m (joinN (orderRows os (legQuotas os side (l .ratio * q) price l) price) 32)
   pub left : rest ≡ cutOrders rows (legQuotas os side (l .ratio * q) price l)
 
 -- the first k legs
 pub record AllLegs (sp sq : List ℤ) (n m : ℕ) (rows os : List LegOrder) (side q : ℕ) (legs : List Leg) (ps : List ℕ) (k : ℕ) : Type 0 where
-  pub wrote : Wrote sp sq n m (joinN (orderRecords os side q legs ps) k)
+  pub wrote : Appended sp sq n m (joinN (orderRecords os side q legs ps) k)
   pub left : rows ≡ cutByLegs os side q legs ps k
 
 -- laws

@@ -4,7 +4,7 @@ ghost use Prim.Native.Nat.{_+_, _*_, _-_, _<_, _≤_};
 ghost use Rattle.base.specs.Walks.{joinN};
 ghost use Rattle.rules.specs.Nets.{netOf};
 ghost use Rattle.rules.specs.Fills.{legQuotas, orderRows, orderRecords, cutOrders, takeLegs, legFill};
-ghost use Rattle.records.specs.Space.{Wrote, Room};
+ghost use Rattle.records.specs.Space.{Appended, Room};
 ghost use Rattle.records.specs.Done.{Done};
 ghost use Rattle.ranges.specs.Fit.{FitLegs, Fit};
 ghost use Rattle.legging.specs.Legging.{OneLeg, AllLegs};
@@ -43,7 +43,7 @@ fn leg_quotas(os: [LegOrder; 32], side: u8, c: u32, price: u32, l: Leg) -> [u32;
 // The leg orders' records of one leg, by number.
 fn order_rows(space: &mut [i32], n: usize, os: [LegOrder; 32], qs: [u32; 32], price: u32) -> usize
     requires { ⌜ Room (now space) n (joinN (orderRows os qs price) 32) ⌝ }
-    ensures { λ m. ⌜ Wrote (now (space .entry)) (now (space .exit)) n m (joinN (orderRows os qs price) 32) ⌝ }
+    ensures { λ m. ⌜ Appended (now (space .entry)) (now (space .exit)) n m (joinN (orderRows os qs price) 32) ⌝ }
 {
     let mut m = n;
     let mut i: usize = 0;

@@ -7,7 +7,7 @@ use Rattle.frames.specs.Number.{number}
 use Rattle.rules.specs.Step.{answerNumber, answerValue, answerCount}
 use Rattle.rules.specs.declared.Answer.the-variants.{Accepted, Refused}
 use Rattle.lines.specs.Cuts.{toldLength, cutOf}
-use Rattle.lines.specs.Lines.{digits, decimal, signed, spaced, lineOf, eventLine}
+use Rattle.lines.specs.Lines.{digits, decimal, signed, spaced, textLine, eventLine}
 
 -- 0, 1024 and -94
 zero-text : decimal 0 ≡ 48 ∷ []
@@ -24,19 +24,19 @@ below-text = refl
 
 -- `E 5 0 3 5`
 event-text : eventLine 5 (Accepted 3 5) ≡ 69 ∷ (32 ∷ (53 ∷ (32 ∷ (48 ∷ (32 ∷ (51 ∷ (32 ∷ (53 ∷ (10 ∷ [])))))))))
-unfolding eventLine answerNumber answerValue answerCount lineOf spaced signed decimal digits pick
+unfolding eventLine answerNumber answerValue answerCount textLine spaced signed decimal digits pick
 event-text = refl
 
 -- `E 6 2 0 0`
 refusal-text : eventLine 6 (Refused 2) ≡ 69 ∷ (32 ∷ (54 ∷ (32 ∷ (50 ∷ (32 ∷ (48 ∷ (32 ∷ (48 ∷ (10 ∷ [])))))))))
-unfolding eventLine answerNumber answerValue answerCount lineOf spaced signed decimal digits pick
+unfolding eventLine answerNumber answerValue answerCount textLine spaced signed decimal digits pick
 refusal-text = refl
 
 -- `R 2 1 0 1 2 300`
 record-text :
-    lineOf 82 (pos 2 ∷ (pos 1 ∷ (pos 0 ∷ (pos 1 ∷ (pos 2 ∷ (pos 300 ∷ []))))))
+    textLine 82 (pos 2 ∷ (pos 1 ∷ (pos 0 ∷ (pos 1 ∷ (pos 2 ∷ (pos 300 ∷ []))))))
     ≡ 82 ∷ (32 ∷ (50 ∷ (32 ∷ (49 ∷ (32 ∷ (48 ∷ (32 ∷ (49 ∷ (32 ∷ (50 ∷ (32 ∷ (51 ∷ (48 ∷ (48 ∷ (10 ∷ [])))))))))))))))
-unfolding lineOf spaced signed decimal digits pick
+unfolding textLine spaced signed decimal digits pick
 record-text = refl
 
 -- a whole frame, a lone last byte, a length under 4, and one past the end

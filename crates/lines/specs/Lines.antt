@@ -7,8 +7,7 @@ use lib.ListN.{take, drop}
 use Rattle.base.specs.Pick.{pick}
 use Rattle.rules.specs.declared.Answer.{Answer}
 use Rattle.rules.specs.declared.Record.{Record}
-use Rattle.rules.specs.Records.{numbersOf}
-use Rattle.rules.specs.Records.{lineOf as numbered}
+use Rattle.rules.specs.Records.{lineOf, numbersOf}
 use Rattle.rules.specs.Step.{Outcome, answerOf, answerNumber, answerValue, answerCount}
 
 -- the digits of a number, the highest first, at most n and one of them
@@ -31,27 +30,27 @@ spaced [] = []
 spaced (z ∷ zs) = (32 ∷ signed z) ++ spaced zs
 
 -- a letter, the numbers, the end of the line
-unfoldable pub lineOf : ℕ → List ℤ → List ℕ
-lineOf letter zs = letter ∷ (spaced zs ++ (10 ∷ []))
+unfoldable pub textLine : ℕ → List ℤ → List ℕ
+textLine letter zs = letter ∷ (spaced zs ++ (10 ∷ []))
 
 -- "`E` index answer value count"; "A refusal prints value and count 0."
 unfoldable pub eventLine : ℕ → Answer → List ℕ
-eventLine index a = lineOf 69 (pos index ∷ (pos (answerNumber a) ∷ (pos (answerValue a) ∷ (pos (answerCount a) ∷ []))))
+eventLine index a = textLine 69 (pos index ∷ (pos (answerNumber a) ∷ (pos (answerValue a) ∷ (pos (answerCount a) ∷ []))))
 
 -- the lines of the first n records of a space
 unfoldable pub recordLines : ℕ → List ℤ → List ℕ
 recordLines zero s = []
-recordLines (suc n) s = recordLines n s ++ lineOf 82 (take 6 (drop (n * 6) s))
+recordLines (suc n) s = recordLines n s ++ textLine 82 (take 6 (drop (n * 6) s))
 
 -- what is printed of an event: its line, and the lines of its records
 unfoldable pub eventText : ℕ → Answer → List ℤ → List ℕ
 eventText index a s = eventLine index a ++ recordLines (answerCount a) s
 
 -- the lines of records
-unfoldable pub linesOf : List Record → List ℕ
-linesOf [] = []
-linesOf (r ∷ rs) = lineOf 82 (numbersOf (numbered r)) ++ linesOf rs
+unfoldable pub recordTexts : List Record → List ℕ
+recordTexts [] = []
+recordTexts (r ∷ rs) = textLine 82 (numbersOf (lineOf r)) ++ recordTexts rs
 
 -- what is printed of an event with this outcome: its line, and its records, as many as its count says
 unfoldable pub outcomeText : ℕ → Outcome → List ℕ
-outcomeText index o = eventLine index (answerOf o) ++ linesOf (take (answerCount (answerOf o)) (o .moved .records))
+outcomeText index o = eventLine index (answerOf o) ++ recordTexts (take (answerCount (answerOf o)) (o .moved .records))

@@ -16,7 +16,7 @@ use Rattle.base.specs.Pick.{pick, pick-by, pick-true, pick-false}
 use Rattle.rules.specs.declared.Answer.{Answer}
 use Rattle.rules.specs.declared.Answer.the-variants.{Accepted, Refused}
 use Rattle.rules.specs.Step.{answerNumber, answerValue, answerCount}
-use Rattle.lines.specs.Lines.{digits, decimal, signed, spaced, lineOf, recordLines, eventLine, eventText}
+use Rattle.lines.specs.Lines.{digits, decimal, signed, spaced, textLine, recordLines, eventLine, eventText}
 
 -- the text t was put at place a: the space s became q, the next place is m
 pub record Put (s q : List ℕ) (a m : ℕ) (t : List ℕ) : Type 0 where
@@ -124,8 +124,8 @@ pub put-event-line :
     {s q r u v w x : List ℕ} {a b c d e f g : ℕ} (i j k n : ℕ) →
     Put s q a b (69 ∷ []) → Within 21 q r b c (32 ∷ signed (pos i)) → Within 21 r u c d (32 ∷ signed (pos j)) →
     Within 21 u v d e (32 ∷ signed (pos k)) → Within 21 v w e f (32 ∷ signed (pos n)) → Put w x f g (10 ∷ []) →
-    Within 86 s x a g (lineOf 69 (pos i ∷ (pos j ∷ (pos k ∷ (pos n ∷ [])))))
-unfolding lineOf spaced
+    Within 86 s x a g (textLine 69 (pos i ∷ (pos j ∷ (pos k ∷ (pos n ∷ [])))))
+unfolding textLine spaced
 put-event-line i j k n p q r t u v =
     record {
       put = put-then p (put-then (put-then (q .put) (put-then (r .put) (put-then (t .put) (put-then (u .put) (put-nil _ _))))) v);
@@ -163,8 +163,8 @@ writing-done zs {j} w h = let e : j ≡ 6 = omega (arith, w .some) in record { p
 
 pub put-record-line :
     (zs : List ℤ) {s q r u : List ℕ} {a b c d : ℕ} →
-    Put s q a b (82 ∷ []) → Within 72 q r b c (spaced zs) → Put r u c d (10 ∷ []) → Within 74 s u a d (lineOf 82 zs)
-unfolding lineOf
+    Put s q a b (82 ∷ []) → Within 72 q r b c (spaced zs) → Put r u c d (10 ∷ []) → Within 74 s u a d (textLine 82 zs)
+unfolding textLine
 put-record-line zs p q r = record { put = put-then p (put-then (q .put) r); few = omega (arith, p .next, q .few, r .next) }
 
 -- the lines of the first i records of a space
@@ -177,7 +177,7 @@ unfolding recordLines
 listing-first sp s a = record { put = put-nil s a; few = omega arith }
 
 pub listing-next :
-    (sp : List ℤ) {s q r : List ℕ} {a m k i : ℕ} → Listing sp s q a m i → Within 74 q r m k (lineOf 82 (take 6 (drop (i * 6) sp))) → Listing sp s r a k (i + 1)
+    (sp : List ℤ) {s q r : List ℕ} {a m k i : ℕ} → Listing sp s q a m i → Within 74 q r m k (textLine 82 (take 6 (drop (i * 6) sp))) → Listing sp s r a k (i + 1)
 unfolding recordLines
 listing-next sp {i} l x = record { put = rw (add-one i) (put-then (l .put) (x .put)); few = omega (arith, l .few, x .few) }
 
@@ -190,13 +190,13 @@ count-accepted e = ap answerCount e
 
 pub put-accepted :
     (i : ℕ) (sp : List ℤ) {x : Answer} {v n : ℕ} → x ≡ Accepted v n → {s q r : List ℕ} {a m k : ℕ} →
-    Within 86 s q a m (lineOf 69 (pos i ∷ (pos 0 ∷ (pos v ∷ (pos n ∷ []))))) → Within (74 * n) q r m k (recordLines n sp) →
+    Within 86 s q a m (textLine 69 (pos i ∷ (pos 0 ∷ (pos v ∷ (pos n ∷ []))))) → Within (74 * n) q r m k (recordLines n sp) →
     Within (86 + 74 * answerCount x) s r a k (eventText i x sp)
 unfolding eventText eventLine answerNumber answerValue answerCount
 put-accepted i sp e p q = rw e (record { put = put-then (p .put) (q .put); few = omega (arith, p .few, q .few) })
 
 pub put-refused :
     (i : ℕ) (sp : List ℤ) {x : Answer} {v : ℕ} → x ≡ Refused v → {s q : List ℕ} {a m : ℕ} →
-    Within 86 s q a m (lineOf 69 (pos i ∷ (pos v ∷ (pos 0 ∷ (pos 0 ∷ []))))) → Within (86 + 74 * answerCount x) s q a m (eventText i x sp)
+    Within 86 s q a m (textLine 69 (pos i ∷ (pos v ∷ (pos 0 ∷ (pos 0 ∷ []))))) → Within (86 + 74 * answerCount x) s q a m (eventText i x sp)
 unfolding eventText eventLine answerNumber answerValue answerCount recordLines
 put-refused i sp e p = rw e (record { put = put-then (p .put) (put-nil _ _); few = omega (arith, p .few) })

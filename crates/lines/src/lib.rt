@@ -5,7 +5,7 @@ ghost use mathlib.Core.List.{[], _∷_};
 ghost use lib.IntN.{pos, natAbs};
 ghost use lib.ListN.{length, take, drop};
 ghost use Rattle.rules.specs.Step.{answerCount};
-ghost use Rattle.lines.specs.Lines.{decimal, signed, spaced, lineOf, recordLines, eventText};
+ghost use Rattle.lines.specs.Lines.{decimal, signed, spaced, textLine, recordLines, eventText};
 ghost use Rattle.lines.specs.Cuts.{toldLength, neededOf, cutOf};
 ghost use Rattle.lines.specs.Puts.{Put, Within};
 use rules::Answer;
@@ -116,7 +116,7 @@ fn put_event_line(
     count: usize,
 ) -> usize
     requires { ⌜ at + 86 ≤ length (now out) ⌝ }
-    ensures { λ m. ⌜ Within 86 (now (out .entry)) (now (out .exit)) at m (lineOf 69 (pos index ∷ (pos answer ∷ (pos value ∷ (pos count ∷ []))))) ⌝ }
+    ensures { λ m. ⌜ Within 86 (now (out .entry)) (now (out .exit)) at m (textLine 69 (pos index ∷ (pos answer ∷ (pos value ∷ (pos count ∷ []))))) ⌝ }
 {
     let a = put_byte(out, at, b'E');
     let b = put_number(out, a, index);
@@ -145,7 +145,7 @@ fn put_numbers(out: &mut [u8], at: usize, space: &[i32], i: usize) -> usize
 fn put_record_line(out: &mut [u8], at: usize, space: &[i32], i: usize) -> usize
     requires { ⌜ at + 74 ≤ length (now out) ⌝ }
     requires { ⌜ i * 6 + 6 ≤ length (now space) ⌝ }
-    ensures { λ m. ⌜ Within 74 (now (out .entry)) (now (out .exit)) at m (lineOf 82 (take 6 (drop (i * 6) (now (space .entry))))) ⌝ }
+    ensures { λ m. ⌜ Within 74 (now (out .entry)) (now (out .exit)) at m (textLine 82 (take 6 (drop (i * 6) (now (space .entry))))) ⌝ }
 {
     let a = put_byte(out, at, b'R');
     let b = put_numbers(out, a, space, i);

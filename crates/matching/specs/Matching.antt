@@ -44,8 +44,8 @@ abbrev pub bestNext : List Entry → ℕ → ℕ → ℕ → ℕ → ℕ
 bestNext es k side i best = pick (aheadOf k side (getD es i noEntry) best (getD es best noEntry .level)) i best
 
 -- the best slot by the entries
-unfoldable pub bestOf : List Entry → ℕ → ℕ → ℕ
-bestOf es k side = walk (bestNext es k side) 32 32
+unfoldable pub bestEntry : List Entry → ℕ → ℕ → ℕ
+bestEntry es k side = walk (bestNext es k side) 32 32
 
 -- whether two entries meet
 unfoldable pub meet : List Entry → ℕ → ℕ → Bool
@@ -128,12 +128,12 @@ pub meet-slots : (es : List Entry) (x y : ℕ) → meet es x y ≡ true → (x <
 unfolding meet
 meet-slots es x y e = let p = pick-yes _ e in (ltb-true _ _ (p .0), ltb-true _ _ (pick-yes _ (p .1) .0))
 
-best-is : (b : State) (k side : ℕ) → bestOf (b .entries) k side ≡ bestSlot b k side
-unfolding bestOf bestSlot aheadOf ahead
+best-is : (b : State) (k side : ℕ) → bestEntry (b .entries) k side ≡ bestSlot b k side
+unfolding bestEntry bestSlot aheadOf ahead
 best-is b k side = refl
 
 -- one match by the slots that the code has found
-module _ (k i : ℕ) (b : State) {x y : ℕ} (p : x ≡ bestOf (b .entries) k 0) (q : y ≡ bestOf (b .entries) k 1) where
+module _ (k i : ℕ) (b : State) {x y : ℕ} (p : x ≡ bestEntry (b .entries) k 0) (q : y ≡ bestEntry (b .entries) k 1) where
   pub match-none : meet (b .entries) x y ≡ false → matchOnce k i b ≡ still b
   unfolding matchOnce pick meet crossed
   match-none e = rw (← best-is b k 0, ← best-is b k 1, ← p, ← q, e)

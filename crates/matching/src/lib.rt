@@ -9,7 +9,7 @@ ghost use Rattle.rules.specs.Auctions.{dayOrder, legPass, legPasses, matchAll, 
 ghost use Rattle.records.specs.Space.{Room};
 ghost use Rattle.records.specs.Done.{Done};
 ghost use Rattle.ranges.specs.Fit.{Fit};
-ghost use Rattle.matching.specs.Matching.{passesLegs, aheadOf, bestOf, meet, matched};
+ghost use Rattle.matching.specs.Matching.{passesLegs, aheadOf, bestEntry, meet, matched};
 use auctions::live_in;
 use endings::holds;
 use fills::whole_fill;
@@ -132,7 +132,7 @@ fn ahead(k: usize, side: u8, e: Entry, best: usize, level: u32) -> bool
 
 // The slot of the best entry of a side, by price, then number; 32 where there is none.
 fn best_slot(es: [Entry; 32], k: usize, side: u8) -> usize
-    ensures { λ r. ⌜ r ≡ bestOf es k side ⌝ }
+    ensures { λ r. ⌜ r ≡ bestEntry es k side ⌝ }
 {
     let mut best: usize = 32;
     let mut level: u32 = 0;

@@ -17,7 +17,7 @@ use Rattle.rules.specs.declared.Turn.{Turn}
 use Rattle.rules.specs.declared.Turn.the-variants.{Stop, ByLegs, AtLimit}
 use Rattle.rules.specs.State.{entryAt, strategyOf}
 use Rattle.rules.specs.Moves.{still, each}
-use Rattle.rules.specs.Passes.{bestOpposite, opposite, ready, readyNet, turnAt, turnOf, take, turn, pass}
+use Rattle.rules.specs.Passes.{bestOpposite, opposite, ready, readyNet, turnAt, turnOf, takeTurn, turn, pass}
 use Rattle.rules.proofs.Control.{each-kept, turn-kept, shrinks-kept}
 use Rattle.rules.proofs.Turns.{idle}
 use Rattle.records.specs.Done.{Done}
@@ -70,8 +70,8 @@ turn-empty e x net z = sym (pick-true _ _ _ (eq-eqb _ _ z))
 pub fit-turns : (way : Allocation) (legs : Bool) (a i : ℕ) (b : State) {c : State} {sp sq : List ℤ} {n m : ℕ} → Fit b → Done sp sq n m c (each (turn way legs a) i b) → Fit c
 fit-turns way legs a i b f d = fit-done d (each-kept shrinks-kept (turn way legs a) (turn-kept shrinks-kept way legs a) i b (f .orderRows)) f
 
-stop-still : (way : Allocation) (a : ℕ) (b : State) (t : Turn) → stopsAt t ≡ true → take way a t b ≡ still b
-unfolding stopsAt take
+stop-still : (way : Allocation) (a : ℕ) (b : State) (t : Turn) → stopsAt t ≡ true → takeTurn way a t b ≡ still b
+unfolding stopsAt takeTurn
 stop-still way a b Stop e = refl
 stop-still way a b ByLegs e = absurd (let z : _≡_ {A = ℕ} 0 1 = cc in omega arith)
 stop-still way a b (AtLimit level) e = absurd (let z : _≡_ {A = ℕ} 0 1 = cc in omega arith)

@@ -3,7 +3,7 @@ ghost use mathlib.Core.Path.{_≡_};
 ghost use Prim.Native.Nat.{_+_, _-_, _<_};
 ghost use Rattle.base.specs.All.{All};
 ghost use Rattle.rules.specs.Valid.{FitOrder};
-ghost use Rattle.rules.specs.Passes.{legsFirst, turnAt, meetLimit, take, pass};
+ghost use Rattle.rules.specs.Passes.{legsFirst, turnAt, meetLimit, takeTurn, pass};
 ghost use Rattle.records.specs.Space.{Room};
 ghost use Rattle.records.specs.Done.{Done};
 ghost use Rattle.ranges.specs.Fit.{FitLegs, Fit};
@@ -113,10 +113,10 @@ fn meet_limit(way: Allocation, b: State, a: usize, level: u32, space: &mut [i32]
     }
 }
 
-fn take(way: Allocation, b: State, a: usize, t: Turn, space: &mut [i32], n: usize) -> After
+fn take_turn(way: Allocation, b: State, a: usize, t: Turn, space: &mut [i32], n: usize) -> After
     requires { ⌜ (a < 32) × Fit b ⌝ }
-    requires { ⌜ Room (now space) n (take way a t b .records) ⌝ }
-    ensures { λ r. ⌜ Done (now (space .entry)) (now (space .exit)) n (r .count) (r .state) (take way a t b) ⌝ }
+    requires { ⌜ Room (now space) n (takeTurn way a t b .records) ⌝ }
+    ensures { λ r. ⌜ Done (now (space .entry)) (now (space .exit)) n (r .count) (r .state) (takeTurn way a t b) ⌝ }
 {
     match t {
         Turn::Stop => After { state: b, count: n },
@@ -164,7 +164,7 @@ pub fn pass(way: Allocation, legs: bool, b: State, a: usize, space: &mut [i32], 
         if stops(t) {
             return After { state: c, count: m };
         }
-        let r = take(way, c, a, t, space, m);
+        let r = take_turn(way, c, a, t, space, m);
         c = r.state;
         m = r.count;
         i += 1;

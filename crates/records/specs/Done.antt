@@ -12,11 +12,11 @@ use Rattle.rules.specs.declared.State.{State}
 use Rattle.rules.specs.Moves.{Moved, still, and-then, each}
 use Rattle.base.specs.All.{All, all-first, all-rest}
 use Rattle.base.specs.Walks.{below}
-use Rattle.records.specs.Space.{Small, Wrote, Room, wrote-nil, wrote-append, wrote-length, room-first, room-next}
+use Rattle.records.specs.Space.{Small, Appended, Room, wrote-nil, wrote-append, wrote-length, room-first, room-next}
 
 -- A function that follows a rule x: from place n of the space sp it wrote the rule's records, up to place m, and ends in its book.
 pub record Done (sp sq : List ℤ) (n m : ℕ) (b : State) (x : Moved) : Type 0 where
-  pub wrote : Wrote sp sq n m (x .records)
+  pub wrote : Appended sp sq n m (x .records)
   pub state : b ≡ x .state
 
 -- laws

@@ -31,7 +31,7 @@ unfoldable pub laid : List ℤ → ℕ → List Record → List ℤ
 laid s n rs = sets s (n * 6) (numbers rs)
 
 -- rs were written from place n on: the space s became t, the next place is m
-pub record Wrote (s t : List ℤ) (n m : ℕ) (rs : List Record) : Type 0 where
+pub record Appended (s t : List ℤ) (n m : ℕ) (rs : List Record) : Type 0 where
   pub count : m ≡ n + length rs
   pub space : t ≡ laid s n rs
 
@@ -127,23 +127,23 @@ laid-append s n rs qs =
     let e : (n + length rs) * 6 ≡ n * 6 + length (numbers rs) = omega (arith, length-numbers rs) in
     rw (e, numbers-append) (sym (sets-append s (n * 6) (numbers rs) (numbers qs)))
 
-pub wrote-nil : (s : List ℤ) (n : ℕ) → Wrote s s n n []
+pub wrote-nil : (s : List ℤ) (n : ℕ) → Appended s s n n []
 unfolding laid numbers
 wrote-nil s n = record { count = sym (add-zero n); space = refl }
 
-pub wrote-append : {s t u : List ℤ} {n m k : ℕ} {rs qs : List Record} → Wrote s t n m rs → Wrote t u m k qs → Wrote s u n k (rs ++ qs)
+pub wrote-append : {s t u : List ℤ} {n m k : ℕ} {rs qs : List Record} → Appended s t n m rs → Appended t u m k qs → Appended s u n k (rs ++ qs)
 wrote-append {s} {t} {u} {n} {m} {k} {rs} {qs} a b =
     record { count = rw length-append (omega arith); space = cc (a .space, b .space, a .count, laid-append s n rs qs) }
 
-pub wrote-length : {s t : List ℤ} {n m : ℕ} {rs : List Record} → Wrote s t n m rs → length t ≡ length s
+pub wrote-length : {s t : List ℤ} {n m : ℕ} {rs : List Record} → Appended s t n m rs → length t ≡ length s
 wrote-length {s} {t} {n} {m} {rs} w = ap length (w .space) ∙ length-laid s n rs
 
 -- a walk that writes records: none yet, and one slot more
-pub wrote-first : (s : List ℤ) (n : ℕ) (f : ℕ → List Record) → Wrote s s n n (joinN f 0)
+pub wrote-first : (s : List ℤ) (n : ℕ) (f : ℕ → List Record) → Appended s s n n (joinN f 0)
 unfolding joinN
 wrote-first s n f = wrote-nil s n
 
-pub wrote-next : (f : ℕ → List Record) (i : ℕ) {s t u : List ℤ} {n m k : ℕ} → Wrote s t n m (joinN f i) → Wrote t u m k (f i) → Wrote s u n k (joinN f (i + 1))
+pub wrote-next : (f : ℕ → List Record) (i : ℕ) {s t u : List ℤ} {n m k : ℕ} → Appended s t n m (joinN f i) → Appended t u m k (f i) → Appended s u n k (joinN f (i + 1))
 unfolding joinN
 wrote-next f i a b = rw (add-one i) (wrote-append a b)
 
@@ -151,7 +151,7 @@ wrote-next f i a b = rw (add-one i) (wrote-append a b)
 pub room-first : (rs qs : List Record) {s : List ℤ} {n : ℕ} → Room s n (rs ++ qs) → Room s n rs
 room-first rs qs r = record { count = omega (arith, r .count, length-append rs qs); space = r .space; small = all-first rs qs (r .small) }
 
-pub room-next : (rs qs : List Record) {s t : List ℤ} {n m : ℕ} → Room s n (rs ++ qs) → Wrote s t n m rs → Room t m qs
+pub room-next : (rs qs : List Record) {s t : List ℤ} {n m : ℕ} → Room s n (rs ++ qs) → Appended s t n m rs → Room t m qs
 room-next rs qs r w =
     record { count = omega (arith, r .count, w .count, length-append rs qs); space = omega (arith, r .space, wrote-length w); small = all-rest rs qs (r .small) }
 
@@ -161,7 +161,7 @@ join-rise f i zero = rw zero-add (omega arith)
 join-rise f i (suc j) = let h = join-rise f i j in rw (suc-add, length-append) (omega arith)
 
 -- room for all slots is room for the next one
-pub room-row : (f : ℕ → List Record) (k i : ℕ) {s t : List ℤ} {n m : ℕ} → Room s n (joinN f k) → i < k → Wrote s t n m (joinN f i) → Room t m (f i)
+pub room-row : (f : ℕ → List Record) (k i : ℕ) {s t : List ℤ} {n m : ℕ} → Room s n (joinN f k) → i < k → Appended s t n m (joinN f i) → Room t m (f i)
 unfolding joinN
 room-row f k i r h w =
     let q : k ≡ k - suc i + suc i = omega arith in

@@ -4,7 +4,7 @@ ghost use mathlib.Core.List.{[], _∷_};
 ghost use Prim.Native.Nat.{_+_, _*_, _-_, _<_, min};
 ghost use Rattle.rules.specs.Records.{kindNumber, cents};
 ghost use Rattle.rules.specs.State.{withOrders};
-ghost use Rattle.records.specs.Space.{Wrote, Room};
+ghost use Rattle.records.specs.Space.{Appended, Room};
 use rules::Entry;
 use rules::Kind;
 use rules::LegOrder;
@@ -43,7 +43,7 @@ fn cents(level: u32) -> i32
 // One record at place n of the space, counted in records; answers the next place.
 pub fn push(space: &mut [i32], n: usize, r: Record) -> usize
     requires { ⌜ Room (now space) n (r ∷ []) ⌝ }
-    ensures { λ m. ⌜ Wrote (now (space .entry)) (now (space .exit)) n m (r ∷ []) ⌝ }
+    ensures { λ m. ⌜ Appended (now (space .entry)) (now (space .exit)) n m (r ∷ []) ⌝ }
 {
     let k = r.kind;
     let kind = kind_number(k);

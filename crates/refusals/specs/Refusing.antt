@@ -14,22 +14,22 @@ use Rattle.rules.specs.declared.LegOrder.{LegOrder}
 use Rattle.rules.specs.declared.State.{State}
 use Rattle.rules.specs.State.{noOrder}
 use Rattle.rules.specs.Events.{live, liveOrder, freeOrderSlot}
-use Rattle.rules.specs.Refusals.{Cause, _if_, first, isOrderOf, orderAtIs, legOrderAtIs, notFound, isLegOrder, legOrdersFull}
+use Rattle.rules.specs.Refusals.{Cause, _if_, firstCause, isOrderOf, orderAtIs, legOrderAtIs, notFound, isLegOrder, legOrdersFull}
 use Rattle.rules.proofs.Tables.{keep-length, sum-tally}
 use Rattle.auctions.specs.Auctions.{Passed}
 
 -- the first cause by what the calls answer: one that applies, one that does not, and the last of those that do not
 module _ (n : ℕ) {r t : Bool} where
-  pub cause-here : (cs : List Cause) → r ≡ t → r ≡ true → n ≡ first ((n if t) ∷ cs)
-  unfolding first
+  pub cause-here : (cs : List Cause) → r ≡ t → r ≡ true → n ≡ firstCause ((n if t) ∷ cs)
+  unfolding firstCause
   cause-here cs a e = sym (pick-true t _ _ (told a e))
 
-  pub cause-next : (cs : List Cause) {m : ℕ} → r ≡ t → r ≡ false → m ≡ first cs → m ≡ first ((n if t) ∷ cs)
-  unfolding first
-  cause-next cs a e p = rw (pick-false t n (first cs) (told a e)) p
+  pub cause-next : (cs : List Cause) {m : ℕ} → r ≡ t → r ≡ false → m ≡ firstCause cs → m ≡ firstCause ((n if t) ∷ cs)
+  unfolding firstCause
+  cause-next cs a e p = rw (pick-false t n (firstCause cs) (told a e)) p
 
-  pub cause-last : r ≡ t → r ≡ false → 0 ≡ first ((n if t) ∷ [])
-  unfolding first
+  pub cause-last : r ≡ t → r ≡ false → 0 ≡ firstCause ((n if t) ∷ [])
+  unfolding firstCause
   cause-last a e = cause-next [] a e refl
 
 -- a refusal by the facts of the branches: `search cause` at a return

@@ -6,7 +6,7 @@ ghost use lib.Dec.{eqb};
 ghost use Rattle.base.specs.Pick.{pick};
 ghost use Rattle.events.specs.declared.Event.the-variants as E;
 ghost use Rattle.rules.specs.Auctions.{running};
-ghost use Rattle.rules.specs.Refusals.{first, causes, undefined, notOpen, isOrderOf, isLegOrderOf, notFound, isStarter, unanswerable, ordersFull, sweepsFull, legOrdersFull, replaces, removesNone, noRoom, numbersOut, sweepNumbersOut};
+ghost use Rattle.rules.specs.Refusals.{firstCause, causes, undefined, notOpen, isOrderOf, isLegOrderOf, notFound, isStarter, unanswerable, ordersFull, sweepsFull, legOrdersFull, replaces, removesNone, noRoom, numbersOut, sweepNumbersOut};
 ghost use Rattle.rules.specs.Fits.{FitOrderGiven, FitSweepGiven, FitLegOrderGiven};
 use closing::is_open;
 use endings::running;
@@ -143,7 +143,7 @@ fn leg_orders_full(b: State) -> bool
 // The refusal of a complex order.
 pub fn order_refusal(b: State, e: events::Order) -> u32
     requires { ⌜ FitOrderGiven e ⌝ }
-    ensures { λ r. ⌜ r ≡ first (causes b (E.Order e)) ⌝ }
+    ensures { λ r. ⌜ r ≡ firstCause (causes b (E.Order e)) ⌝ }
 {
     if undefined(b, e.strategy) {
         return 4;
@@ -211,7 +211,7 @@ fn sweep_numbers_out(b: State, e: events::Sweep) -> bool
 // The refusal of a sweep.
 pub fn sweep_refusal(b: State, e: events::Sweep) -> u32
     requires { ⌜ FitSweepGiven e × (b .last < 4294967295) ⌝ }
-    ensures { λ r. ⌜ r ≡ first (causes b (E.Sweep e)) ⌝ }
+    ensures { λ r. ⌜ r ≡ firstCause (causes b (E.Sweep e)) ⌝ }
 {
     if undefined(b, e.strategy) {
         return 4;
@@ -234,7 +234,7 @@ pub fn sweep_refusal(b: State, e: events::Sweep) -> u32
 // The refusal of a leg order.
 pub fn leg_order_refusal(b: State, e: events::LegOrder) -> u32
     requires { ⌜ FitLegOrderGiven e ⌝ }
-    ensures { λ r. ⌜ r ≡ first (causes b (E.LegOrder e)) ⌝ }
+    ensures { λ r. ⌜ r ≡ firstCause (causes b (E.LegOrder e)) ⌝ }
 {
     if not_open(b, e.series as u8) {
         return 6;
@@ -250,7 +250,7 @@ pub fn leg_order_refusal(b: State, e: events::LegOrder) -> u32
 
 // The refusal of a cancel.
 pub fn cancel_refusal(b: State, e: events::Cancel) -> u32
-    ensures { λ r. ⌜ r ≡ first (causes b (E.Cancel e)) ⌝ }
+    ensures { λ r. ⌜ r ≡ firstCause (causes b (E.Cancel e)) ⌝ }
 {
     if not_found(b, e.member, e.number) {
         return 7;
@@ -263,7 +263,7 @@ pub fn cancel_refusal(b: State, e: events::Cancel) -> u32
 
 // The refusal of a clock.
 pub fn clock_refusal(b: State, e: events::Clock) -> u32
-    ensures { λ r. ⌜ r ≡ first (causes b (E.Clock e)) ⌝ }
+    ensures { λ r. ⌜ r ≡ firstCause (causes b (E.Clock e)) ⌝ }
 {
     if e.time < b.clock {
         return 11;

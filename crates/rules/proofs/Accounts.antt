@@ -21,7 +21,7 @@ use Rattle.rules.specs.Moves.{Moved, still}
 use Rattle.rules.specs.Sides.{other, legSide, meets}
 use Rattle.rules.specs.Fills.{wholeRecord, legRecord, legRecordAt, partyRecords, cut, cutLeg, noPrices, orderRecord, wholeFill, legTrade, cancelRecord, cancelLegRecord, cancelEntry, cancelOrder}
 use Rattle.rules.specs.Auctions.{putAuction, begin, close, answer, starterSlot}
-use Rattle.rules.specs.Totals.{when}
+use Rattle.rules.specs.Totals.{ifSame}
 use Rattle.rules.proofs.Shrinks.{shrinks-trans, cut-shrinks, cutLeg-shrinks, auction-shrinks, begin-shrinks, close-shrinks}
 use Rattle.rules.proofs.Gives.{Opposed, opposed, cut-at, cut-other, cutLeg-at, cutLeg-other}
 use Rattle.rules.proofs.Control.{Proper, proper-apart, Trading, trading-apart, Standing, meets-standing, meets-price, meets-self}
@@ -39,29 +39,29 @@ past-order b n i h = List·getD-eq-default (b .orders) noOrder {n = i} (omega ar
 -- the quantity of a number in a table whose row i has become x, with q less of its quantity
 cut-number : {A : Type 0} (number quantity : A → ℕ) {old new : ℕ → A} {i q : ℕ} {x none : A} → ((j : ℕ) → j ≢ i → new j ≡ old j) → new i ≡ x → number x ≡ number (old i) → quantity x ≡ quantity (old i) - q →
     (32 ≤ i → old i ≡ none) → quantity none ≡ 0 → q ≤ quantity (old i) → (n : ℕ) →
-    sumN (λ (j : ℕ). when (number (old j)) n (quantity (old j))) 32 ≡ when (number (old i)) n q + sumN (λ (j : ℕ). when (number (new j)) n (quantity (new j))) 32
+    sumN (λ (j : ℕ). ifSame (number (old j)) n (quantity (old j))) 32 ≡ ifSame (number (old i)) n q + sumN (λ (j : ℕ). ifSame (number (new j)) n (quantity (new j))) 32
 cut-number {A} number quantity {old} {new} {i} {q} same is named less past empty h n =
-    let w : A → ℕ = λ (y : A). when (number y) n (quantity y) in
+    let w : A → ℕ = λ (y : A). ifSame (number y) n (quantity y) in
     let f : ℕ → ℕ = λ (j : ℕ). w (new j) in
     let g : ℕ → ℕ = λ (j : ℕ). w (old j) in
     let other : (j : ℕ) → (j ≡ i → ⊥) → f j ≡ g j = λ j z. ap w (same j z) in
-    let mine : f i ≡ when (number (old i)) n (quantity (old i) - q) = rw (is, named, less) in
+    let mine : f i ≡ ifSame (number (old i)) n (quantity (old i) - q) = rw (is, named, less) in
     ⊎-elim
     (λ (l : i < 32). omega (arith, sum-at f g 32 i l other, mine, pick-sub (eqb (number (old i)) n) (quantity (old i)) q h))
     (λ (l : 32 ≤ i).
     let z : quantity (old i) ≡ 0 = rw (past l) empty in
-    let y : when (number (old i)) n q ≡ 0 = rw (let k : q ≡ 0 = omega arith in k) (pick-none (eqb (number (old i)) n)) in
+    let y : ifSame (number (old i)) n q ≡ 0 = rw (let k : q ≡ 0 = omega arith in k) (pick-none (eqb (number (old i)) n)) in
     omega (arith, sum-same f g 32 (λ j m. other j (λ (k : j ≡ i). omega arith))))
     (lt-or-le i 32)
 
-pub cut-units : (b : State) → length (b .entries) ≡ 32 → (i q n : ℕ) → q ≤ entryAt b i .units → size (ofUnits n) b ≡ when (entryAt b i .number) n q + size (ofUnits n) (cut b i q)
+pub cut-units : (b : State) → length (b .entries) ≡ 32 → (i q n : ℕ) → q ≤ entryAt b i .units → size (ofUnits n) b ≡ ifSame (entryAt b i .number) n q + size (ofUnits n) (cut b i q)
 cut-units b r i q n h = cut-number (λ (e : Entry). e .number) (λ (e : Entry). e .units) (cut-other b i q) (cut-at b i q) refl refl (past-entry b r i) refl h n
 
 pub cut-contracts : (b : State) (i q n : ℕ) → size (ofContracts n) (cut b i q) ≡ size (ofContracts n) b
 unfolding cut withEntries
 cut-contracts b i q n = refl
 
-pub cutLeg-contracts : (b : State) → length (b .orders) ≡ 32 → (i q n : ℕ) → q ≤ orderAt b i .contracts → size (ofContracts n) b ≡ when (orderAt b i .number) n q + size (ofContracts n) (cutLeg b i q)
+pub cutLeg-contracts : (b : State) → length (b .orders) ≡ 32 → (i q n : ℕ) → q ≤ orderAt b i .contracts → size (ofContracts n) b ≡ ifSame (orderAt b i .number) n q + size (ofContracts n) (cutLeg b i q)
 cutLeg-contracts b r i q n h = cut-number (λ (o : LegOrder). o .number) (λ (o : LegOrder). o .contracts) (cutLeg-other b i q) (cutLeg-at b i q) refl refl (past-order b r i) refl h n
 
 pub cutLeg-units : (b : State) (i q n : ℕ) → size (ofUnits n) (cutLeg b i q) ≡ size (ofUnits n) b
@@ -83,7 +83,7 @@ pub parts-none : (w : Record → ℕ) (e : Entry) (s : Strategy) (q : ℕ) (ps :
 parts-none w e s q ps z = sum-zero (partAt w e s q ps) (s .count) (λ i l. z (slot ps i) (legAt s i))
 
 -- the leg fills of a number in a series are the ratio for each unit
-pub parts-ratio : (e : Entry) (s : Strategy) (q : ℕ) (ps : List ℕ) (n x r : ℕ) → sumN (partAt (come (ofRatio n x r)) e s q ps) (s .count) ≡ when (e .number) n (ratioFor s x * q)
+pub parts-ratio : (e : Entry) (s : Strategy) (q : ℕ) (ps : List ℕ) (n x r : ℕ) → sumN (partAt (come (ofRatio n x r)) e s q ps) (s .count) ≡ ifSame (e .number) n (ratioFor s x * q)
 unfolding ratioFor
 parts-ratio e s q ps n x r =
     let t : Bool = eqb (e .number) n in
@@ -102,17 +102,17 @@ parts-even e f s q ps x h o g =
     ∙ sum-add (partAt (gone (ofSeries x)) e s q ps) (partAt (gone (ofSeries x)) f s q ps) (s .count)
   where
     one : (l : Leg) → l .side ≤ 1 →
-        when (l .series) x (when (legSide (e .side) l) 0 (l .ratio * q)) + when (l .series) x (when (legSide (f .side) l) 0 (l .ratio * q))
-        ≡ when (l .series) x (when (legSide (e .side) l) 1 (l .ratio * q)) + when (l .series) x (when (legSide (f .side) l) 1 (l .ratio * q))
+        ifSame (l .series) x (ifSame (legSide (e .side) l) 0 (l .ratio * q)) + ifSame (l .series) x (ifSame (legSide (f .side) l) 0 (l .ratio * q))
+        ≡ ifSame (l .series) x (ifSame (legSide (e .side) l) 1 (l .ratio * q)) + ifSame (l .series) x (ifSame (legSide (f .side) l) 1 (l .ratio * q))
     one l k =
         let c : ℕ = l .ratio * q in
         let t : Bool = eqb (l .series) x in
         let y : ℕ = legSide (e .side) l in
         rw (o, leg-other (e .side) l h k)
-        (sym (pick-plus t (when y 0 c) (when (other y) 0 c)) ∙ ap (λ (z : ℕ). pick t z 0) (even y c (leg-side (e .side) l k)) ∙ pick-plus t (when y 1 c) (when (other y) 1 c))
+        (sym (pick-plus t (ifSame y 0 c) (ifSame (other y) 0 c)) ∙ ap (λ (z : ℕ). pick t z 0) (even y c (leg-side (e .side) l k)) ∙ pick-plus t (ifSame y 1 c) (ifSame (other y) 1 c))
 
 -- a fill within its limit is not worse
-pub not-worse : (m n side limit level : ℕ) → (m ≡ n → meets side limit level ≡ true) → when m n (pick (meets side limit level) 0 1) ≡ 0
+pub not-worse : (m n side limit level : ℕ) → (m ≡ n → meets side limit level ≡ true) → ifSame m n (pick (meets side limit level) 0 1) ≡ 0
 not-worse m n side limit level h = when-same m n _ 0 (λ e. pick-true _ _ _ (h e)) ∙ pick-none (eqb m n)
 
 -- WHOLE AGAINST WHOLE
@@ -154,7 +154,7 @@ module _ (b : State) (a h level q : ℕ) (st : Steady b) (p : Proper b a h level
   its : entryAt (cut b a q) h ≡ f
   its = cut-other b a q h (proper-apart p)
 
-  both-units : (n : ℕ) → size (ofUnits n) b ≡ when (e .number) n q + when (f .number) n q + size (ofUnits n) (met .state)
+  both-units : (n : ℕ) → size (ofUnits n) b ≡ ifSame (e .number) n q + ifSame (f .number) n q + size (ofUnits n) (met .state)
   both-units n =
       let r : length (cut b a q .entries) ≡ 32 = cut-shrinks b a q .entryRows ∙ st .entryRows in
       let v = cut-units (cut b a q) r h q n (rw its (p .its)) in
@@ -162,8 +162,8 @@ module _ (b : State) (a h level q : ℕ) (st : Steady b) (p : Proper b a h level
 
   unknown : (n : ℕ) → Good (noEntries n) b → tally (come (noEntries n)) pair ≡ 0
   unknown n g =
-      let x : when (e .number) n 1 ≡ 0 = when-no (e .number) n 1 (g .entry a alive) in
-      let y : when (f .number) n 1 ≡ 0 = when-no (f .number) n 1 (g .entry h its-alive) in
+      let x : ifSame (e .number) n 1 ≡ 0 = when-no (e .number) n 1 (g .entry a alive) in
+      let y : ifSame (f .number) n 1 ≡ 0 = when-no (f .number) n 1 (g .entry h its-alive) in
       omega (
         arith,
         pair-tally (come (noEntries n)),
@@ -171,12 +171,12 @@ module _ (b : State) (a h level q : ℕ) (st : Steady b) (p : Proper b a h level
         sum-zero (partAt (come (noEntries n)) f s q noPrices) (s .count) (λ i l. y),
       )
 
-  own-ratio : (n x r i : ℕ) → Good (ofRatio n x r) b → 0 < entryAt b i .units → entryAt b i .strategy ≡ e .strategy → when (entryAt b i .number) n (ratioFor s x * q) ≡ when (entryAt b i .number) n (r * q)
+  own-ratio : (n x r i : ℕ) → Good (ofRatio n x r) b → 0 < entryAt b i .units → entryAt b i .strategy ≡ e .strategy → ifSame (entryAt b i .number) n (ratioFor s x * q) ≡ ifSame (entryAt b i .number) n (r * q)
   own-ratio n x r i g l same =
       when-same (entryAt b i .number) n _ _ (λ k. ap (λ (y : ℕ). y * q) (ap (λ (j : ℕ). ratioFor (strategyAt b j) x) (sym same) ∙ g .entry i l k))
 
   own-limit : (n side limit i : ℕ) → Good (ofLimit n side limit) b → 0 < entryAt b i .units → meets (entryAt b i .side) (entryAt b i .level) level ≡ true →
-      when (entryAt b i .number) n (pick (meets side limit level) 0 1) ≡ 0
+      ifSame (entryAt b i .number) n (pick (meets side limit level) 0 1) ≡ 0
   own-limit n side limit i g l m =
       not-worse (entryAt b i .number) n side limit level (λ k. rw (← (g .entry i l k .0), ← (g .entry i l k .1)) m)
 
@@ -246,14 +246,14 @@ module _ (b : State) (a h : ℕ) (st : Steady b) (t : Trading b a h) where
   its₂ : orderAt (cutLeg b a c) h ≡ o₂
   its₂ = cutLeg-other b a c h (trading-apart t)
 
-  both-contracts : (n : ℕ) → size (ofContracts n) b ≡ when (o₁ .number) n c + when (o₂ .number) n c + size (ofContracts n) (deal .state)
+  both-contracts : (n : ℕ) → size (ofContracts n) b ≡ ifSame (o₁ .number) n c + ifSame (o₂ .number) n c + size (ofContracts n) (deal .state)
   both-contracts n =
       let r : length (cutLeg b a c .orders) ≡ 32 = cutLeg-shrinks b a c .orderRows ∙ st .orderRows in
       let v = cutLeg-contracts (cutLeg b a c) r h c n (rw its₂ (let z : c ≤ o₂ .contracts = omega arith in z)) in
       omega (arith, cutLeg-contracts b (st .orderRows) a c n (omega arith), rw its₂ at v)
 
   own-price : (n side price i : ℕ) → Good (ofPrice n side price) b → 0 < orderAt b i .contracts → meets (orderAt b i .side) (orderAt b i .price) (o₂ .price) ≡ true →
-      when (orderAt b i .number) n (pick (meets side (10_000_000 + price) (10_000_000 + o₂ .price)) 0 1) ≡ 0
+      ifSame (orderAt b i .number) n (pick (meets side (10_000_000 + price) (10_000_000 + o₂ .price)) 0 1) ≡ 0
   own-price n side price i g l m =
       not-worse (orderAt b i .number) n side (10_000_000 + price) (10_000_000 + o₂ .price)
       (λ k. meets-up side price (o₂ .price) (rw (← (g .order i l k .0), ← (g .order i l k .1)) m))
@@ -268,9 +268,9 @@ module _ (b : State) (a h : ℕ) (st : Steady b) (t : Trading b a h) where
       let k : Bool = eqb (o₁ .series) x in
       let y : ℕ = o₁ .side in
       let flip = even y c (st .orderSide a) in
-      let in₂ : when (o₂ .series) x (when (o₂ .side) 0 c) ≡ pick k (when (other y) 0 c) 0 = rw (standing₂ .inSeries, standing₂ .onSide) in
-      let out : when (o₂ .series) x (when (o₂ .side) 1 c) ≡ pick k (when (other y) 1 c) 0 = rw (standing₂ .inSeries, standing₂ .onSide) in
-      omega (arith, in₂, out, pick-plus k (when y 0 c) (when (other y) 0 c), pick-plus k (when y 1 c) (when (other y) 1 c), ap (λ (z : ℕ). pick k z 0) flip)
+      let in₂ : ifSame (o₂ .series) x (ifSame (o₂ .side) 0 c) ≡ pick k (ifSame (other y) 0 c) 0 = rw (standing₂ .inSeries, standing₂ .onSide) in
+      let out : ifSame (o₂ .series) x (ifSame (o₂ .side) 1 c) ≡ pick k (ifSame (other y) 1 c) 0 = rw (standing₂ .inSeries, standing₂ .onSide) in
+      omega (arith, in₂, out, pick-plus k (ifSame y 0 c) (ifSame (other y) 0 c), pick-plus k (ifSame y 1 c) (ifSame (other y) 1 c), ap (λ (z : ℕ). pick k z 0) flip)
   deal-law ofCash g =
       let flip = even-cash (o₁ .side) (c * (10_000_000 + o₂ .price)) (c * 10_000_000) (st .orderSide a) in
       omega (arith, rw (← (standing₂ .onSide)) at flip)
@@ -339,8 +339,8 @@ module _ (b : State) (st : Steady b) (i : ℕ) where
 pub size-same : (l : Law) (b c : State) → c .entries ≡ b .entries → c .orders ≡ b .orders → size l c ≡ size l b
 size-same l b c h k =
     measure-by (λ (x y z : ℕ). x ≡ y) refl l {w = λ (n : ℕ). 0} {e = λ (n : ℕ). 0}
-    (λ n. ap (λ (es : List Entry). sumN (λ (i : ℕ). when (getD es i noEntry .number) n (getD es i noEntry .units)) 32) h)
-    (λ n. ap (λ (os : List LegOrder). sumN (λ (i : ℕ). when (getD os i noOrder .number) n (getD os i noOrder .contracts)) 32) k)
+    (λ n. ap (λ (es : List Entry). sumN (λ (i : ℕ). ifSame (getD es i noEntry .number) n (getD es i noEntry .units)) 32) h)
+    (λ n. ap (λ (os : List LegOrder). sumN (λ (i : ℕ). ifSame (getD os i noOrder .number) n (getD os i noOrder .contracts)) 32) k)
 
 auction-size : (l : Law) (b : State) (k n t : ℕ) (a : Bool) → size l (putAuction b k n t a) ≡ size l b
 unfolding putAuction withStrategies
@@ -350,8 +350,8 @@ auction-size l b k n t a = size-same l b (putAuction b k n t a) refl refl
 auction-single : (b : State) (k n t : ℕ) (a : Bool) (r : Record) → ((w l f c d : ℕ) → byKind (r .kind) w l f c d ≡ 0) → Single b (putAuction b k n t a) r
 auction-single b k n t a r z = record {
   noFill = λ w l f. z w l f 0 0;
-  units = λ m. omega (arith, auction-size (ofUnits m) b k n t a, z (when (r .number) m (r .quantity)) 0 0 (when (r .number) m (r .quantity)) 0);
-  contracts = λ m. omega (arith, auction-size (ofContracts m) b k n t a, z 0 0 (when (r .number) m (r .quantity)) 0 (when (r .number) m (r .quantity)));
+  units = λ m. omega (arith, auction-size (ofUnits m) b k n t a, z (ifSame (r .number) m (r .quantity)) 0 0 (ifSame (r .number) m (r .quantity)) 0);
+  contracts = λ m. omega (arith, auction-size (ofContracts m) b k n t a, z 0 0 (ifSame (r .number) m (r .quantity)) 0 (ifSame (r .number) m (r .quantity)));
   entries = λ m g. z _ _ _ _ _;
   orders = λ m g. z _ _ _ _ _;
 }

@@ -25,7 +25,7 @@ use Rattle.rules.specs.Sides.{other, meets}
 use Rattle.rules.specs.Nets.{stands, prices, netOf, unitsStep, unitsOf}
 use Rattle.rules.specs.Quotas.{inTurn, share}
 use Rattle.rules.specs.Fills.{wholeFill, legFill, legTrade, cancelEntry, cancelOrder}
-use Rattle.rules.specs.Passes.{opposes, holding, sizes, giveAt, give, giveInTurn, giveGroup, giveShared, meetLimit, ready, readyNet, opposite, legsFirst, turnAt, turnOf, take, turn, pass}
+use Rattle.rules.specs.Passes.{opposes, holding, sizes, giveAt, give, giveInTurn, giveGroup, giveShared, meetLimit, ready, readyNet, opposite, legsFirst, turnAt, turnOf, takeTurn, turn, pass}
 use Rattle.rules.specs.Auctions.{liveIn, begin, close, answer, cancelLapsed, endUnfilled, starterPass, laterPass, endAuction, endDue, endHolding, legPass, legPassesIn, legPasses, ahead, bestStep, bestSlot, crossed, matchOnce, matchAll, matchIn}
 use Rattle.rules.specs.Events.{enter, enterOrder, restOrCancel, waits, trades, arrive, onOrder, meetsOrder, aheadOrder, bestOrderStep, bestOrder, tradeOnce, tradeAll, ifRests, onLegOrder, cancelEntryOf, cancelOrderOf, cancelNumber, onClock, shut, reopen, closeRunning, lowestLive, cancelLowest}
 use Rattle.rules.proofs.Tables.{positive}
@@ -390,8 +390,8 @@ module _ {K : State → Moved → Type 0} (κ : Kept K) where
   meetLimit-kept Numbered a level b m = giveInTurn-kept a level 3 b m
 
   -- passes
-  pub take-kept : (way : Allocation) (a : ℕ) (t : Turn) (b : State) → Fits b a t → K b (take way a t b)
-  unfolding take
+  pub take-kept : (way : Allocation) (a : ℕ) (t : Turn) (b : State) → Fits b a t → K b (takeTurn way a t b)
+  unfolding takeTurn
   take-kept way a Stop b f = κ .nothing b
   take-kept way a ByLegs b f = κ .legs b a f
   take-kept way a (AtLimit level) b f = meetLimit-kept way a level b (f .meets)

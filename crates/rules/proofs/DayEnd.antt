@@ -13,7 +13,7 @@ use Rattle.rules.specs.declared.State.{State}
 use Rattle.rules.specs.State.{entryAt, orderAt}
 use Rattle.rules.specs.Moves.{Moved, still, and-then, each}
 use Rattle.rules.specs.Fills.{cancelEntry, cancelOrder}
-use Rattle.rules.specs.Events.{live, liveOrder, cancelEntryOf, cancelOrderOf, cancelNumber, closeRunning, lower, lowerEntry, lowerOrder, lowestLive, cancelLowest}
+use Rattle.rules.specs.Events.{live, liveOrder, cancelEntryOf, cancelOrderOf, cancelNumber, closeRunning, lowerNumber, lowerEntry, lowerOrder, lowestLive, cancelLowest}
 use Rattle.rules.specs.Valid.{Sound}
 use Rattle.rules.proofs.Tables.{positive}
 use Rattle.rules.proofs.Shrinks.{Shrinks, shrinks-refl, cancel-shrinks, cancelOrder-shrinks, close-shrinks, then-shrinks}
@@ -96,15 +96,15 @@ number-falls n b (an-order i s l e) =
     omega (arith, entries-no-more (number-shrinks n b))
 
 -- THE LOWEST NUMBER THAT IS LIVE
-lower-is : (n m : ℕ) → (lower n m ≡ m) ⊎ ((lower n m ≡ n) × (n ≡ 0 → ⊥))
-unfolding lower
+lower-is : (n m : ℕ) → (lowerNumber n m ≡ m) ⊎ ((lowerNumber n m ≡ n) × (n ≡ 0 → ⊥))
+unfolding lowerNumber
 lower-is n m =
     let P : ℕ → Type 0 = λ (x : ℕ). (x ≡ m) ⊎ ((x ≡ n) × (n ≡ 0 → ⊥)) in
     pick-by P (eqb n 0) (λ _. inl refl) (λ z. let some : ¬ (n ≡ 0) = eqb-false n 0 z in
     pick-all P _ (inr (refl, some)) (⊎-elim (λ (l : m < n). inl (omega arith)) (λ (l : n ≤ m). inr (omega arith, some)) (lt-or-le m n)))
 
-lower-low : (n m : ℕ) → 0 < m → (0 < lower n m) × (lower n m ≤ m) × (0 < n → lower n m ≤ n)
-unfolding lower
+lower-low : (n m : ℕ) → 0 < m → (0 < lowerNumber n m) × (lowerNumber n m ≤ m) × (0 < n → lowerNumber n m ≤ n)
+unfolding lowerNumber
 lower-low n m p =
     let P : ℕ → Type 0 = λ (x : ℕ). (0 < x) × (x ≤ m) × (0 < n → x ≤ n) in
     pick-by P (eqb n 0) (λ z. (p, omega arith, λ h. absurd (omega (arith, eqb-true n 0 z))))
@@ -113,7 +113,7 @@ lower-low n m p =
 
 module _ (ok : ℕ → Bool) (num : ℕ → ℕ) where
   abbrev lows : ℕ → ℕ → ℕ
-  lows i n = pick (ok i) (lower n (num i)) n
+  lows i n = pick (ok i) (lowerNumber n (num i)) n
 
   -- what the walk finds is a number that was there, or there is none
   module _ (Known : ℕ → Type 0) (Before : Type 0) (known : (i : ℕ) → i < 32 → ok i ≡ true → Known (num i)) (start : ℕ) (begun : Known start ⊎ ((start ≡ 0) × Before)) where

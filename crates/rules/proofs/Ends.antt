@@ -21,7 +21,7 @@ use Rattle.rules.specs.Moves.{Moved, and-then, each}
 use Rattle.rules.specs.Sides.{meets, better}
 use Rattle.rules.specs.Nets.{prices, unitsOf}
 use Rattle.rules.specs.Fills.{cut, wholeFill, takeLegs, legFill}
-use Rattle.rules.specs.Passes.{opposes, groupOf, within, holding, sizeAt, sizes, giveAt, give, giveInTurn, giveGroup, giveShared, meetLimit, ready, readyNet, opposite, legsFirst, turnAt, turnOf, take, turn, pass}
+use Rattle.rules.specs.Passes.{opposes, groupOf, within, holding, sizeAt, sizes, giveAt, give, giveInTurn, giveGroup, giveShared, meetLimit, ready, readyNet, opposite, legsFirst, turnAt, turnOf, takeTurn, turn, pass}
 use Rattle.rules.proofs.Tables.{positive}
 use Rattle.rules.proofs.Shrinks.{cut-shrinks}
 use Rattle.rules.proofs.Turns.{each-ends, units-some, Holder, opposite-holder}
@@ -175,9 +175,9 @@ legs-fall a b some e =
 
 -- A TURN THAT DOES NOT STOP FILLS AT LEAST ONE UNIT
 pub turn-fills : (way : Allocation) (legs : Bool) (a i : ℕ) (b : State) → (turnOf way legs a b ≡ Stop → ⊥) → entryAt (turn way legs a i b .state) a .units < entryAt b a .units
-unfolding turnOf turnAt legsFirst take
+unfolding turnOf turnAt legsFirst takeTurn
 turn-fills way legs a i b =
-    let P : Turn → Type 0 = λ (t : Turn). (t ≡ Stop → ⊥) → unitsAt a (take way a t b .state) < unitsAt a b in
+    let P : Turn → Type 0 = λ (t : Turn). (t ≡ Stop → ⊥) → unitsAt a (takeTurn way a t b .state) < unitsAt a b in
     let stop : P Stop = λ go. absurd (go refl) in
     pick-by P _ (λ _. stop) (λ u.
     pick-by P _
@@ -201,10 +201,10 @@ unfolding stopped
 no-stop t e s = clash (ap stopped s) e
 
 pub pass-ends : (way : Allocation) (legs : Bool) (a : ℕ) (b : State) → turnOf way legs a (pass way legs a b .state) ≡ Stop
-unfolding pass take
+unfolding pass takeTurn
 pass-ends way legs a b =
     is-stop _ (each-ends (turn way legs a) (λ (c : State). stopped (turnOf way legs a c)) (unitsAt a)
-    (λ i c e. ap (λ (t : Turn). take way a t c) (is-stop _ e)) (λ i c e. turn-fills way legs a i c (no-stop _ e)) (unitsAt a b) b (omega arith))
+    (λ i c e. ap (λ (t : Turn). takeTurn way a t c) (is-stop _ e)) (λ i c e. turn-fills way legs a i c (no-stop _ e)) (unitsAt a b) b (omega arith))
 
 -- "Stop when neither meets its limit": neither the best opposite limit nor the ready leg net, where there are such
 pub record Neither (e : Entry) (x net : ℕ) : Type 0 where

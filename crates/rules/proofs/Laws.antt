@@ -23,7 +23,7 @@ use Rattle.rules.specs.State.{entryAt, orderAt, strategyAt, legAt}
 use Rattle.rules.specs.Moves.{Moved, still, and-then}
 use Rattle.rules.specs.Sides.{other, legSide, meets}
 use Rattle.rules.specs.Lookups.{unitsOfNumber, contractsOfNumber}
-use Rattle.rules.specs.Totals.{when}
+use Rattle.rules.specs.Totals.{ifSame}
 use Rattle.rules.proofs.Tables.{tally, tally-append}
 use Rattle.rules.proofs.Shrinks.{Shrinks, SameEntry, SameOrder, shrinks-refl, shrinks-trans}
 
@@ -71,7 +71,7 @@ onFill k q = byKind k q 0 q 0 0
 
 -- the ratio of a series in a strategy, 0 where it has no leg there
 abbrev pub ratioAt : Strategy → ℕ → ℕ → ℕ
-ratioAt st s i = when (legAt st i .series) s (legAt st i .ratio)
+ratioAt st s i = ifSame (legAt st i .series) s (legAt st i .ratio)
 
 unfoldable pub ratioFor : Strategy → ℕ → ℕ
 ratioFor st s = sumN (ratioAt st s) (st .count)
@@ -120,22 +120,22 @@ size l b = measure l (λ (n : ℕ). sumN (unitsOfNumber b n) 32) (λ (n : ℕ). 
 abbrev pub come : Law → Record → ℕ
 come (ofUnits n) r = 0
 come (ofContracts n) r = 0
-come (noEntries n) r = onComplex (r .kind) (when (r .number) n 1)
-come (noOrders n) r = onLegOrder (r .kind) (when (r .number) n 1)
-come (ofSeries s) r = onLegs (r .kind) (when (r .place) s (when (r .side) 0 (r .quantity)))
-come ofCash r = onFill (r .kind) (when (r .side) 0 (r .quantity * r .level) + when (r .side) 1 (r .quantity * 10_000_000))
-come (ofRatio n s x) r = onPart (r .kind) (when (r .number) n (when (r .place) s (r .quantity)))
-come (ofLimit n side limit) r = onWhole (r .kind) (when (r .number) n (pick (meets side limit (r .level)) 0 1))
-come (ofPrice n side price) r = onTraded (r .kind) (when (r .number) n (pick (meets side (10_000_000 + price) (r .level)) 0 1))
+come (noEntries n) r = onComplex (r .kind) (ifSame (r .number) n 1)
+come (noOrders n) r = onLegOrder (r .kind) (ifSame (r .number) n 1)
+come (ofSeries s) r = onLegs (r .kind) (ifSame (r .place) s (ifSame (r .side) 0 (r .quantity)))
+come ofCash r = onFill (r .kind) (ifSame (r .side) 0 (r .quantity * r .level) + ifSame (r .side) 1 (r .quantity * 10_000_000))
+come (ofRatio n s x) r = onPart (r .kind) (ifSame (r .number) n (ifSame (r .place) s (r .quantity)))
+come (ofLimit n side limit) r = onWhole (r .kind) (ifSame (r .number) n (pick (meets side limit (r .level)) 0 1))
+come (ofPrice n side price) r = onTraded (r .kind) (ifSame (r .number) n (pick (meets side (10_000_000 + price) (r .level)) 0 1))
 
 abbrev pub gone : Law → Record → ℕ
-gone (ofUnits n) r = onUnits (r .kind) (when (r .number) n (r .quantity))
-gone (ofContracts n) r = onLegOrder (r .kind) (when (r .number) n (r .quantity))
+gone (ofUnits n) r = onUnits (r .kind) (ifSame (r .number) n (r .quantity))
+gone (ofContracts n) r = onLegOrder (r .kind) (ifSame (r .number) n (r .quantity))
 gone (noEntries n) r = 0
 gone (noOrders n) r = 0
-gone (ofSeries s) r = onLegs (r .kind) (when (r .place) s (when (r .side) 1 (r .quantity)))
-gone ofCash r = onFill (r .kind) (when (r .side) 0 (r .quantity * 10_000_000) + when (r .side) 1 (r .quantity * r .level))
-gone (ofRatio n s x) r = onWhole (r .kind) (when (r .number) n (x * r .quantity))
+gone (ofSeries s) r = onLegs (r .kind) (ifSame (r .place) s (ifSame (r .side) 1 (r .quantity)))
+gone ofCash r = onFill (r .kind) (ifSame (r .side) 0 (r .quantity * 10_000_000) + ifSame (r .side) 1 (r .quantity * r .level))
+gone (ofRatio n s x) r = onWhole (r .kind) (ifSame (r .number) n (x * r .quantity))
 gone (ofLimit n side limit) r = 0
 gone (ofPrice n side price) r = 0
 
@@ -241,16 +241,16 @@ acct-both b m f h k = record {
 pub pick-none : (t : Bool) → pick {A = ℕ} t 0 0 ≡ 0
 pick-none t = pick-all (λ (x : ℕ). x ≡ 0) t refl refl
 
-pub when-no : (x y q : ℕ) → (x ≡ y → ⊥) → when x y q ≡ 0
+pub when-no : (x y q : ℕ) → (x ≡ y → ⊥) → ifSame x y q ≡ 0
 when-no x y q h = pick-false _ _ _ (ne-eqb x y h)
 
-pub when-yes : (x y q : ℕ) → x ≡ y → when x y q ≡ q
+pub when-yes : (x y q : ℕ) → x ≡ y → ifSame x y q ≡ q
 when-yes x y q h = pick-true _ _ _ (eq-eqb x y h)
 
 -- equal where the test holds
-pub when-same : (x y p q : ℕ) → (x ≡ y → p ≡ q) → when x y p ≡ when x y q
+pub when-same : (x y p q : ℕ) → (x ≡ y → p ≡ q) → ifSame x y p ≡ ifSame x y q
 when-same x y p q h =
-    pick-by (λ (r : ℕ). r ≡ when x y q) (eqb x y)
+    pick-by (λ (r : ℕ). r ≡ ifSame x y q) (eqb x y)
     (λ e. h (eqb-true x y e) ∙ sym (pick-true _ _ _ e)) (λ e. sym (pick-false _ _ _ e))
 
 pub pick-plus : (t : Bool) (p q : ℕ) → pick t (p + q) 0 ≡ pick t p 0 + pick t q 0
@@ -319,11 +319,11 @@ unfolding legSide pick
 leg-other x l h k = ⊎-elim (λ (e : x ≡ 0). rw (e, other-buy)) (λ (e : x ≡ 1). rw (e, other-sell) (sym (other-other (l .side) k))) (side-is x h)
 
 -- what is bought on a side is sold on the other
-pub even : (x c : ℕ) → x ≤ 1 → when x 0 c + when (other x) 0 c ≡ when x 1 c + when (other x) 1 c
+pub even : (x c : ℕ) → x ≤ 1 → ifSame x 0 c + ifSame (other x) 0 c ≡ ifSame x 1 c + ifSame (other x) 1 c
 unfolding pick
 even x c h = ⊎-elim (λ (e : x ≡ 0). rw (e, other-buy) (omega arith)) (λ (e : x ≡ 1). rw (e, other-sell) (omega arith)) (side-is x h)
 
 -- what is paid on a side is received on the other
-pub even-cash : (x u v : ℕ) → x ≤ 1 → when x 0 u + when x 1 v + (when (other x) 0 u + when (other x) 1 v) ≡ when x 0 v + when x 1 u + (when (other x) 0 v + when (other x) 1 u)
+pub even-cash : (x u v : ℕ) → x ≤ 1 → ifSame x 0 u + ifSame x 1 v + (ifSame (other x) 0 u + ifSame (other x) 1 v) ≡ ifSame x 0 v + ifSame x 1 u + (ifSame (other x) 0 v + ifSame (other x) 1 u)
 unfolding pick
 even-cash x u v h = ⊎-elim (λ (e : x ≡ 0). rw (e, other-buy) (omega arith)) (λ (e : x ≡ 1). rw (e, other-sell) (omega arith)) (side-is x h)

@@ -22,7 +22,7 @@ use Rattle.rules.specs.Moves.{Moved}
 use Rattle.rules.specs.Sides.{other, legSide, meets}
 use Rattle.rules.specs.Nets.{stands, lot, lotAt, lots, known, weight, weightAt, weighed, netOf, legUnits, unitsStep, unitsOf}
 use Rattle.rules.specs.Fills.{wholeRecord, legRecord, partyRecords, cutOrder, cut, legQuotas, orderRecord, orderRow, orderRows, cutAt, cutOrders, quotasAt, orderRecords, cutByLegs, takeLegs, legFill}
-use Rattle.rules.specs.Totals.{when}
+use Rattle.rules.specs.Totals.{ifSame}
 use Rattle.rules.proofs.Shrinks.{takeLegs-shrinks}
 use Rattle.rules.proofs.Quotas.{inTurn-under, inTurn-sum}
 use Rattle.rules.proofs.Control.{Standing, standing, meets-self, Legged, pricesFor, unitsFor, legged-mine}
@@ -175,28 +175,28 @@ module _ (os : List LegOrder) (side q : ℕ) (legs : List Leg) (ps : List ℕ) w
   }
 
   -- CONTRACTS of a number: what the records say is what the orders lost
-  legs-contracts : (n k : ℕ) → tally (gone (ofContracts n)) (joinN (orderRecords os side q legs ps) k) ≡ sumN (λ (j : ℕ). when (row j .number) n (lost k j)) 32
+  legs-contracts : (n k : ℕ) → tally (gone (ofContracts n)) (joinN (orderRecords os side q legs ps) k) ≡ sumN (λ (j : ℕ). ifSame (row j .number) n (lost k j)) 32
   legs-contracts n k =
-      let g : ℕ → ℕ → ℕ = λ (i j : ℕ). when (row j .number) n (quota i j) in
+      let g : ℕ → ℕ → ℕ = λ (i j : ℕ). ifSame (row j .number) n (quota i j) in
       legs-tally (gone (ofContracts n)) k
       ∙ sum-same _ (λ (i : ℕ). sumN (g i) 32) k
       (λ i l. sum-same _ (g i) 32 (λ j m. row-by (gone (ofContracts n)) (λ (x : ℕ). x ≡ g i j) i j (λ z. rw z (sym (pick-none (eqb (row j .number) n)))) (λ s d. refl)))
       ∙ sum-swap g k 32
-      ∙ sum-same _ (λ (j : ℕ). when (row j .number) n (lost k j)) 32 (λ j m. sum-pick (eqb (row j .number) n) (λ (i : ℕ). quota i j) k)
+      ∙ sum-same _ (λ (j : ℕ). ifSame (row j .number) n (lost k j)) 32 (λ j m. sum-pick (eqb (row j .number) n) (λ (i : ℕ). quota i j) k)
 
   cut-contracts-legs : (n k : ℕ) → ((j : ℕ) → lost k j ≤ row j .contracts) →
-      sumN (λ (j : ℕ). when (row j .number) n (row j .contracts)) 32
-      ≡ sumN (λ (j : ℕ). when (row j .number) n (lost k j)) 32
-      + sumN (λ (j : ℕ). when (getD (cutByLegs os side q legs ps k) j noOrder .number) n (getD (cutByLegs os side q legs ps k) j noOrder .contracts)) 32
+      sumN (λ (j : ℕ). ifSame (row j .number) n (row j .contracts)) 32
+      ≡ sumN (λ (j : ℕ). ifSame (row j .number) n (lost k j)) 32
+      + sumN (λ (j : ℕ). ifSame (getD (cutByLegs os side q legs ps k) j noOrder .number) n (getD (cutByLegs os side q legs ps k) j noOrder .contracts)) 32
   cut-contracts-legs n k h =
-      let u : ℕ → ℕ = λ (j : ℕ). when (row j .number) n (lost k j) in
-      let v : ℕ → ℕ = λ (j : ℕ). when (row j .number) n (row j .contracts - lost k j) in
-      let x : ℕ → ℕ = λ (j : ℕ). when (getD (cutByLegs os side q legs ps k) j noOrder .number) n (getD (cutByLegs os side q legs ps k) j noOrder .contracts) in
+      let u : ℕ → ℕ = λ (j : ℕ). ifSame (row j .number) n (lost k j) in
+      let v : ℕ → ℕ = λ (j : ℕ). ifSame (row j .number) n (row j .contracts - lost k j) in
+      let x : ℕ → ℕ = λ (j : ℕ). ifSame (getD (cutByLegs os side q legs ps k) j noOrder .number) n (getD (cutByLegs os side q legs ps k) j noOrder .contracts) in
       omega (
         arith,
-        sum-same (λ (j : ℕ). when (row j .number) n (row j .contracts)) (λ (j : ℕ). u j + v j) 32 (λ j l. pick-sub (eqb (row j .number) n) (row j .contracts) (lost k j) (h j)),
+        sum-same (λ (j : ℕ). ifSame (row j .number) n (row j .contracts)) (λ (j : ℕ). u j + v j) 32 (λ j l. pick-sub (eqb (row j .number) n) (row j .contracts) (lost k j) (h j)),
         sum-add u v 32,
-        sum-same x v 32 (λ j l. ap (λ (o : LegOrder). when (o .number) n (o .contracts)) (cut-row k j l)),
+        sum-same x v 32 (λ j l. ap (λ (o : LegOrder). ifSame (o .number) n (o .contracts)) (cut-row k j l)),
       )
 
 -- BOUGHT AND SOLD
@@ -210,7 +210,7 @@ pick-nil t u = ap (λ (x : ℕ). pick t x 0) (pick-none u) ∙ pick-none t
 
 -- the contracts of leg i, where it is of series x and the leg orders' side is w
 abbrev bits : ℕ → Strategy → ℕ → ℕ → ℕ → ℕ → ℕ
-bits side s x w i c = when (legAt s i .series) x (when (other (legSide side (legAt s i))) w c)
+bits side s x w i c = ifSame (legAt s i .series) x (ifSame (other (legSide side (legAt s i))) w c)
 
 module _ (os : List LegOrder) (side q : ℕ) (s : Strategy) (ps : List ℕ) (ready : Ready os side q (s .legs) ps (s .count)) where
   -- what all legs' records weigh
@@ -222,7 +222,7 @@ module _ (os : List LegOrder) (side q : ℕ) (s : Strategy) (ps : List ℕ) (rea
       ∙ sum-same _ (λ (i : ℕ). f i (legAt s i .ratio * q)) (s .count)
       (λ i l. leg-weight os side q (s .legs) ps w (f i) i (z i) (a i) (h i) ∙ ap (f i) (quotas-sum os side q (s .legs) ps (s .count) ready i l))
 
-  side-weight : (x w : ℕ) (f : Record → ℕ) → ((o : LegOrder) (y p : ℕ) → f (orderRecord o y p) ≡ when (o .series) x (when (o .side) w y)) →
+  side-weight : (x w : ℕ) (f : Record → ℕ) → ((o : LegOrder) (y p : ℕ) → f (orderRecord o y p) ≡ ifSame (o .series) x (ifSame (o .side) w y)) →
       tally f (joinN (orderRecords os side q (s .legs) ps) (s .count)) ≡ sumN (λ (i : ℕ). bits side s x w i (legAt s i .ratio * q)) (s .count)
   side-weight x w f h =
       legs-weight f (bits side s x w)
@@ -240,19 +240,19 @@ module _ (os : List LegOrder) (side q : ℕ) (s : Strategy) (ps : List ℕ) (rea
       ∙ sum-add (partAt (gone (ofSeries x)) e s q ps) (λ (i : ℕ). bits side s x 1 i (legAt s i .ratio * q)) (s .count))
     where
       one : (l : Leg) → l .side ≤ 1 →
-          when (l .series) x (when (legSide (e .side) l) 0 (l .ratio * q)) + when (l .series) x (when (other (legSide side l)) 0 (l .ratio * q))
-          ≡ when (l .series) x (when (legSide (e .side) l) 1 (l .ratio * q)) + when (l .series) x (when (other (legSide side l)) 1 (l .ratio * q))
+          ifSame (l .series) x (ifSame (legSide (e .side) l) 0 (l .ratio * q)) + ifSame (l .series) x (ifSame (other (legSide side l)) 0 (l .ratio * q))
+          ≡ ifSame (l .series) x (ifSame (legSide (e .side) l) 1 (l .ratio * q)) + ifSame (l .series) x (ifSame (other (legSide side l)) 1 (l .ratio * q))
       one l h =
           let c : ℕ = l .ratio * q in
           let t : Bool = eqb (l .series) x in
           let y : ℕ = legSide side l in
           rw k
-          (sym (pick-plus t (when y 0 c) (when (other y) 0 c)) ∙ ap (λ (z : ℕ). pick t z 0) (even y c (leg-side side l h)) ∙ pick-plus t (when y 1 c) (when (other y) 1 c))
+          (sym (pick-plus t (ifSame y 0 c) (ifSame (other y) 0 c)) ∙ ap (λ (z : ℕ). pick t z 0) (even y c (leg-side side l h)) ∙ pick-plus t (ifSame y 1 c) (ifSame (other y) 1 c))
 
 -- CASH
 -- what x contracts at u come to on side y, beside v on the other
 abbrev worth : ℕ → ℕ → ℕ → ℕ → ℕ
-worth y u v x = when y 0 (x * u) + when y 1 (x * v)
+worth y u v x = ifSame y 0 (x * u) + ifSame y 1 (x * v)
 
 worth-none : (y u v : ℕ) → worth y u v 0 ≡ 0
 worth-none y u v = rw (zero-mul u, zero-mul v, pick-none (eqb y 0), pick-none (eqb y 1))
@@ -397,7 +397,7 @@ module _ (b : State) (a : ℕ) (st : Steady b) (legged : Legged b a) where
 
   unknown : (n : ℕ) → Good (noEntries n) b → tally (come (noEntries n)) (taken .records) ≡ 0
   unknown n g =
-      let x : when (e .number) n 1 ≡ 0 = when-no (e .number) n 1 (g .entry a (legged .live)) in
+      let x : ifSame (e .number) n 1 ≡ 0 = when-no (e .number) n 1 (g .entry a (legged .live)) in
       omega (
         arith,
         all-tally (come (noEntries n)),

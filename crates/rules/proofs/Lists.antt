@@ -20,8 +20,8 @@ use Rattle.rules.specs.declared.State.{State}
 use Rattle.rules.specs.declared.Record.{Record}
 use Rattle.rules.specs.Moves.{still}
 use Rattle.rules.specs.Given.{orderGiven, sweepGiven, legOrderGiven}
-use Rattle.rules.specs.Refusals.{first, causes, readCauses, tableOf, refusal}
-use Rattle.rules.specs.Step.{Outcome, valueOf, accept, refused, perform, decide, step}
+use Rattle.rules.specs.Refusals.{firstCause, causes, readCauses, tableOf, refusal}
+use Rattle.rules.specs.Step.{Outcome, valueOf, accept, refused, perform, refuseOrPerform, step}
 use Rattle.rules.specs.Records.{lineOf, cents}
 use Rattle.rules.specs.Valid.{Valid}
 use Rattle.rules.specs.Totals.{Sent, Logged, outcome, after, logOf, run, linesOf, Brought, complex, leg, nothing, enters, entersRead, brought}
@@ -39,7 +39,7 @@ done b e = record { answer = 0; value = valueOf b e; moved = accept b e }
 
 pub data Went (b : State) (x : Sent) : Type 0 where
   refusedAs : (n : ℕ) → (n ≡ 0 → ⊥) → outcome b x ≡ refused n b → Went b x
-  acceptedAs : (e : Event) → readOf (x .frame) ≡ R.Event e → first (causes b e) ≡ 0 → outcome b x ≡ done b e → Went b x
+  acceptedAs : (e : Event) → readOf (x .frame) ≡ R.Event e → firstCause (causes b e) ≡ 0 → outcome b x ≡ done b e → Went b x
 
 -- a frame that was refused as it was read is refused
 read-refused : (b : State) (n space : ℕ) → 2 ≤ n → refusal b (R.Refused n) space ≡ 0 → ⊥
@@ -55,11 +55,11 @@ went-accepted b x (R.Event e) p q z h = acceptedAs e p (clear 1 (ltb (x .space) 
 went-accepted b x (R.Refused n) p q z h = absurd (read-refused b n (x .space) (h n refl) z)
 
 outcome-yes : (b : State) (x : Sent) → eqb (refusal b (readOf (x .frame)) (x .space)) 0 ≡ true → outcome b x ≡ perform b (readOf (x .frame))
-unfolding outcome step decide
+unfolding outcome step refuseOrPerform
 outcome-yes b x t = pick-true _ _ _ t
 
 outcome-no : (b : State) (x : Sent) → eqb (refusal b (readOf (x .frame)) (x .space)) 0 ≡ false → outcome b x ≡ refused (refusal b (readOf (x .frame)) (x .space)) b
-unfolding outcome step decide
+unfolding outcome step refuseOrPerform
 outcome-no b x t = pick-false _ _ _ t
 
 pub went : (b : State) (x : Sent) → Went b x

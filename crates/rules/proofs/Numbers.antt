@@ -26,7 +26,7 @@ use Rattle.rules.specs.Fills.{cancelEntry}
 use Rattle.rules.specs.Auctions.{answer}
 use Rattle.rules.specs.Events.{live, liveOrder, enter, enterOrder, onOrder, oldSweep, enterSweep, onSweep, onLegOrder, cancelNumber, onClock, shut, reopen, onSeries}
 use Rattle.rules.specs.Given.{strategyGiven, orderGiven, sweepGiven, legOrderGiven}
-use Rattle.rules.specs.Refusals.{first, causes, undefined}
+use Rattle.rules.specs.Refusals.{firstCause, causes, undefined}
 use Rattle.rules.specs.Step.{accept}
 use Rattle.rules.specs.Records.{cents}
 use Rattle.rules.specs.Valid.{Valid}
@@ -159,7 +159,7 @@ Numbered b (entryRow e) = (e .number ≡ b .last + 1) × (e .strategy < b .defin
 Numbered b (legRow o) = o .number ≡ b .last + 1
 Numbered b noRow = Unit {0}
 
-accept-numbered : (b : State) (e : Event) → first (causes b e) ≡ 0 → Numbered b (rowOf b e)
+accept-numbered : (b : State) (e : Event) → firstCause (causes b e) ≡ 0 → Numbered b (rowOf b e)
 unfolding causes orderGiven sweepGiven legOrderGiven
 accept-numbered b (E.Strategy e) c = tt
 accept-numbered b (E.Order e) c = (refl, known b (e .strategy) (clear 4 (undefined b (e .strategy)) _ (omega arith) c .0))

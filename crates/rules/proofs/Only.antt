@@ -21,7 +21,7 @@ use Rattle.rules.specs.State.{noEntry, entryAt, strategyAt, withEntries,
 use Rattle.rules.specs.Moves.{Moved, and-then, each}
 use Rattle.rules.specs.Quotas.{inTurnAt, inTurn, portion, portionAt, oneOf, sharedAt, share}
 use Rattle.rules.specs.Fills.{cut, cutLeg, wholeFill, takeLegs, legFill, legTrade, cancelEntry, cancelOrder}
-use Rattle.rules.specs.Passes.{opposes, holding, sizeAt, sizes, giveAt, give, giveInTurn, giveGroup, giveShared, meetLimit, turnOf, take, turn, pass}
+use Rattle.rules.specs.Passes.{opposes, holding, sizeAt, sizes, giveAt, give, giveInTurn, giveGroup, giveShared, meetLimit, turnOf, takeTurn, turn, pass}
 use Rattle.rules.specs.Auctions.{liveIn, isNumber, starterSlot, lapses, cancelLapsed, starterPass, later, laterPass, dayOrder, legPass, ahead, bestStep, bestSlot, crossed, matchOnce, matchAll}
 use Rattle.rules.specs.Events.{tradeOnce, tradeAll, cancelOrderOf}
 use Rattle.rules.proofs.Tables.{positive}
@@ -141,8 +141,8 @@ module _ (k : ℕ) where
   meetLimit-only Shared a level b e = giveShared-only a level b e
   meetLimit-only Numbered a level b e = giveInTurn-only a level 3 b e
 
-  take-only : (way : Allocation) (a : ℕ) (t : Turn) (b : State) → length (b .orders) ≡ 32 → entryAt b a .strategy ≡ k → Only k b (take way a t b .state)
-  unfolding take
+  take-only : (way : Allocation) (a : ℕ) (t : Turn) (b : State) → length (b .orders) ≡ 32 → entryAt b a .strategy ≡ k → Only k b (takeTurn way a t b .state)
+  unfolding takeTurn
   take-only way a Stop b n e = only-refl k b
   take-only way a ByLegs b n e = legs-only b a n e
   take-only way a (AtLimit level) b n e = meetLimit-only way a level b e

@@ -21,7 +21,7 @@ use Rattle.rules.specs.State.{noStrategy, fresh, strategyAt, withStrateg
 use Rattle.rules.specs.Moves.{Moved}
 use Rattle.rules.specs.Strategies.{sameLegs, sameAt, numberOf, held, added, define}
 use Rattle.rules.specs.Given.{legsGiven, strategyGiven}
-use Rattle.rules.specs.Refusals.{first, causes, illFormed, strategiesFull}
+use Rattle.rules.specs.Refusals.{firstCause, causes, illFormed, strategiesFull}
 use Rattle.rules.specs.Step.{Outcome, valueOf, accept, refused}
 use Rattle.rules.specs.Valid.{Valid}
 use Rattle.rules.specs.Totals.{Sent, Logged, outcome, after, logOf, run, ratioIn, Answered, Defined, isDayEnd, endsDay, OneDay}
@@ -40,7 +40,7 @@ pub record Gave (b : State) (x : Sent) (e : GivenStrategy) : Type 0 where
   pub value : outcome b x .value ≡ numberOf b (strategyGiven e)
   pub state : next b x ≡ define (strategyGiven e) b
 
-gave-accepted : (b : State) (x : Sent) (e : GivenStrategy) → readOf (x .frame) ≡ R.Event (E.Strategy e) → first (causes b (E.Strategy e)) ≡ 0 → outcome b x ≡ done b (E.Strategy e) → Gave b x e
+gave-accepted : (b : State) (x : Sent) (e : GivenStrategy) → readOf (x .frame) ≡ R.Event (E.Strategy e) → firstCause (causes b (E.Strategy e)) ≡ 0 → outcome b x ≡ done b (E.Strategy e) → Gave b x e
 unfolding causes accept valueOf strategiesFull
 gave-accepted b x e p c q =
     let y = clear 5 (illFormed e) _ (omega arith) c in
@@ -63,7 +63,7 @@ gave b x e p a = go (went b x)
     go (refusedAs n h q) = absurd (no-answer b x n h q a)
     go (acceptedAs f r c q) =
         let s : f ≡ E.Strategy e = cc in
-        gave-accepted b x e p (subst (λ (v : Event). first (causes b v) ≡ 0) s c) (subst (λ (v : Event). outcome b x ≡ done b v) s q)
+        gave-accepted b x e p (subst (λ (v : Event). firstCause (causes b v) ≡ 0) s c) (subst (λ (v : Event). outcome b x ≡ done b v) s q)
 
 -- what it makes of the strategies
 define-held : (t : Strategy) (b : State) → held b t ≡ true → define t b ≡ b

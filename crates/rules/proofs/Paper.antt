@@ -13,7 +13,7 @@ use Rattle.rules.specs.declared.Record.{Record}
 use Rattle.rules.specs.declared.Kind.{Kind}
 use Rattle.rules.specs.declared.Kind.the-variants.{WholeFill, LegFill, LegOrderFill, Cancelled, LegOrderCancelled, AuctionBegun, AuctionEnded}
 use Rattle.rules.specs.Records.{kindNumber, cents, Line, lineOf}
-use Rattle.rules.specs.Totals.{Logged, total, when, ofKind, wholeFilled, legFilled, cancelled, onLeg, contractsOn, inSeries, bought, sold, mentions, isFill, cashOf, cash}
+use Rattle.rules.specs.Totals.{Logged, total, ifSame, ofKind, wholeFilled, legFilled, cancelled, onLeg, contractsOn, tradedIn, bought, sold, mentions, isFill, cashOf, cash}
 use Rattle.rules.proofs.Tables.{tally, tally-plus}
 use Rattle.rules.proofs.Laws.{ofUnits, ofContracts, noEntries, noOrders, ofSeries, ofCash, ofRatio, come, gone, onWhole, onUnits, onComplex, onLegOrder, onPart, onLegs, onFill, pick-none}
 use Rattle.rules.proofs.Levels.{sub-same, sub-pos, sub-plus, sub-times, cents-is}
@@ -68,7 +68,7 @@ written l (r ∷ rs) m = ⊎-elim here (λ k. later (written l rs k)) (List·Mem
 
 -- CHOICES
 -- a record that is of no such number
-when-one : (m n q : ℕ) → when m n 1 ≡ 0 → when m n q ≡ 0
+when-one : (m n q : ℕ) → ifSame m n 1 ≡ 0 → ifSame m n q ≡ 0
 unfolding pick
 when-one m n q = go (eqb m n)
   where
@@ -81,7 +81,7 @@ unfolding pick
 when-swap true u q = refl
 when-swap false u q = sym (pick-none u)
 
-when-times : (m n x q : ℕ) → when m n (x * q) ≡ x * when m n q
+when-times : (m n x q : ℕ) → ifSame m n (x * q) ≡ x * ifSame m n q
 unfolding pick
 when-times m n x q = go (eqb m n)
   where
@@ -95,7 +95,7 @@ met true h = refl
 met false h = absurd (omega arith)
 
 -- KINDS
-units-kind : (k : Kind) (m n q : ℕ) → onLegOrder k (when m n 1) ≡ 0 → when (kindNumber k) 1 (when m n q) + when (kindNumber k) 3 (when m n q) ≡ onUnits k (when m n q)
+units-kind : (k : Kind) (m n q : ℕ) → onLegOrder k (ifSame m n 1) ≡ 0 → ifSame (kindNumber k) 1 (ifSame m n q) + ifSame (kindNumber k) 3 (ifSame m n q) ≡ onUnits k (ifSame m n q)
 unfolding kindNumber pick
 units-kind WholeFill m n q h = omega arith
 units-kind LegFill m n q h = refl
@@ -105,7 +105,7 @@ units-kind LegOrderCancelled m n q h = omega (arith, when-one m n q h)
 units-kind AuctionBegun m n q h = refl
 units-kind AuctionEnded m n q h = refl
 
-contracts-kind : (k : Kind) (m n q : ℕ) → onComplex k (when m n 1) ≡ 0 → when (kindNumber k) 2 (when m n q) + when (kindNumber k) 3 (when m n q) ≡ onLegOrder k (when m n q)
+contracts-kind : (k : Kind) (m n q : ℕ) → onComplex k (ifSame m n 1) ≡ 0 → ifSame (kindNumber k) 2 (ifSame m n q) + ifSame (kindNumber k) 3 (ifSame m n q) ≡ onLegOrder k (ifSame m n q)
 unfolding kindNumber pick
 contracts-kind WholeFill m n q h = refl
 contracts-kind LegFill m n q h = omega (arith, when-one m n q h)
@@ -115,7 +115,7 @@ contracts-kind LegOrderCancelled m n q h = omega arith
 contracts-kind AuctionBegun m n q h = refl
 contracts-kind AuctionEnded m n q h = refl
 
-mentions-kind : (k : Kind) (m n : ℕ) → when m n (pick (leb (kindNumber k) 3) 1 0) ≡ onComplex k (when m n 1) + onLegOrder k (when m n 1)
+mentions-kind : (k : Kind) (m n : ℕ) → ifSame m n (pick (leb (kindNumber k) 3) 1 0) ≡ onComplex k (ifSame m n 1) + onLegOrder k (ifSame m n 1)
 unfolding kindNumber pick
 mentions-kind WholeFill m n = omega arith
 mentions-kind LegFill m n = omega arith
@@ -125,7 +125,7 @@ mentions-kind LegOrderCancelled m n = omega arith
 mentions-kind AuctionBegun m n = pick-none (eqb m n)
 mentions-kind AuctionEnded m n = pick-none (eqb m n)
 
-leg-kind : (k : Kind) (m n p s q : ℕ) → onLegOrder k (when m n 1) ≡ 0 → when p s (when (kindNumber k) 2 (when m n q)) ≡ onPart k (when m n (when p s q))
+leg-kind : (k : Kind) (m n p s q : ℕ) → onLegOrder k (ifSame m n 1) ≡ 0 → ifSame p s (ifSame (kindNumber k) 2 (ifSame m n q)) ≡ onPart k (ifSame m n (ifSame p s q))
 unfolding kindNumber pick
 leg-kind WholeFill m n p s q h = pick-none (eqb p s)
 leg-kind LegFill m n p s q h = when-swap (eqb p s) (eqb m n) q
@@ -135,7 +135,7 @@ leg-kind LegOrderCancelled m n p s q h = pick-none (eqb p s)
 leg-kind AuctionBegun m n p s q h = pick-none (eqb p s)
 leg-kind AuctionEnded m n p s q h = pick-none (eqb p s)
 
-whole-kind : (k : Kind) (m n x q : ℕ) → onWhole k (when m n (x * q)) ≡ x * when (kindNumber k) 1 (when m n q)
+whole-kind : (k : Kind) (m n x q : ℕ) → onWhole k (ifSame m n (x * q)) ≡ x * ifSame (kindNumber k) 1 (ifSame m n q)
 unfolding kindNumber pick
 whole-kind WholeFill m n x q = when-times m n x q
 whole-kind LegFill m n x q = omega arith
@@ -145,7 +145,7 @@ whole-kind LegOrderCancelled m n x q = omega arith
 whole-kind AuctionBegun m n x q = omega arith
 whole-kind AuctionEnded m n x q = omega arith
 
-legs-kind : (k : Kind) (q : ℕ) → when (kindNumber k) 2 q ≡ onLegs k q
+legs-kind : (k : Kind) (q : ℕ) → ifSame (kindNumber k) 2 q ≡ onLegs k q
 unfolding kindNumber pick
 legs-kind WholeFill q = refl
 legs-kind LegFill q = refl
@@ -200,11 +200,11 @@ ratio-lines n s x rs =
     ∙ tally-times x (λ (r : Record). ofKind 1 n (lineOf r)) rs
     ∙ ap (λ (y : ℕ). x * y) (sym (total-lines (ofKind 1 n) rs))
 
-series-lines : (s side : ℕ) (rs : List Record) → total (inSeries s side) (map lineOf rs) ≡ tally (λ (r : Record). onLegs (r .kind) (when (r .place) s (when (r .side) side (r .quantity)))) rs
+series-lines : (s side : ℕ) (rs : List Record) → total (tradedIn s side) (map lineOf rs) ≡ tally (λ (r : Record). onLegs (r .kind) (ifSame (r .place) s (ifSame (r .side) side (r .quantity)))) rs
 unfolding lineOf
 series-lines s side rs =
-    total-lines (inSeries s side) rs
-    ∙ tally-same (λ (r : Record). inSeries s side (lineOf r)) _ (λ r. legs-kind (r .kind) (when (r .place) s (when (r .side) side (r .quantity)))) rs
+    total-lines (tradedIn s side) rs
+    ∙ tally-same (λ (r : Record). tradedIn s side (lineOf r)) _ (λ r. legs-kind (r .kind) (ifSame (r .place) s (ifSame (r .side) side (r .quantity)))) rs
 
 pub bought-lines : (s : ℕ) (rs : List Record) → bought s (map lineOf rs) ≡ tally (come (ofSeries s)) rs
 unfolding bought
@@ -226,10 +226,10 @@ fillKind AuctionBegun = false
 fillKind AuctionEnded = false
 
 abbrev worth : ℕ → Record → ℕ
-worth side r = onFill (r .kind) (when (r .side) side (r .quantity * r .level))
+worth side r = onFill (r .kind) (ifSame (r .side) side (r .quantity * r .level))
 
 abbrev bias : ℕ → Record → ℕ
-bias side r = onFill (r .kind) (when (r .side) side (r .quantity * 10_000_000))
+bias side r = onFill (r .kind) (ifSame (r .side) side (r .quantity * 10_000_000))
 
 side-cash : (t : Bool) (q level : ℕ) → pick t (pos q *ℤ cents level) (pos 0) ≡ subℕ (pick t (q * level) 0) (pick t (q * 10_000_000) 0)
 unfolding pick
@@ -238,7 +238,7 @@ side-cash false q level = sub-pos 0
 
 -- one record's cash
 cash-kind : (k : Kind) (m side q level : ℕ) →
-    pick (fillKind k) (pick (eqb m side) (pos q *ℤ cents level) (pos 0)) (pos 0) ≡ subℕ (onFill k (when m side (q * level))) (onFill k (when m side (q * 10_000_000)))
+    pick (fillKind k) (pick (eqb m side) (pos q *ℤ cents level) (pos 0)) (pos 0) ≡ subℕ (onFill k (ifSame m side (q * level))) (onFill k (ifSame m side (q * 10_000_000)))
 unfolding pick
 cash-kind WholeFill m side q level = side-cash (eqb m side) q level
 cash-kind LegFill m side q level = sub-pos 0
@@ -272,12 +272,12 @@ fill-plus AuctionEnded x y = refl
 
 come-cash : (rs : List Record) → tally (come ofCash) rs ≡ tally (worth 0) rs + tally (bias 1) rs
 come-cash rs =
-    tally-same (come ofCash) (λ (r : Record). worth 0 r + bias 1 r) (λ r. fill-plus (r .kind) (when (r .side) 0 (r .quantity * r .level)) (when (r .side) 1 (r .quantity * 10_000_000))) rs
+    tally-same (come ofCash) (λ (r : Record). worth 0 r + bias 1 r) (λ r. fill-plus (r .kind) (ifSame (r .side) 0 (r .quantity * r .level)) (ifSame (r .side) 1 (r .quantity * 10_000_000))) rs
     ∙ tally-plus (worth 0) (bias 1) rs
 
 gone-cash : (rs : List Record) → tally (gone ofCash) rs ≡ tally (bias 0) rs + tally (worth 1) rs
 gone-cash rs =
-    tally-same (gone ofCash) (λ (r : Record). bias 0 r + worth 1 r) (λ r. fill-plus (r .kind) (when (r .side) 0 (r .quantity * 10_000_000)) (when (r .side) 1 (r .quantity * r .level))) rs
+    tally-same (gone ofCash) (λ (r : Record). bias 0 r + worth 1 r) (λ r. fill-plus (r .kind) (ifSame (r .side) 0 (r .quantity * 10_000_000)) (ifSame (r .side) 1 (r .quantity * r .level))) rs
     ∙ tally-plus (bias 0) (worth 1) rs
 
 pub paid-lines : (log : List Logged) (rs : List Record) → ((r : Record) → List·Memᴰ r rs → isFill log (lineOf r) ≡ fillKind (r .kind)) → tally (come ofCash) rs ≡ tally (gone ofCash) rs →

@@ -24,7 +24,7 @@ use Rattle.rules.specs.Sides.{meets}
 use Rattle.rules.specs.Nets.{prices, unitsOf}
 use Rattle.rules.specs.Quotas.{inTurnAt, inTurn, share}
 use Rattle.rules.specs.Fills.{legFill}
-use Rattle.rules.specs.Passes.{within, holding, sizes, giveAt, give, giveInTurn, giveGroup, giveShared, meetLimit, turnOf, take, turn, pass}
+use Rattle.rules.specs.Passes.{within, holding, sizes, giveAt, give, giveInTurn, giveGroup, giveShared, meetLimit, turnOf, takeTurn, turn, pass}
 use Rattle.rules.proofs.Shrinks.{SameEntry, SameStrategy, Shrinks, shrinks-refl, shrinks-trans, legs-shrinks}
 use Rattle.rules.proofs.Quotas.{sum-table, share-all}
 use Rattle.rules.proofs.Gives.{whole-none, opposed, Quoted, quoted-holder, inTurn-quoted, share-quoted, sizes-at, Given, given-each}
@@ -292,8 +292,8 @@ module _ (b₀ : State) (six : Six b₀) (way : Allocation) (a M : ℕ) (enough 
         );
       }
 
-  take-turned : (t : Turn) (b : State) → Shrinks b₀ b → Fits b a t → Turned sd st a M b (take way a t b)
-  unfolding take
+  take-turned : (t : Turn) (b : State) → Shrinks b₀ b → Fits b a t → Turned sd st a M b (takeTurn way a t b)
+  unfolding takeTurn
   take-turned Stop b h f = turned-nothing sd st a M b
   take-turned ByLegs b h f = legs-turned b h f
   take-turned (AtLimit level) b h f = limit-turned sd st a M way level b (six-shrinks h six) (f .meets) (enough-shrinks way a M h enough)

@@ -24,7 +24,7 @@ use Rattle.rules.specs.Fills.{partyRecords, legRecordAt, noPrices, whole
 use Rattle.rules.specs.Auctions.{begin, close}
 use Rattle.rules.specs.Events.{liveOrder, enter, enterOrder}
 use Rattle.rules.specs.Given.{orderGiven, legOrderGiven}
-use Rattle.rules.specs.Step.{Outcome, refused, perform, decide, step}
+use Rattle.rules.specs.Step.{Outcome, refused, perform, refuseOrPerform, step}
 use Rattle.rules.specs.Valid.{Sound}
 use Rattle.events.specs.declared.Event.{Event}
 use Rattle.events.specs.declared.Event.the-variants as E
@@ -167,6 +167,6 @@ perform-filled b (R.Refused n) r = all-nil
 perform-filled b (R.Event e) r = accept-told positive-kept b e (starts b e r)
 
 pub fills-positive : (b : State) → Sound b → (frame : List ℕ) (space : ℕ) → All Filled (step b frame space .moved .records)
-unfolding step decide refused
+unfolding step refuseOrPerform refused
 fills-positive b s frame space =
     pick-all (λ (o : Outcome). All Filled (o .moved .records)) _ (perform-filled b (readOf frame) (sound-ratios s)) all-nil

@@ -13,7 +13,7 @@ use Rattle.base.specs.Pick.{pick, pick-by, pick-all}
 use Rattle.events.specs.Fields.{low, high, none, layout, presentOf, offset, fitN, fit-at}
 use Rattle.events.specs.Kinds.{lengthOf}
 use Rattle.events.specs.Table.{count, fieldsOf, layoutOf}
-use Rattle.events.specs.Rows.{legAt, eventOf}
+use Rattle.events.specs.Rows.{legFrom, eventOf}
 use Rattle.events.specs.Laws.{first-field}
 use Rattle.events.specs.declared.Field.{Field}
 use Rattle.events.specs.declared.Kind.{Kind}
@@ -46,7 +46,7 @@ module _ (n : ℕ) (v : List ℕ) (t : fitN (layoutOf K.Strategy n) v 19 ≡ tru
   count-in = value-in 0 (omega arith) (omega arith)
 
   abbrev given : GivenStrategy
-  given = record { count = getD v 0 0; legs = (legAt v 1, legAt v 4, legAt v 7, legAt v 10, legAt v 13, legAt v 16) }
+  given = record { count = getD v 0 0; legs = (legFrom v 1, legFrom v 4, legFrom v 7, legFrom v 10, legFrom v 13, legFrom v 16) }
 
   -- the three fields of a leg
   record LegIn (i : ℕ) : Type 0 where
@@ -67,7 +67,7 @@ module _ (n : ℕ) (v : List ℕ) (t : fitN (layoutOf K.Strategy n) v 19 ≡ tru
   value-under : (j : ℕ) → j < 19 → getD v j 0 ≤ high (getD (fieldsOf K.Strategy) j none)
   value-under j h = omega (arith, fit-at (layoutOf K.Strategy n) v 19 j h t .1, field-under n j)
 
-  leg-fit : (j : ℕ) → j < 6 → FitLeg (legGiven (legAt v (1 + 3 * j)))
+  leg-fit : (j : ℕ) → j < 6 → FitLeg (legGiven (legFrom v (1 + 3 * j)))
   leg-fit zero h = record { series = omega (arith, value-under 1 (omega arith)); side = value-under 2 (omega arith); ratio = value-under 3 (omega arith) }
   leg-fit (suc zero) h = record { series = omega (arith, value-under 4 (omega arith)); side = value-under 5 (omega arith); ratio = value-under 6 (omega arith) }
   leg-fit (suc (suc zero)) h = record { series = omega (arith, value-under 7 (omega arith)); side = value-under 8 (omega arith); ratio = value-under 9 (omega arith) }

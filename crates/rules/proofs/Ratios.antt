@@ -17,7 +17,7 @@ use Rattle.rules.specs.declared.Strategy.{Strategy}
 use Rattle.rules.specs.State.{noLeg, legAt}
 use Rattle.rules.specs.Strategies.{ratioOf, seriesOf, divisor, dividedAt, inSeries, placeOf, legsOf, bySeries, padded, defined, repeats, twice, sameLeg, sameLegAt, sameLegs}
 use Rattle.rules.specs.Given.{legsGiven, strategyGiven}
-use Rattle.rules.specs.Totals.{when, ratioIn, ratioAt as ratioGivenAt}
+use Rattle.rules.specs.Totals.{ifSame, ratioIn, ratioAt as ratioGivenAt}
 use Rattle.rules.proofs.Tables.{all-take, tally, sum-tally, tally-join}
 use Rattle.rules.proofs.Strategies.{Definition, lowest, lowest-at, place-same, rows, length-is, padded-at, rows-le}
 use Rattle.rules.proofs.Laws.{ratioAt, ratioFor, pick-none, when-no}
@@ -51,15 +51,15 @@ module _ (f : ℕ → Bool) (r : ℕ → ℕ) (k : ℕ) (once : (i j : ℕ) → 
       (λ t. sum-zero _ k (λ i l. pick-false _ _ _ (hit i l (λ (z : i ≡ firstN f k). omega (arith, ltb-false (firstN f k) k t)))))
 
 -- the term at one number
-sum-diag : (g : ℕ → ℕ) (s k : ℕ) → sumN (λ (i : ℕ). when i s (g i)) k ≡ pick (ltb s k) (g s) 0
+sum-diag : (g : ℕ → ℕ) (s k : ℕ) → sumN (λ (i : ℕ). ifSame i s (g i)) k ≡ pick (ltb s k) (g s) 0
 sum-diag g s k =
-    pick-by (λ (x : ℕ). sumN (λ (i : ℕ). when i s (g i)) k ≡ x) (ltb s k)
-    (λ t. sum-only (λ (i : ℕ). when i s (g i)) k s (ltb-true s k t) (λ j l z. when-no j s (g j) z) ∙ pick-true _ _ _ (eq-eqb s s refl))
+    pick-by (λ (x : ℕ). sumN (λ (i : ℕ). ifSame i s (g i)) k ≡ x) (ltb s k)
+    (λ t. sum-only (λ (i : ℕ). ifSame i s (g i)) k s (ltb-true s k t) (λ j l z. when-no j s (g j) z) ∙ pick-true _ _ _ (eq-eqb s s refl))
     (λ t. sum-zero _ k (λ i l. when-no i s (g i) (λ (z : i ≡ s). omega (arith, ltb-false s k t))))
 
 -- THE RATIO OF A SERIES in a strategy's legs
 abbrev share : ℕ → Leg → ℕ
-share s l = when (l .series) s (l .ratio)
+share s l = ifSame (l .series) s (l .ratio)
 
 module _ (legs : List Leg) (count : ℕ) (def : Definition legs count) (s : ℕ) where
   abbrev low : List Leg
@@ -97,17 +97,17 @@ module _ (legs : List Leg) (count : ℕ) (def : Definition legs count) (s : ℕ)
   unfolding placeOf
   in-place x h = eqb-true _ _ (first-holds (inSeries legs x) count h)
 
-  one-series : (x : ℕ) → tally (share s) (legsOf low count x) ≡ when x s (pick (ltb (place x) count) (ratioOf legs (place x) / divisor legs count) 0)
+  one-series : (x : ℕ) → tally (share s) (legsOf low count x) ≡ ifSame x s (pick (ltb (place x) count) (ratioOf legs (place x) / divisor legs count) 0)
   unfolding tally
   one-series x =
       rw (place-low x)
-      (pick-by (λ (ls : List Leg). tally (share s) ls ≡ when x s (pick (ltb (place x) count) (ratioOf legs (place x) / divisor legs count) 0)) (ltb (place x) count)
+      (pick-by (λ (ls : List Leg). tally (share s) ls ≡ ifSame x s (pick (ltb (place x) count) (ratioOf legs (place x) / divisor legs count) 0)) (ltb (place x) count)
       (λ t.
       let h : place x < count = ltb-true _ _ t in
-      let p : share s (getD low (place x) noLeg) ≡ when x s (ratioOf legs (place x) / divisor legs count) =
-      ap (share s) (low-series x h) ∙ ap (λ (y : ℕ). when y s (ratioOf legs (place x) / divisor legs count)) (in-place x h) in
-      omega (arith, p, ap (λ (y : ℕ). when x s y) (pick-true (ltb (place x) count) (ratioOf legs (place x) / divisor legs count) 0 t)))
-      (λ t. sym (ap (λ (y : ℕ). when x s y) (pick-false (ltb (place x) count) (ratioOf legs (place x) / divisor legs count) 0 t) ∙ pick-none (eqb x s))))
+      let p : share s (getD low (place x) noLeg) ≡ ifSame x s (ratioOf legs (place x) / divisor legs count) =
+      ap (share s) (low-series x h) ∙ ap (λ (y : ℕ). ifSame y s (ratioOf legs (place x) / divisor legs count)) (in-place x h) in
+      omega (arith, p, ap (λ (y : ℕ). ifSame x s y) (pick-true (ltb (place x) count) (ratioOf legs (place x) / divisor legs count) 0 t)))
+      (λ t. sym (ap (λ (y : ℕ). ifSame x s y) (pick-false (ltb (place x) count) (ratioOf legs (place x) / divisor legs count) 0 t) ∙ pick-none (eqb x s))))
 
   -- a series of a leg is one of the 32
   small : pick (ltb s 32) (pick (ltb (place s) count) (ratioOf legs (place s) / divisor legs count) 0) 0 ≡ pick (ltb (place s) count) (ratioOf legs (place s) / divisor legs count) 0
@@ -122,7 +122,7 @@ module _ (legs : List Leg) (count : ℕ) (def : Definition legs count) (s : ℕ)
   unfolding bySeries
   rows-ratio =
       tally-join (share s) (legsOf low count) 32
-      ∙ sum-same _ (λ (x : ℕ). when x s (pick (ltb (place x) count) (ratioOf legs (place x) / divisor legs count) 0)) 32 (λ x l. one-series x)
+      ∙ sum-same _ (λ (x : ℕ). ifSame x s (pick (ltb (place x) count) (ratioOf legs (place x) / divisor legs count) 0)) 32 (λ x l. one-series x)
       ∙ sum-diag (λ (x : ℕ). pick (ltb (place x) count) (ratioOf legs (place x) / divisor legs count) 0) s 32
       ∙ small
       ∙ sym given-ratio
@@ -165,7 +165,7 @@ padded-ratio : (st : Strategy) → Padded st → (s : ℕ) → ratioFor st s ≡
 unfolding ratioFor
 padded-ratio st p s =
     let q : 6 ≡ 6 - st .count + st .count = omega (arith, p .count) in
-    sym (ap (sumN (ratioAt st s)) q ∙ sum-rest (ratioAt st s) (st .count) (6 - st .count) (λ i h. ap (λ (x : ℕ). when (legAt st i .series) s x) (p .past i h) ∙ pick-none (eqb (legAt st i .series) s)))
+    sym (ap (sumN (ratioAt st s)) q ∙ sum-rest (ratioAt st s) (st .count) (6 - st .count) (λ i h. ap (λ (x : ℕ). ifSame (legAt st i .series) s x) (p .past i h) ∙ pick-none (eqb (legAt st i .series) s)))
 
 -- two with the same legs have the same ratios
 leg-same : (s : ℕ) (x y : Leg) → sameLeg x y ≡ true → share s x ≡ share s y
@@ -175,7 +175,7 @@ leg-same s x y h =
     let q = pick-yes (eqb (x .side) (y .side)) (p .1) in
     let a : x .series ≡ y .series = eqb-true _ _ (p .0) in
     let b : x .ratio ≡ y .ratio = eqb-true _ _ (q .1) in
-    ap (λ (z : ℕ). when z s (x .ratio)) a ∙ ap (λ (z : ℕ). when (y .series) s z) b
+    ap (λ (z : ℕ). ifSame z s (x .ratio)) a ∙ ap (λ (z : ℕ). ifSame (y .series) s z) b
 
 pub same-ratios : (st tt : Strategy) → Padded st → Padded tt → sameLegs st tt ≡ true → (s : ℕ) → ratioFor st s ≡ ratioFor tt s
 unfolding sameLegs

@@ -19,8 +19,8 @@ use Rattle.events.specs.declared.Kind.the-variants as K
 use Rattle.frames.specs.Frames.{kindAt, rowAt, judgeOf, readOf}
 use Rattle.rules.specs.declared.State.{State}
 use Rattle.rules.specs.Moves.{still}
-use Rattle.rules.specs.Refusals.{Cause, _if_, first, applies, causes, readCauses, tableOf, refusal}
-use Rattle.rules.specs.Step.{Outcome, perform, refused, decide, step}
+use Rattle.rules.specs.Refusals.{Cause, _if_, firstCause, applies, causes, readCauses, tableOf, refusal}
+use Rattle.rules.specs.Step.{Outcome, perform, refused, refuseOrPerform, step}
 
 -- the numbers rise along a list of causes, from above n on
 abbrev Rising : ℕ → List Cause → Type 0
@@ -35,12 +35,12 @@ applies-past n ((k if c) ∷ cs) r m h =
     pick-false (eqb k m) _ _ (ne-eqb k m (λ e. omega (arith, r .0))) ∙ applies-past k cs (r .1) m (omega (arith, r .0))
 
 -- the answer of a list: a number that applies and that no smaller one precedes, or 0
-pub record Exact (cs : List Cause) (n : ℕ) : Type 0 where
+pub record FirstRefusal (cs : List Cause) (n : ℕ) : Type 0 where
   pub some : (n ≡ 0 → ⊥) → applies cs n ≡ true
   pub smallest : (m : ℕ) → m < n → applies cs m ≡ false
   pub none : n ≡ 0 → (m : ℕ) → applies cs m ≡ false
 
-module _ (n k : ℕ) (cs : List Cause) (above : n < k) (r : Rising k cs) (rest : Exact cs (first cs)) where
+module _ (n k : ℕ) (cs : List Cause) (above : n < k) (r : Rising k cs) (rest : FirstRefusal cs (firstCause cs)) where
   here : (m : ℕ) → m < k → applies ((k if true) ∷ cs) m ≡ false
   unfolding applies
   here m h = pick-false (eqb k m) _ _ (ne-eqb k m (λ e. omega arith)) ∙ applies-past k cs r m (omega arith)
@@ -49,7 +49,7 @@ module _ (n k : ℕ) (cs : List Cause) (above : n < k) (r : Rising k cs) (rest :
   unfolding applies pick
   skip m t e = pick-all (λ (x : Bool). x ≡ t) (eqb k m) e e
 
-  one-more : (c : Bool) → Exact ((k if c) ∷ cs) (pick c k (first cs))
+  one-more : (c : Bool) → FirstRefusal ((k if c) ∷ cs) (pick c k (firstCause cs))
   unfolding pick applies
   one-more true = record {
     some = λ h. pick-true (eqb k k) true _ (eq-eqb k k refl);
@@ -57,13 +57,13 @@ module _ (n k : ℕ) (cs : List Cause) (above : n < k) (r : Rising k cs) (rest :
     none = λ e m. absurd (omega arith);
   }
   one-more false = record {
-    some = λ h. skip (first cs) true (rest .some h);
+    some = λ h. skip (firstCause cs) true (rest .some h);
     smallest = λ m h. skip m false (rest .smallest m h);
     none = λ e m. skip m false (rest .none e m);
   }
 
-first-exact : (n : ℕ) (cs : List Cause) → Rising n cs → Exact cs (first cs)
-unfolding first applies
+first-exact : (n : ℕ) (cs : List Cause) → Rising n cs → FirstRefusal cs (firstCause cs)
+unfolding firstCause applies
 first-exact n [] r = record { some = λ h. absurd (h refl); smallest = λ m h. refl; none = λ e m. refl }
 first-exact n ((k if c) ∷ cs) r = one-more n k cs (r .0) (r .1) (first-exact k cs (r .1)) c
 
@@ -93,7 +93,7 @@ rising-table b (R.Refused n) space h = (omega arith, (omega (arith, h .number n 
 rising-table b (R.Event e) space h = (omega arith, rising-less 3 1 (causes b e) (omega arith) (rising-causes b e))
 
 -- "The smallest number that applies is given .. and never otherwise", for a frame that was read
-table-exact : (b : State) (r : Reading) (space : ℕ) → Read r → Exact (tableOf b r space) (refusal b r space)
+table-exact : (b : State) (r : Reading) (space : ℕ) → Read r → FirstRefusal (tableOf b r space) (refusal b r space)
 unfolding refusal
 table-exact b r space h = first-exact 0 (tableOf b r space) (rising-table b r space h)
 
@@ -126,7 +126,7 @@ reads f = record { number = λ n. pick-by (λ (r : Reading). r ≡ R.Refused n �
 
 -- a frame that was refused as it was read is refused
 refused-some : (b : State) (space n : ℕ) → 2 ≤ n → refusal b (R.Refused n) space ≡ 0 → ⊥
-unfolding refusal tableOf readCauses first
+unfolding refusal tableOf readCauses firstCause
 refused-some b space n l =
     pick-by (λ (x : ℕ). x ≡ 0 → ⊥) (ltb space 15_360) (λ _ e. omega arith)
     (λ _. pick-by (λ (x : ℕ). x ≡ 0 → ⊥) true (λ _ e. omega arith) (λ t _. clash refl t))
@@ -137,19 +137,19 @@ performed b (R.Event e) space h z = refl
 performed b (R.Refused n) space h z = absurd (refused-some b space n (h .number n refl .0) z)
 
 -- the answer is the refusal of the table
-answer-read : (b : State) (r : Reading) (space : ℕ) → Read r → decide b r space .answer ≡ refusal b r space
-unfolding decide refused
+answer-read : (b : State) (r : Reading) (space : ℕ) → Read r → refuseOrPerform b r space .answer ≡ refusal b r space
+unfolding refuseOrPerform refused
 answer-read b r space h =
     pick-by (λ (o : Outcome). o .answer ≡ refusal b r space) (eqb (refusal b r space) 0)
     (λ t. performed b r space h (eqb-true _ _ t) ∙ sym (eqb-true _ _ t)) (λ _. refl)
 
 -- REFUSALS ARE EXACT: for every state, every frame of any bytes and every length of the record space
-pub refusals-exact : (b : State) (frame : List ℕ) (space : ℕ) → Exact (tableOf b (readOf frame) space) (step b frame space .answer)
+pub refusals-exact : (b : State) (frame : List ℕ) (space : ℕ) → FirstRefusal (tableOf b (readOf frame) space) (step b frame space .answer)
 unfolding step
 refusals-exact b frame space = rw (answer-read b (readOf frame) space (reads frame)) (table-exact b (readOf frame) space (reads frame))
 
 -- the number that applies and that no smaller one precedes is the answer
-exact-only : (cs : List Cause) (n m : ℕ) → Exact cs n → (m ≡ 0 → ⊥) → applies cs m ≡ true → ((k : ℕ) → k < m → applies cs k ≡ false) → n ≡ m
+exact-only : (cs : List Cause) (n m : ℕ) → FirstRefusal cs n → (m ≡ 0 → ⊥) → applies cs m ≡ true → ((k : ℕ) → k < m → applies cs k ≡ false) → n ≡ m
 exact-only cs n m x some a least = by (ltb n m) (ltb m n) refl refl
   where
     by : (s t : Bool) → ltb n m ≡ s → ltb m n ≡ t → n ≡ m
@@ -170,8 +170,8 @@ pub refusal-only :
 refusal-only b frame space n = exact-only _ _ n (refusals-exact b frame space)
 
 -- A REFUSED EVENT leaves the state as it was and writes nothing
-refused-read : (b : State) (r : Reading) (space : ℕ) → Read r → (decide b r space .answer ≡ 0 → ⊥) → decide b r space .moved ≡ still b
-unfolding decide refused
+refused-read : (b : State) (r : Reading) (space : ℕ) → Read r → (refuseOrPerform b r space .answer ≡ 0 → ⊥) → refuseOrPerform b r space .moved ≡ still b
+unfolding refuseOrPerform refused
 refused-read b r space h some =
     pick-by (λ (o : Outcome). o .moved ≡ still b) (eqb (refusal b r space) 0)
     (λ t. absurd (some (answer-read b r space h ∙ eqb-true _ _ t))) (λ _. refl)

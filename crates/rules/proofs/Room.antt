@@ -14,7 +14,7 @@ use Rattle.rules.specs.declared.Strategy.{Strategy}
 use Rattle.rules.specs.declared.State.{State}
 use Rattle.rules.specs.State.{noStrategy, strategyAt, legAt}
 use Rattle.rules.specs.Given.{orderGiven, sweepGiven, legOrderGiven}
-use Rattle.rules.specs.Step.{Outcome, accept, perform, refused, decide, step}
+use Rattle.rules.specs.Step.{Outcome, accept, perform, refused, refuseOrPerform, step}
 use Rattle.rules.specs.Valid.{Sound}
 use Rattle.rules.proofs.Load.{Six}
 use Rattle.rules.proofs.Bound.{order-few, sweep-few, leg-few, cancel-few, series-few, clock-few, dayEnd-few}
@@ -47,8 +47,8 @@ unfolding perform refused
 perform-few b (R.Refused n) six = omega arith
 perform-few b (R.Event e) six = accept-few b e six
 
-pub room-read : (b : State) → Sound b → (r : Reading) (space : ℕ) → length (decide b r space .moved .records) ≤ 2560
-unfolding decide refused
+pub room-read : (b : State) → Sound b → (r : Reading) (space : ℕ) → length (refuseOrPerform b r space .moved .records) ≤ 2560
+unfolding refuseOrPerform refused
 room-read b h r space =
     pick-all (λ (o : Outcome). length (o .moved .records) ≤ 2560) _ (perform-few b r (six-sound b h)) (omega arith)
 

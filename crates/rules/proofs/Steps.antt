@@ -25,10 +25,10 @@ use Rattle.rules.specs.Fills.{cancelEntry}
 use Rattle.rules.specs.Auctions.{answer}
 use Rattle.rules.specs.Events.{live, liveOrder, keep, enter, enterOrder, onOrder, oldSweep, enterSweep, onSweep, onLegOrder, cancelNumber, onClock, shut, reopen, onSeries, closeRunning, cancelLowest, restart, onDayEnd, behind}
 use Rattle.rules.specs.Given.{strategyGiven, orderGiven, sweepGiven, legOrderGiven}
-use Rattle.rules.specs.Refusals.{first, causes}
+use Rattle.rules.specs.Refusals.{firstCause, causes}
 use Rattle.rules.specs.Step.{accept}
 use Rattle.rules.specs.Valid.{FitLeg, Sound, Valid}
-use Rattle.rules.specs.Totals.{when}
+use Rattle.rules.specs.Totals.{ifSame}
 use Rattle.rules.proofs.Tables.{sum-tally, behind-tally, behind-live, tally, tally-append, positive}
 use Rattle.rules.proofs.Control.{Kept, each-kept, onOrder-kept, onLegOrder-kept, cancelNumber-kept, onClock-kept, shut-kept, reopen-kept, closeRunning-kept, cancelLowest-kept}
 use Rattle.rules.proofs.Entering.{dead-zero, fit-at, fit-entry-at, fit-order-at, fresh-dead, Entering, enter-room, sound-enter, EnteringOrder, enterOrder-room, sound-enterOrder, none-live, none-order}
@@ -74,10 +74,10 @@ pub data Row : Type 0 where
   noRow : Row
 
 abbrev pub addEntry : Law → Entry → ℕ
-addEntry l e = measure l (λ (n : ℕ). when (e .number) n (e .units)) (λ (n : ℕ). 0)
+addEntry l e = measure l (λ (n : ℕ). ifSame (e .number) n (e .units)) (λ (n : ℕ). 0)
 
 abbrev pub addOrder : Law → LegOrder → ℕ
-addOrder l o = measure l (λ (n : ℕ). 0) (λ (n : ℕ). when (o .number) n (o .contracts))
+addOrder l o = measure l (λ (n : ℕ). 0) (λ (n : ℕ). ifSame (o .number) n (o .contracts))
 
 abbrev pub added : Law → Row → ℕ
 added l (entryRow e) = addEntry l e
@@ -93,16 +93,16 @@ dead-order : (o : LegOrder) → liveOrder o ≡ false → o .contracts ≡ 0
 unfolding liveOrder
 dead-order o h = eqb-true _ 0 (not-false _ h)
 
-when-nil : (x n q : ℕ) → q ≡ 0 → when x n q ≡ 0
+when-nil : (x n q : ℕ) → q ≡ 0 → ifSame x n q ≡ 0
 when-nil x n q e = rw e (pick-none (eqb x n))
 
 -- the quantity of a number in a table in which x stands behind the live rows
 behind-number : {A : Type 0} (test : A → Bool) (none : A) (number quantity : A → ℕ) → test none ≡ false → ((y : A) → test y ≡ false → quantity y ≡ 0) →
     (x : A) (l : List A) → length l ≡ 32 → length (keep test l) < 32 → (n : ℕ) →
-    sumN (λ (i : ℕ). when (number (getD (behind test none x l) i none)) n (quantity (getD (behind test none x l) i none))) 32
-    ≡ sumN (λ (i : ℕ). when (number (getD l i none)) n (quantity (getD l i none))) 32 + when (number x) n (quantity x)
+    sumN (λ (i : ℕ). ifSame (number (getD (behind test none x l) i none)) n (quantity (getD (behind test none x l) i none))) 32
+    ≡ sumN (λ (i : ℕ). ifSame (number (getD l i none)) n (quantity (getD l i none))) 32 + ifSame (number x) n (quantity x)
 behind-number {A} test none number quantity dead zero x l r h n =
-    let w : A → ℕ = λ (y : A). when (number y) n (quantity y) in
+    let w : A → ℕ = λ (y : A). ifSame (number y) n (quantity y) in
     let z : (y : A) → test y ≡ false → w y ≡ 0 = λ y t. when-nil (number y) n (quantity y) (zero y t) in
     behind-tally test none x l w dead z h ∙ ap (λ (k : ℕ). k + w x) (sym (sum-tally w none (z none dead) l 32 (omega arith)))
 
@@ -303,7 +303,7 @@ pub sweep-units : (b : State) (e : GivenSweep) → live (sweepGiven b e) ≡ not
 unfolding sweepGiven live
 sweep-units b e = refl
 
-pub accept-books : (l : Law) (b : State) (e : Event) → Valid b → FitEvent e → first (causes b e) ≡ 0 → FitsRow l b (rowOf b e) → Good l b → Books l b (added l (rowOf b e)) (accept b e)
+pub accept-books : (l : Law) (b : State) (e : Event) → Valid b → FitEvent e → firstCause (causes b e) ≡ 0 → FitsRow l b (rowOf b e) → Good l b → Books l b (added l (rowOf b e)) (accept b e)
 unfolding accept causes
 accept-books l b (E.Strategy e) v f c h g = books-define l b (strategyGiven e) (v .sound) g
 accept-books l b (E.Order e) v f c h g = books-order l b (v .sound) g (orderGiven b e) (order-clear b e (v .sound) f c) h

@@ -19,7 +19,7 @@ use Rattle.rules.specs.Sides.{meets}
 use Rattle.rules.specs.Records.{kindNumber, cents, Line, lineOf}
 use Rattle.rules.specs.Lookups.{liveQuantity}
 use Rattle.rules.specs.Valid.{Valid}
-use Rattle.rules.specs.Totals.{Sent, Logged, outcome, after, logOf, run, linesOf, total, when, wholeFilled, legFilled, cancelled, contractsOn, bought, sold, Terms, Brought, complex, leg, nothing, brought, Came, Unknown, mentions, ratioIn, Answered, Defined, NotWorse, isLeg, isLegNumber, isFill, cash, OneDay, Totals}
+use Rattle.rules.specs.Totals.{Sent, Logged, outcome, after, logOf, run, linesOf, total, ifSame, wholeFilled, legFilled, cancelled, contractsOn, bought, sold, Terms, Brought, complex, leg, nothing, brought, Came, Unknown, mentions, ratioIn, Answered, Defined, NotWorse, isLeg, isLegNumber, isFill, cash, OneDay, Totals}
 use Rattle.rules.proofs.Endings.{or-no}
 use Rattle.rules.proofs.Validity.{valid-fresh}
 use Rattle.rules.proofs.Tables.{tally}
@@ -99,7 +99,7 @@ whole-line AuctionBegun h = absurd (omega arith)
 whole-line AuctionEnded h = absurd (omega arith)
 
 -- a record 2 of a number with no record of a complex order or sweep
-traded-line : (k : Kind) (m : ℕ) → kindNumber k ≡ 2 → onComplex k (when m m 1) ≡ 0 → k ≡ LegOrderFill
+traded-line : (k : Kind) (m : ℕ) → kindNumber k ≡ 2 → onComplex k (ifSame m m 1) ≡ 0 → k ≡ LegOrderFill
 unfolding kindNumber
 traded-line WholeFill m h z = absurd (omega arith)
 traded-line LegFill m h z = absurd (omega (arith, when-yes m m 1 refl))
@@ -189,9 +189,9 @@ module _ (timer : ℕ) (low : 1 ≤ timer) (high : timer ≤ 5000) (xs : List Se
 
     whole-met : (r : Record) → List·Memᴰ r rs → kindNumber (r .kind) ≡ 1 → r .number ≡ w .number → meets (c .entry .side) (c .entry .level) (r .level) ≡ true
     whole-met r there kind number =
-        let z : onWhole (r .kind) (when (r .number) (w .number) (pick (meets (c .entry .side) (c .entry .level) (r .level)) 0 1)) ≡ 0 =
+        let z : onWhole (r .kind) (ifSame (r .number) (w .number) (pick (meets (c .entry .side) (c .entry .level) (r .level)) 0 1)) ≡ 0 =
         tally-mem (come (ofLimit (w .number) (c .entry .side) (c .entry .level))) r rs there limits in
-        let y : when (r .number) (w .number) (pick (meets (c .entry .side) (c .entry .level) (r .level)) 0 1) ≡ 0 = rw (whole-line (r .kind) kind) at z in
+        let y : ifSame (r .number) (w .number) (pick (meets (c .entry .side) (c .entry .level) (r .level)) 0 1) ≡ 0 = rw (whole-line (r .kind) kind) at z in
         met _ (sym (when-yes (r .number) (w .number) _ number) ∙ y)
 
     limit-of : (l : Line) → List·Memᴰ l (linesOf log) → l .kind ≡ 1 → l .number ≡ w .number → NotWorse w l
@@ -224,11 +224,11 @@ module _ (timer : ℕ) (low : 1 ≤ timer) (high : timer ≤ 5000) (xs : List Se
 
     traded-met : (r : Record) → List·Memᴰ r rs → kindNumber (r .kind) ≡ 2 → r .number ≡ w .number → meets (o .order .side) (10_000_000 + o .order .price) (r .level) ≡ true
     traded-met r there kind number =
-        let z : onTraded (r .kind) (when (r .number) (w .number) (pick (meets (o .order .side) (10_000_000 + o .order .price) (r .level)) 0 1)) ≡ 0 =
+        let z : onTraded (r .kind) (ifSame (r .number) (w .number) (pick (meets (o .order .side) (10_000_000 + o .order .price) (r .level)) 0 1)) ≡ 0 =
         tally-mem (come (ofPrice (w .number) (o .order .side) (o .order .price))) r rs there prices in
-        let n : onComplex (r .kind) (when (r .number) (w .number) 1) ≡ 0 = tally-mem (come (noEntries (w .number))) r rs there no-entries in
-        let y : when (r .number) (w .number) (pick (meets (o .order .side) (10_000_000 + o .order .price) (r .level)) 0 1) ≡ 0 =
-        rw (traded-line (r .kind) (r .number) kind (subst (λ (i : ℕ). onComplex (r .kind) (when (r .number) i 1) ≡ 0) (sym number) n)) at z in
+        let n : onComplex (r .kind) (ifSame (r .number) (w .number) 1) ≡ 0 = tally-mem (come (noEntries (w .number))) r rs there no-entries in
+        let y : ifSame (r .number) (w .number) (pick (meets (o .order .side) (10_000_000 + o .order .price) (r .level)) 0 1) ≡ 0 =
+        rw (traded-line (r .kind) (r .number) kind (subst (λ (i : ℕ). onComplex (r .kind) (ifSame (r .number) i 1) ≡ 0) (sym number) n)) at z in
         met _ (sym (when-yes (r .number) (w .number) _ number) ∙ y)
 
     price-of : (l : Line) → List·Memᴰ l (linesOf log) → l .kind ≡ 2 → l .number ≡ w .number → NotWorse w l
@@ -260,16 +260,16 @@ module _ (timer : ℕ) (low : 1 ≤ timer) (high : timer ≤ 5000) (xs : List Se
   part-number n false e r there kind number = refl
   part-number n true e r there kind number =
       let l : LegCame n log = leg-came n log e in
-      let z : onComplex (r .kind) (when (r .number) (l .terms .number) 1) ≡ 0 = tally-mem (come (noEntries (l .terms .number))) r rs there (no-entries (l .terms) (l .came)) in
-      let y : when (r .number) (l .terms .number) 1 ≡ 0 = rw kind at z in
+      let z : onComplex (r .kind) (ifSame (r .number) (l .terms .number) 1) ≡ 0 = tally-mem (come (noEntries (l .terms .number))) r rs there (no-entries (l .terms) (l .came)) in
+      let y : ifSame (r .number) (l .terms .number) 1 ≡ 0 = rw kind at z in
       absurd (omega (arith, when-yes (r .number) (l .terms .number) 1 (number ∙ sym (l .number))))
 
   traded-number : (n : ℕ) (t : Bool) → isLegNumber log n ≡ t → (r : Record) → List·Memᴰ r rs → r .kind ≡ LegOrderFill → r .number ≡ n → t ≡ true
   traded-number n true e r there kind number = refl
   traded-number n false e r there kind number =
       let none : tally (come (noOrders n)) rs ≡ 0 = omega (arith, law-quiet (noOrders n) timer xs v (quiet-legs n (fresh timer) xs e), tally-none rs) in
-      let z : onLegOrder (r .kind) (when (r .number) n 1) ≡ 0 = tally-mem (come (noOrders n)) r rs there none in
-      let y : when (r .number) n 1 ≡ 0 = rw kind at z in
+      let z : onLegOrder (r .kind) (ifSame (r .number) n 1) ≡ 0 = tally-mem (come (noOrders n)) r rs there none in
+      let y : ifSame (r .number) n 1 ≡ 0 = rw kind at z in
       absurd (omega (arith, when-yes (r .number) n 1 number))
 
   fill-by : (r : Record) → List·Memᴰ r rs → (k : Kind) → r .kind ≡ k → pick (eqb (kindNumber k) 1) true (pick (eqb (kindNumber k) 2) (isLegNumber log (r .number)) false) ≡ fillKind k

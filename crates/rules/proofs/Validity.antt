@@ -29,8 +29,8 @@ use Rattle.rules.specs.Strategies.{twice, held, added, define, shutSet}
 use Rattle.rules.specs.Auctions.{liveIn, running, isNumber, starterSlot}
 use Rattle.rules.specs.Events.{live, oldSweep}
 use Rattle.rules.specs.Given.{legsGiven, strategyGiven, orderGiven, sweepGiven, legOrderGiven}
-use Rattle.rules.specs.Refusals.{Cause, _if_, first, undefined, illFormed, notOpen, notFound, isStarter, unanswerable, replaces, removesNone, strategiesFull, isSweep, isOrderAt, isSweepAt, isLegOrderAt, ordersFull, sweepsFull, legOrdersFull, noRoom, numbersOut, sweepNumbersOut, causes, readCauses, tableOf, refusal}
-use Rattle.rules.specs.Step.{Outcome, accept, refused, perform, decide, step}
+use Rattle.rules.specs.Refusals.{Cause, _if_, firstCause, undefined, illFormed, notOpen, notFound, isStarter, unanswerable, replaces, removesNone, strategiesFull, isSweep, isOrderAt, isSweepAt, isLegOrderAt, ordersFull, sweepsFull, legOrdersFull, noRoom, numbersOut, sweepNumbersOut, causes, readCauses, tableOf, refusal}
+use Rattle.rules.specs.Step.{Outcome, accept, refused, perform, refuseOrPerform, step}
 use Rattle.rules.specs.Valid.{FitStrategy, Sound, Starter, HasStarter, Valid}
 use Rattle.rules.proofs.Strategies.{Definition, defined-fit, defined-two, defined-starter, defined-begun}
 use Rattle.rules.proofs.Entering.{pos-live, order-one, sweep-live, Entering, EnteringOrder, sound-define}
@@ -46,8 +46,8 @@ valid-fresh = fresh-valid
 
 -- Where nothing is refused, no cause applies.
 
-pub clear : (n : ℕ) (c : Bool) (cs : List Cause) → 0 < n → first ((n if c) ∷ cs) ≡ 0 → (c ≡ false) × (first cs ≡ 0)
-unfolding first pick
+pub clear : (n : ℕ) (c : Bool) (cs : List Cause) → 0 < n → firstCause ((n if c) ∷ cs) ≡ 0 → (c ≡ false) × (firstCause cs ≡ 0)
+unfolding firstCause pick
 clear n true cs h e = absurd (omega arith)
 clear n false cs h e = (refl, e)
 
@@ -219,7 +219,7 @@ order-given b e f o n = record {
 
 -- What an event brings where nothing refuses it: an order that may enter, a sweep of a running auction that may enter if it has units, a leg order that may enter.
 
-pub order-clear : (b : State) (e : GivenOrder) → Sound b → FitOrderGiven e → first (causes b (E.Order e)) ≡ 0 → Entering b (orderGiven b e)
+pub order-clear : (b : State) (e : GivenOrder) → Sound b → FitOrderGiven e → firstCause (causes b (E.Order e)) ≡ 0 → Entering b (orderGiven b e)
 unfolding causes
 order-clear b e s f c =
     let x = clear 4 (undefined b (e .strategy)) _ (omega arith) c in
@@ -228,7 +228,7 @@ order-clear b e s f c =
     let w = clear 13 (numbersOut b) _ (omega arith) (z .1) in
     order-entering b e s f (x .0) (z .0) (w .0)
 
-pub sweep-clear : (b : State) (e : GivenSweep) → FitSweepGiven e → first (causes b (E.Sweep e)) ≡ 0 → (running b (e .strategy) ≡ true) × (0 < e .units → Sweeping b (sweepGiven b e))
+pub sweep-clear : (b : State) (e : GivenSweep) → FitSweepGiven e → firstCause (causes b (E.Sweep e)) ≡ 0 → (running b (e .strategy) ≡ true) × (0 < e .units → Sweeping b (sweepGiven b e))
 unfolding causes
 sweep-clear b e f c =
     let x = clear 4 (undefined b (e .strategy)) _ (omega arith) c in
@@ -238,7 +238,7 @@ sweep-clear b e f c =
     let u = clear 13 (sweepNumbersOut b e) _ (omega arith) (w .1) in
     (not-false _ (y .0), sweep-given b e f (x .0) (w .0) (u .0))
 
-pub legOrder-clear : (b : State) (e : GivenLegOrder) → FitLegOrderGiven e → first (causes b (E.LegOrder e)) ≡ 0 → EnteringOrder b (legOrderGiven b e)
+pub legOrder-clear : (b : State) (e : GivenLegOrder) → FitLegOrderGiven e → firstCause (causes b (E.LegOrder e)) ≡ 0 → EnteringOrder b (legOrderGiven b e)
 unfolding causes
 legOrder-clear b e f c =
     let x = clear 6 (notOpen b (e .series)) _ (omega arith) c in
@@ -248,7 +248,7 @@ legOrder-clear b e f c =
 
 -- An event that is accepted.
 
-pub accept-valid : (b : State) (e : Event) → Valid b → FitEvent e → first (causes b e) ≡ 0 → Valid (accept b e .state)
+pub accept-valid : (b : State) (e : Event) → Valid b → FitEvent e → firstCause (causes b e) ≡ 0 → Valid (accept b e .state)
 unfolding accept causes sweepGiven
 accept-valid b (E.Strategy e) v f c =
     let x = clear 5 (illFormed e) _ (omega arith) c in
@@ -272,8 +272,8 @@ unfolding perform refused refusal tableOf readCauses
 perform-valid b (R.Refused n) space v f c = v
 perform-valid b (R.Event e) space v f c = accept-valid b e v f (clear 1 (ltb space 15_360) (causes b e) (omega arith) c .1)
 
-pub decide-valid : (b : State) (r : Reading) (space : ℕ) → Valid b → FitReading r → Valid (decide b r space .moved .state)
-unfolding decide refused
+pub decide-valid : (b : State) (r : Reading) (space : ℕ) → Valid b → FitReading r → Valid (refuseOrPerform b r space .moved .state)
+unfolding refuseOrPerform refused
 decide-valid b r space v f =
     pick-by (λ (o : Outcome). Valid (o .moved .state)) (eqb (refusal b r space) 0)
     (λ e. perform-valid b r space v f (eqb-true _ _ e)) (λ _. v)

@@ -189,16 +189,16 @@ unfoldable pub closeRunning : ℕ → State → Moved
 closeRunning k b = pick (running b k) (close k b) (still b)
 
 -- the lowest number that is live: the lower of two numbers, of which 0 is none
-unfoldable pub lower : ℕ → ℕ → ℕ
-lower n m = pick (eqb n 0) m (pick (eqb m 0) n (min n m))
+unfoldable pub lowerNumber : ℕ → ℕ → ℕ
+lowerNumber n m = pick (eqb n 0) m (pick (eqb m 0) n (min n m))
 
 -- .. looking at the entry at slot i
 abbrev pub lowerEntry : State → ℕ → ℕ → ℕ
-lowerEntry b i n = pick (live (entryAt b i)) (lower n (entryAt b i .number)) n
+lowerEntry b i n = pick (live (entryAt b i)) (lowerNumber n (entryAt b i .number)) n
 
 -- .. looking at the leg order at slot i
 abbrev pub lowerOrder : State → ℕ → ℕ → ℕ
-lowerOrder b i n = pick (liveOrder (orderAt b i)) (lower n (orderAt b i .number)) n
+lowerOrder b i n = pick (liveOrder (orderAt b i)) (lowerNumber n (orderAt b i .number)) n
 
 -- .. over both tables
 unfoldable pub lowestLive : State → ℕ

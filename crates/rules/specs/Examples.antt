@@ -40,14 +40,14 @@ use Rattle.rules.specs.declared.State.{State}
 use Rattle.rules.specs.declared.Record.{Record}
 
 -- to unfold these is to unfold every rule
-unfoldable pub outcome : State → Event → Step.Outcome
-unfolding Pick.pick Walks.sumN Walks.table Walks.allN Walks.walk Walks.anyN Walks.firstN Walks.joinN Sets.has Sets.setN Sets.minus Sets.sizeOf Sets.lowestOf Gcd.euclid Gcd.gcd Fields.rawOf Fields.presentOf Fields.layout Fields.offset Fields.withinOf Fields.fitN Kinds.kindOf Kinds.lengthOf Rows.layoutIn Rows.fitting Rows.lengthIn Table.layoutOf Bodies.valueAt Bodies.valueBytes Bodies.rowN Bodies.bodyN Frames.kindAt Frames.rowAt Frames.judgeOf Frames.readOf Frames.frameOf Frames.writtenOf Frames.spaceOf Number.number Number.bytes State.fresh State.withEntries State.withOrders State.withStrategies State.withOpened State.withClock State.withLast Moves.and-then Moves.each Sides.other Sides.legSide Sides.meets Sides.better Sides.bestPrice Quotas.inTurnAt Quotas.inTurn Quotas.portion Quotas.oneOf Quotas.holderAt Quotas.sharedAt Quotas.share Nets.stands Nets.priceWith Nets.priceOf Nets.lot Nets.lots Nets.legPrice Nets.prices Nets.known Nets.weight Nets.weighed Nets.netOf Nets.legNet Nets.legUnits Nets.unitsOf Strategies.divisor Strategies.lowestTerms Strategies.placeOf Strategies.bySeries Strategies.padded Strategies.seriesSet Strategies.defined Strategies.twice Strategies.overThreefold Strategies.sameLeg Strategies.sameLegs Strategies.numberOf Strategies.added Strategies.define Strategies.shutSet Fills.partyRecords Fills.cut Fills.cutLeg Fills.wholeFill Fills.legQuotas Fills.orderRow Fills.cutOrders Fills.cutByLegs Fills.takeLegs Fills.legFill Fills.legTrade Fills.cancelEntry Fills.cancelOrder Passes.opposes Passes.limitWith Passes.bestOpposite Passes.groupOf Passes.within Passes.holding Passes.sizes Passes.give Passes.giveInTurn Passes.giveGroup Passes.giveShared Passes.meetLimit Passes.ready Passes.readyNet Passes.opposite Passes.legsFirst Passes.turnAt Passes.turnOf Passes.take Passes.pass Auctions.liveIn Auctions.putAuction Auctions.begin Auctions.close Auctions.starterSlot Auctions.answer Auctions.lapses Auctions.cancelLapsed Auctions.endUnfilled Auctions.starterPass Auctions.later Auctions.laterPass Auctions.endAuction Auctions.due Auctions.endDue Auctions.endHolding Auctions.dayOrder Auctions.legPass Auctions.legPassesIn Auctions.legPasses Auctions.ahead Auctions.bestSlot Auctions.crossed Auctions.matchOnce Auctions.matchAll Auctions.matchIn Events.live Events.liveOrder Events.keep Events.behind Events.enter Events.enterOrder Events.freeSlot Events.freeOrderSlot Events.restOrCancel Events.mayStart Events.starts Events.waits Events.trades Events.arrive Events.onOrder Events.sameSweep Events.oldSweep Events.enterSweep Events.onSweep Events.meetsOrder Events.aheadOrder Events.bestOrder Events.tradeOnce Events.tradeAll Events.ifRests Events.onLegOrder Events.cancelEntryOf Events.cancelOrderOf Events.cancelNumber Events.onClock Events.shut Events.reopen Events.onSeries Events.closeRunning Events.lower Events.lowestLive Events.cancelLowest Events.restart Events.onDayEnd Given.strategyGiven Given.orderGiven Given.sweepGiven Given.legOrderGiven Refusals.first Refusals.undefined Refusals.illFormed Refusals.isOrderOf Refusals.isLegOrderOf Refusals.notFound Refusals.isStarter Refusals.unanswerable Refusals.removesNone Refusals.strategiesFull Refusals.isOrder Refusals.isSweep Refusals.isLegOrder Refusals.ordersFull Refusals.sweepsFull Refusals.legOrdersFull Refusals.noRoom Refusals.numbersOut Refusals.sweepNumbersOut Refusals.causes Refusals.readCauses Refusals.tableOf Refusals.refusal Step.valueOf Step.accept Step.refused Step.perform Step.decide Step.step Records.kindNumber Lookups.liveQuantity Lookups.shutLegs Lookups.depthOf Lookups.wellFormed Lookups.rowDepth Count.onesIn Count.trailingZeros
-outcome b e = Step.decide b (R.Event e) 15_360
+unfoldable pub performed : State → Event → Step.Outcome
+unfolding Pick.pick Walks.sumN Walks.table Walks.allN Walks.walk Walks.anyN Walks.firstN Walks.joinN Sets.has Sets.setN Sets.minus Sets.sizeOf Sets.lowestOf Gcd.euclid Gcd.gcd Fields.rawOf Fields.presentOf Fields.layout Fields.offset Fields.withinOf Fields.fitN Kinds.kindOf Kinds.lengthOf Rows.layoutIn Rows.fitting Rows.lengthIn Table.layoutOf Bodies.valueAt Bodies.valueBytes Bodies.rowN Bodies.bodyN Frames.kindAt Frames.rowAt Frames.judgeOf Frames.readOf Frames.frameOf Frames.writtenOf Frames.spaceOf Number.number Number.bytes State.fresh State.withEntries State.withOrders State.withStrategies State.withOpened State.withClock State.withLast Moves.and-then Moves.each Sides.other Sides.legSide Sides.meets Sides.better Sides.bestPrice Quotas.inTurnAt Quotas.inTurn Quotas.portion Quotas.oneOf Quotas.holderAt Quotas.sharedAt Quotas.share Nets.stands Nets.priceWith Nets.priceOf Nets.lot Nets.lots Nets.legPrice Nets.prices Nets.known Nets.weight Nets.weighed Nets.netOf Nets.legNet Nets.legUnits Nets.unitsOf Strategies.divisor Strategies.lowestTerms Strategies.placeOf Strategies.bySeries Strategies.padded Strategies.seriesSet Strategies.defined Strategies.twice Strategies.overThreefold Strategies.sameLeg Strategies.sameLegs Strategies.numberOf Strategies.added Strategies.define Strategies.shutSet Fills.partyRecords Fills.cut Fills.cutLeg Fills.wholeFill Fills.legQuotas Fills.orderRow Fills.cutOrders Fills.cutByLegs Fills.takeLegs Fills.legFill Fills.legTrade Fills.cancelEntry Fills.cancelOrder Passes.opposes Passes.limitWith Passes.bestOpposite Passes.groupOf Passes.within Passes.holding Passes.sizes Passes.give Passes.giveInTurn Passes.giveGroup Passes.giveShared Passes.meetLimit Passes.ready Passes.readyNet Passes.opposite Passes.legsFirst Passes.turnAt Passes.turnOf Passes.takeTurn Passes.pass Auctions.liveIn Auctions.putAuction Auctions.begin Auctions.close Auctions.starterSlot Auctions.answer Auctions.lapses Auctions.cancelLapsed Auctions.endUnfilled Auctions.starterPass Auctions.later Auctions.laterPass Auctions.endAuction Auctions.due Auctions.endDue Auctions.endHolding Auctions.dayOrder Auctions.legPass Auctions.legPassesIn Auctions.legPasses Auctions.ahead Auctions.bestSlot Auctions.crossed Auctions.matchOnce Auctions.matchAll Auctions.matchIn Events.live Events.liveOrder Events.keep Events.behind Events.enter Events.enterOrder Events.freeSlot Events.freeOrderSlot Events.restOrCancel Events.mayStart Events.starts Events.waits Events.trades Events.arrive Events.onOrder Events.sameSweep Events.oldSweep Events.enterSweep Events.onSweep Events.meetsOrder Events.aheadOrder Events.bestOrder Events.tradeOnce Events.tradeAll Events.ifRests Events.onLegOrder Events.cancelEntryOf Events.cancelOrderOf Events.cancelNumber Events.onClock Events.shut Events.reopen Events.onSeries Events.closeRunning Events.lowerNumber Events.lowestLive Events.cancelLowest Events.restart Events.onDayEnd Given.strategyGiven Given.orderGiven Given.sweepGiven Given.legOrderGiven Refusals.firstCause Refusals.undefined Refusals.illFormed Refusals.isOrderOf Refusals.isLegOrderOf Refusals.notFound Refusals.isStarter Refusals.unanswerable Refusals.removesNone Refusals.strategiesFull Refusals.isOrder Refusals.isSweep Refusals.isLegOrder Refusals.ordersFull Refusals.sweepsFull Refusals.legOrdersFull Refusals.noRoom Refusals.numbersOut Refusals.sweepNumbersOut Refusals.causes Refusals.readCauses Refusals.tableOf Refusals.refusal Step.valueOf Step.accept Step.refused Step.perform Step.refuseOrPerform Step.step Records.kindNumber Lookups.liveQuantity Lookups.shutLegs Lookups.depthOf Lookups.wellFormed Lookups.rowDepth Count.onesIn Count.trailingZeros
+performed b e = Step.refuseOrPerform b (R.Event e) 15_360
 
 -- the state after a list of events
-abbrev after : State → List Event → State
-after b [] = b
-after b (e ∷ es) = after (outcome b e .moved .state) es
+abbrev afterEvents : State → List Event → State
+afterEvents b [] = b
+afterEvents b (e ∷ es) = afterEvents (performed b e .moved .state) es
 
 -- a definition of two legs
 abbrev twoLegs : GivenLeg → GivenLeg → Event
@@ -68,7 +68,7 @@ quote s side price = E.LegOrder (record { member = 7; series = s; side = side; c
 
 -- "Legs 0 buy 1, 1 sell 2, markets 300/305 and 100/103"
 abbrev market : State
-market = after State.first (openSeries 0 ∷ (openSeries 1 ∷ (spread 1 2 ∷ (quote 0 0 300 ∷ (quote 0 1 305 ∷ (quote 1 0 100 ∷ (quote 1 1 103 ∷ [])))))))
+market = afterEvents State.first (openSeries 0 ∷ (openSeries 1 ∷ (spread 1 2 ∷ (quote 0 0 300 ∷ (quote 0 1 305 ∷ (quote 1 0 100 ∷ (quote 1 1 103 ∷ [])))))))
 
 -- "a customer's buy at" a level
 abbrev customerBuy : ℕ → Event
@@ -79,7 +79,7 @@ ratios b = State.legAt (State.strategyAt b 0) 0 .ratio ∷ (State.legAt (State.s
 
 -- the kinds of the records that an event writes
 abbrev kinds : State → Event → List ℕ
-kinds b e = map (λ (r : Record). Records.kindNumber (r .kind)) (outcome b e .moved .records)
+kinds b e = map (λ (r : Record). Records.kindNumber (r .kind)) (performed b e .moved .records)
 
 abbrev shared : ℕ → List ℕ → List ℕ
 shared r xs = take 3 (Quotas.share r (xs ++ replicate 29 0))
@@ -104,9 +104,9 @@ unitsAtTwo c =
 abbrev pub rows : List Row
 rows =
     -- "ratios 2:4 give 1:2; 2:6 stands, 1:4 is refused 5"
-    (ratios (after State.first (spread 2 4 ∷ [])) gives (1 ∷ (2 ∷ [])))
-    ∷ ((outcome State.first (spread 2 6) .answer ∷ []) gives (0 ∷ []))
-    ∷ ((outcome State.first (spread 1 4) .answer ∷ []) gives (5 ∷ []))
+    (ratios (afterEvents State.first (spread 2 4 ∷ [])) gives (1 ∷ (2 ∷ [])))
+    ∷ ((performed State.first (spread 2 6) .answer ∷ []) gives (0 ∷ []))
+    ∷ ((performed State.first (spread 1 4) .answer ∷ []) gives (5 ∷ []))
     -- "Open series 0 is bytes 06 00 06 00 00 01."
     ∷ (Frames.frameOf (openSeries 0) gives (6 ∷ (0 ∷ (6 ∷ (0 ∷ (0 ∷ (1 ∷ [])))))))
     -- "Sharing 10 over 7, 7, 7 gives 4, 3, 3; 5 over 1, 9 gives 1, 4."
@@ -122,7 +122,7 @@ rows =
 
 -- every row holds
 pub worked-examples : All (λ (r : Row). r .computed ≡ r .stated) rows
-unfolding outcome
+unfolding performed
 worked-examples =
     all-cons refl
     (all-cons refl

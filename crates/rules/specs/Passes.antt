@@ -119,14 +119,14 @@ unfoldable pub turnOf : Allocation → Bool → ℕ → State → Turn
 turnOf way legs a b = turnAt (entryAt b a) (opposite way a b) (readyNet legs a b)
 
 -- and does it
-unfoldable pub take : Allocation → ℕ → Turn → State → Moved
-take way a Stop b = still b
-take way a ByLegs b = legFill a b
-take way a (AtLimit level) b = meetLimit way a level b
+unfoldable pub takeTurn : Allocation → ℕ → Turn → State → Moved
+takeTurn way a Stop b = still b
+takeTurn way a ByLegs b = legFill a b
+takeTurn way a (AtLimit level) b = meetLimit way a level b
 
 -- one turn; where it stops nothing moves
 abbrev pub turn : Allocation → Bool → ℕ → ℕ → State → Moved
-turn way legs a i b = take way a (turnOf way legs a b) b
+turn way legs a i b = takeTurn way a (turnOf way legs a b) b
 
 -- "Repeat while units of it remain": a turn that does not stop fills a unit or more, so there are no more turns than units
 unfoldable pub pass : Allocation → Bool → ℕ → State → Moved

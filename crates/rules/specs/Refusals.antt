@@ -27,9 +27,9 @@ pub data Cause : Type 0 where
   _if_ : ℕ → Bool → Cause
 
 -- "The smallest number that applies is given"; 0 where none does. The numbers rise along the list.
-unfoldable pub first : List Cause → ℕ
-first [] = 0
-first ((n if c) ∷ cs) = pick c n (first cs)
+unfoldable pub firstCause : List Cause → ℕ
+firstCause [] = 0
+firstCause ((n if c) ∷ cs) = pick c n (firstCause cs)
 
 -- whether a cause of that number applies
 unfoldable pub applies : List Cause → ℕ → Bool
@@ -166,4 +166,4 @@ tableOf b r space = (1 if ltb space 15_360) ∷ readCauses b r
 
 -- "The smallest number that applies"
 unfoldable pub refusal : State → Reading → ℕ → ℕ
-refusal b r space = first (tableOf b r space)
+refusal b r space = firstCause (tableOf b r space)

@@ -56,12 +56,12 @@ perform b (R.Refused n) = refused n b
 perform b (R.Event e) = record { answer = 0; value = valueOf b e; moved = accept b e }
 
 -- the refusal, or else the event is performed
-unfoldable pub decide : State → Reading → ℕ → Outcome
-decide b r space = pick (eqb (refusal b r space) 0) (perform b r) (refused (refusal b r space) b)
+unfoldable pub refuseOrPerform : State → Reading → ℕ → Outcome
+refuseOrPerform b r space = pick (eqb (refusal b r space) 0) (perform b r) (refused (refusal b r space) b)
 
 -- "each event goes in with the book and hands a book back"
 unfoldable pub step : State → List ℕ → ℕ → Outcome
-step b frame space = decide b (readOf frame) space
+step b frame space = refuseOrPerform b (readOf frame) space
 
 -- "An accepted event answers a value and a record count"; a refused one, "number only"
 unfoldable pub answerOf : Outcome → Answer

@@ -63,12 +63,12 @@ total w [] = 0
 total w (l ∷ ls) = w l + total w ls
 
 -- q where the two are equal
-abbrev pub when : ℕ → ℕ → ℕ → ℕ
-when x y q = pick (eqb x y) q 0
+abbrev pub ifSame : ℕ → ℕ → ℕ → ℕ
+ifSame x y q = pick (eqb x y) q 0
 
 -- "Filled sums the quantities of its records 1, for a leg order of its records 2; cancelled, of its records 3."
 abbrev pub ofKind : ℕ → ℕ → Line → ℕ
-ofKind kind n l = when (l .kind) kind (when (l .number) n (l .quantity))
+ofKind kind n l = ifSame (l .kind) kind (ifSame (l .number) n (l .quantity))
 
 -- records 1
 unfoldable pub wholeFilled : ℕ → List Line → ℕ
@@ -84,23 +84,23 @@ cancelled n ls = total (ofKind 3 n) ls
 
 -- "Contracts filled on a leg sum its records 2 in that series."
 abbrev pub onLeg : ℕ → ℕ → Line → ℕ
-onLeg n s l = when (l .place) s (ofKind 2 n l)
+onLeg n s l = ifSame (l .place) s (ofKind 2 n l)
 
 -- .. over all records
 unfoldable pub contractsOn : ℕ → ℕ → List Line → ℕ
 contractsOn n s ls = total (onLeg n s) ls
 
 -- "Bought sums a series' records 2 of side 0, sold those of side 1."
-abbrev pub inSeries : ℕ → ℕ → Line → ℕ
-inSeries s side l = when (l .kind) 2 (when (l .place) s (when (l .side) side (l .quantity)))
+abbrev pub tradedIn : ℕ → ℕ → Line → ℕ
+tradedIn s side l = ifSame (l .kind) 2 (ifSame (l .place) s (ifSame (l .side) side (l .quantity)))
 
 -- side 0
 unfoldable pub bought : ℕ → List Line → ℕ
-bought s ls = total (inSeries s 0) ls
+bought s ls = total (tradedIn s 0) ls
 
 -- side 1
 unfoldable pub sold : ℕ → List Line → ℕ
-sold s ls = total (inSeries s 1) ls
+sold s ls = total (tradedIn s 1) ls
 
 -- "An order or sweep enters by an accepted event of kind 2, 3 or 4 whose value isn't 0. That value is its number; the event's units or
 -- contracts are what it entered." Beside these its side and its limit, a leg order's price.
@@ -147,12 +147,12 @@ pub record Unknown (n : ℕ) (log : List Logged) : Type 0 where
 
 -- records 1 to 3 of a number
 abbrev pub mentions : ℕ → Line → ℕ
-mentions n l = when (l .number) n (pick (leb (l .kind) 3) 1 0)
+mentions n l = ifSame (l .number) n (pick (leb (l .kind) 3) 1 0)
 
 -- "The ratio is that of the accepted kind 1 event that answered its strategy, divided as above; a series outside the strategy counts as a
 -- leg of ratio 0."
 abbrev pub ratioAt : List Leg → ℕ → ℕ → ℕ → ℕ
-ratioAt legs d s i = when (seriesOf legs i) s (ratioOf legs i / d)
+ratioAt legs d s i = ifSame (seriesOf legs i) s (ratioOf legs i / d)
 
 -- .. over the count legs
 unfoldable pub ratioIn : GivenStrategy → ℕ → ℕ

@@ -15,15 +15,14 @@ use Rattle.rules.specs.declared.Answer.the-variants as A
 use Rattle.rules.specs.Step.{Outcome, step, answerOf, answerCount}
 use Rattle.rules.specs.declared.State.{State}
 use Rattle.rules.specs.declared.Record.{Record}
-use Rattle.rules.specs.Records.{Line, numbersOf}
-use Rattle.rules.specs.Records.{lineOf as numbered}
+use Rattle.rules.specs.Records.{Line, lineOf, numbersOf}
 use Rattle.rules.specs.Valid.{Valid}
 use Rattle.records.specs.Space.{laid, numbers, length-numbers}
 use Rattle.book.specs.declared.Book.{Book}
 use Rattle.book.specs.declared.Taken.{Taken}
 use Rattle.book.specs.Books.{First, Stepped}
 use Rattle.lines.specs.Cuts.{cutOf, cut-within}
-use Rattle.lines.specs.Lines.{lineOf, eventLine, recordLines, linesOf, eventText, outcomeText}
+use Rattle.lines.specs.Lines.{textLine, eventLine, recordLines, recordTexts, eventText, outcomeText}
 use Rattle.lines.specs.Puts.{Within, put-nil}
 use Rattle.tape.specs.declared.Rest.{Rest}
 use Rattle.tape.specs.declared.Told.{Told}
@@ -53,8 +52,8 @@ abbrev pub eventTurn : Outcome → ℕ → List ℕ → Turn
 eventTurn o index rest = record { state = o .moved .state; text = outcomeText index o; rest = rest; on = true }
 
 -- "A length under 4 or past the input's end, a lone last byte included, prints refusal 2 and stops."
-unfoldable pub turnOf : State → ℕ → List ℕ → Turn
-turnOf b index rest =
+unfoldable pub frameTurn : State → ℕ → List ℕ → Turn
+frameTurn b index rest =
     pick (eqb (length rest) 0) (record { state = b; text = []; rest = rest; on = false })
     (pick (eqb (cutOf rest) 0) (record { state = b; text = eventLine index (A.Refused 2); rest = rest; on = false })
     (eventTurn (step b (take (cutOf rest) rest) 15360) index (drop (cutOf rest) rest)))
@@ -68,10 +67,10 @@ pub record Ready (t : Tape) (block : List ℕ) (space : List ℤ) (out : List �
 
 -- a turn: what the rules say of the rest of the input
 pub record Turned (t : Tape) (index : ℕ) (block s q : List ℕ) (x : Tape) : Type 0 where
-  pub state : x .book .state ≡ turnOf (t .book .state) index (restOf block (t .rest)) .state
-  pub text : Within 189526 s q (t .used) (x .used) (turnOf (t .book .state) index (restOf block (t .rest)) .text)
-  pub rest : restOf block (x .rest) ≡ turnOf (t .book .state) index (restOf block (t .rest)) .rest
-  pub on : x .on ≡ turnOf (t .book .state) index (restOf block (t .rest)) .on
+  pub state : x .book .state ≡ frameTurn (t .book .state) index (restOf block (t .rest)) .state
+  pub text : Within 189526 s q (t .used) (x .used) (frameTurn (t .book .state) index (restOf block (t .rest)) .text)
+  pub rest : restOf block (x .rest) ≡ frameTurn (t .book .state) index (restOf block (t .rest)) .rest
+  pub on : x .on ≡ frameTurn (t .book .state) index (restOf block (t .rest)) .on
   pub valid : Valid (x .book .state)
   pub lies : Lies (x .rest) block
 
@@ -98,22 +97,22 @@ pub data Reached : Tape → ℕ → List ℕ → List ℕ → Type 0 where
 -- laws
 
 -- the lines of records that stand one after the other are those of the first and of the others
-first-line : (l : Line) (k : ℕ) (zs : List ℤ) → recordLines (suc k) (numbersOf l ++ zs) ≡ lineOf 82 (numbersOf l) ++ recordLines k zs
+first-line : (l : Line) (k : ℕ) (zs : List ℤ) → recordLines (suc k) (numbersOf l ++ zs) ≡ textLine 82 (numbersOf l) ++ recordLines k zs
 unfolding recordLines numbersOf
 first-line l zero zs = sym (append-nil _)
 first-line l (suc k) zs =
     let e : suc k * 6 ≡ suc (suc (suc (suc (suc (suc (k * 6)))))) = omega arith in
-    rw (first-line l k zs, e) (append-assoc (lineOf 82 (numbersOf l)) (recordLines k zs) _)
+    rw (first-line l k zs, e) (append-assoc (textLine 82 (numbersOf l)) (recordLines k zs) _)
 
-lines-of : (rs : List Record) (zs : List ℤ) → recordLines (length rs) (numbers rs ++ zs) ≡ linesOf rs
-unfolding numbers linesOf recordLines
+lines-of : (rs : List Record) (zs : List ℤ) → recordLines (length rs) (numbers rs ++ zs) ≡ recordTexts rs
+unfolding numbers recordTexts recordLines
 lines-of [] zs = refl
 lines-of (r ∷ rs) zs =
-    ap (recordLines (suc (length rs))) (append-assoc (numbersOf (numbered r)) (numbers rs) zs)
-    ∙ first-line (numbered r) (length rs) (numbers rs ++ zs)
-    ∙ ap (λ (x : List ℕ). lineOf 82 (numbersOf (numbered r)) ++ x) (lines-of rs zs)
+    ap (recordLines (suc (length rs))) (append-assoc (numbersOf (lineOf r)) (numbers rs) zs)
+    ∙ first-line (lineOf r) (length rs) (numbers rs ++ zs)
+    ∙ ap (λ (x : List ℕ). textLine 82 (numbersOf (lineOf r)) ++ x) (lines-of rs zs)
 
-lines-laid : (s : List ℤ) (rs : List Record) → length rs ≤ 2560 → 15360 ≤ length s → recordLines (length rs) (laid s 0 rs) ≡ linesOf rs
+lines-laid : (s : List ℤ) (rs : List Record) → length rs ≤ 2560 → 15360 ≤ length s → recordLines (length rs) (laid s 0 rs) ≡ recordTexts rs
 unfolding laid
 lines-laid s rs h l =
     ap (recordLines (length rs)) (sets-eq (numbers rs) s 0 (omega (arith, length-numbers rs))) ∙ lines-of rs (drop (0 + length (numbers rs)) s)
@@ -122,12 +121,12 @@ lines-laid s rs h l =
 pub text-laid :
     (index : ℕ) (o : Outcome) (s : List ℤ) → answerCount (answerOf o) ≤ 2560 → 15360 ≤ length s →
     eventText index (answerOf o) (laid s 0 (o .moved .records)) ≡ outcomeText index o
-unfolding eventText outcomeText answerOf answerCount recordLines linesOf
+unfolding eventText outcomeText answerOf answerCount recordLines recordTexts
 text-laid index o s h l =
     let rs = o .moved .records in
-    let P : Answer → Type 0 = λ (a : Answer). answerCount a ≤ 2560 → eventLine index a ++ recordLines (answerCount a) (laid s 0 rs) ≡ eventLine index a ++ linesOf (take (answerCount a) rs) in
+    let P : Answer → Type 0 = λ (a : Answer). answerCount a ≤ 2560 → eventLine index a ++ recordLines (answerCount a) (laid s 0 rs) ≡ eventLine index a ++ recordTexts (take (answerCount a) rs) in
     pick-all P _
-    (λ k. ap (λ (x : List ℕ). eventLine index (A.Accepted (o .value) (length rs)) ++ x) (lines-laid s rs k l ∙ ap linesOf (sym (take-length rs))))
+    (λ k. ap (λ (x : List ℕ). eventLine index (A.Accepted (o .value) (length rs)) ++ x) (lines-laid s rs k l ∙ ap recordTexts (sym (take-length rs))))
     (λ k. refl)
     h
 
@@ -147,20 +146,20 @@ tells {b} index {frame} {s} {q} {sp} {sq} {used} {m} {x} l h w =
     }
 
 -- the three turns
-turn-ended : (b : State) (index : ℕ) (rest : List ℕ) → length rest ≡ 0 → turnOf b index rest ≡ record { state = b; text = []; rest = rest; on = false }
-unfolding turnOf
+turn-ended : (b : State) (index : ℕ) (rest : List ℕ) → length rest ≡ 0 → frameTurn b index rest ≡ record { state = b; text = []; rest = rest; on = false }
+unfolding frameTurn
 turn-ended b index rest e = pick-true _ _ _ (eq-eqb _ _ e)
 
 turn-cut :
     (b : State) (index : ℕ) (rest : List ℕ) → (length rest ≡ 0 → ⊥) → cutOf rest ≡ 0 →
-    turnOf b index rest ≡ record { state = b; text = eventLine index (A.Refused 2); rest = rest; on = false }
-unfolding turnOf
+    frameTurn b index rest ≡ record { state = b; text = eventLine index (A.Refused 2); rest = rest; on = false }
+unfolding frameTurn
 turn-cut b index rest h e = pick-false _ _ _ (ne-eqb _ _ h) ∙ pick-true _ _ _ (eq-eqb _ _ e)
 
 turn-event :
     (b : State) (index : ℕ) (rest : List ℕ) → (cutOf rest ≡ 0 → ⊥) →
-    turnOf b index rest ≡ eventTurn (step b (take (cutOf rest) rest) 15360) index (drop (cutOf rest) rest)
-unfolding turnOf
+    frameTurn b index rest ≡ eventTurn (step b (take (cutOf rest) rest) 15360) index (drop (cutOf rest) rest)
+unfolding frameTurn
 turn-event b index rest h =
     let k : length rest ≡ 0 → ⊥ = λ z. h (omega (arith, z, cut-within rest)) in
     pick-false _ _ _ (ne-eqb _ _ k) ∙ pick-false _ _ _ (ne-eqb _ _ h)

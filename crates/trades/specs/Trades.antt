@@ -19,7 +19,7 @@ use Rattle.rules.specs.Moves.{Moved, still, and-then, each}
 use Rattle.rules.specs.Fills.{orderRecord, orderRow, cutOrder, cutLeg, legTrade, cancelLegRecord, cancelOrder}
 use Rattle.rules.specs.Events.{bestOrder, tradeOnce, tradeAll}
 use Rattle.rules.proofs.Turns.{idle}
-use Rattle.records.specs.Space.{Wrote, Room}
+use Rattle.records.specs.Space.{Appended, Room}
 use Rattle.records.specs.Done.{Done, done-of, room-of}
 use Rattle.legs.specs.Search.{best-order-most}
 
@@ -76,7 +76,7 @@ module _ (b : State) (a h : ℕ) {q : ℕ} (e : q ≡ min (orderAt b a .contract
   unfolding legTrade
   trade-room r = rw e r
 
-  pub trade-done : {sp sq : List ℤ} {n m : ℕ} {c d : State} → Wrote sp sq n m (tradeRecords (orderAt b a) (orderAt b h) q) → c ≡ cutLeg b a q → d ≡ cutLeg c h q
+  pub trade-done : {sp sq : List ℤ} {n m : ℕ} {c d : State} → Appended sp sq n m (tradeRecords (orderAt b a) (orderAt b h) q) → c ≡ cutLeg b a q → d ≡ cutLeg c h q
       → Done sp sq n m d (legTrade b a h)
   unfolding legTrade
   trade-done w f g = record { wrote = rw e at w; state = g ∙ ap (λ (x : State). cutLeg x h q) f ∙ ap (λ (x : ℕ). cutLeg (cutLeg b a x) h x) e }
@@ -148,7 +148,7 @@ pub cancel-room : (i : ℕ) (b : State) {sp : List ℤ} {n : ℕ} → ¬ (orderA
 cancel-room i b e r = room-of (cancel-is i b e) r
 
 pub cancel-done : (i : ℕ) (b : State) {sp sq : List ℤ} {n m : ℕ} {c : State} → ¬ (orderAt b i .contracts ≡ 0)
-    → Wrote sp sq n m (cancelLegRecord (orderAt b i) ∷ []) → c ≡ cutLeg b i (orderAt b i .contracts) → Done sp sq n m c (cancelOrder i b)
+    → Appended sp sq n m (cancelLegRecord (orderAt b i) ∷ []) → c ≡ cutLeg b i (orderAt b i .contracts) → Done sp sq n m c (cancelOrder i b)
 cancel-done i b e w g = done-of (cancel-is i b e) (record { wrote = w; state = g })
 
 -- the orders of a state that turns have led to are 32

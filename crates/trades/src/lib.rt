@@ -3,7 +3,7 @@ ghost use mathlib.Core.Path.{_≡_};
 ghost use Prim.Native.Nat.{_+_, _<_};
 ghost use Rattle.rules.specs.Fills.{orderRecord, orderRow, cutOrder, cutLeg, legTrade, cancelLegRecord, cancelOrder};
 ghost use Rattle.rules.specs.Events.{tradeAll};
-ghost use Rattle.records.specs.Space.{Wrote, Room};
+ghost use Rattle.records.specs.Space.{Appended, Room};
 ghost use Rattle.records.specs.Done.{Done};
 ghost use Rattle.trades.specs.Trades.{tradeRecords, nextTrade};
 use legs::best_order;
@@ -34,7 +34,7 @@ fn order_record(o: LegOrder, q: u32, price: u32) -> Record
 // The record of a leg order's fill; none of 0 contracts.
 pub fn order_row(space: &mut [i32], n: usize, o: LegOrder, q: u32, price: u32) -> usize
     requires { ⌜ Room (now space) n (orderRow o q price) ⌝ }
-    ensures { λ m. ⌜ Wrote (now (space .entry)) (now (space .exit)) n m (orderRow o q price) ⌝ }
+    ensures { λ m. ⌜ Appended (now (space .entry)) (now (space .exit)) n m (orderRow o q price) ⌝ }
 {
     if q == 0 {
         return n;
@@ -65,7 +65,7 @@ fn cut_leg(b: State, i: usize, q: u32) -> State
 // The two records of a trade at the resting price, the incoming order's first.
 fn report(space: &mut [i32], n: usize, o: LegOrder, p: LegOrder, q: u32) -> usize
     requires { ⌜ Room (now space) n (tradeRecords o p q) ⌝ }
-    ensures { λ m. ⌜ Wrote (now (space .entry)) (now (space .exit)) n m (tradeRecords o p q) ⌝ }
+    ensures { λ m. ⌜ Appended (now (space .entry)) (now (space .exit)) n m (tradeRecords o p q) ⌝ }
 {
     let r = order_record(o, q, p.price);
     let m = push(space, n, r);

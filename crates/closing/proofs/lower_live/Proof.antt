@@ -10,4 +10,4 @@ lower-live-spec =
     (tie.spec
     (λ c. some-not _ _ _ (c .if1 .taken))
     (λ c κs. search needs)
-    (λ c. c .lower .ensures ∙ some-yes _ _ _ (c .before .if1 .left)))
+    (λ c. c .lower-number .ensures ∙ some-yes _ _ _ (c .before .if1 .left)))

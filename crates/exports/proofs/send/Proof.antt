@@ -1,5 +1,5 @@
 use Rattle.exports.specs.Laws.{length-small}
-use Rattle.frames.specs.Frames.{numberOf}
+use Rattle.frames.specs.Frames.{writtenNumber}
 use native.Mathlib.Omega.{arith}
 use mathlib.Core.Path.{sym, ap, _∙_}
 use borrow.Author.Needs.{needs}
@@ -22,13 +22,13 @@ same-length : tie.Need-same-length
 same-length c = search needs
 
 returns : tie.Need-returns
-returns c = record { answer = ap numberOf (sym (c .before .written .given .1) ∙ c .before .before .before .before .before .write .ensures .answer); space = c .before .before .before .before .before .write .ensures .space }
+returns c = record { answer = ap writtenNumber (sym (c .before .written .given .1) ∙ c .before .before .before .before .before .write .ensures .answer); space = c .before .before .before .before .before .write .ensures .space }
 
 same-length-2 : tie.Need-same-length-2
 same-length-2 c = search needs
 
 returns-2 : tie.Need-returns-2
-returns-2 c = record { answer = ap numberOf (sym (c .before .written2 .given .1) ∙ c .before .before .before .before .before .write .ensures .answer); space = c .before .before .before .before .before .write .ensures .space }
+returns-2 c = record { answer = ap writtenNumber (sym (c .before .written2 .given .1) ∙ c .before .before .before .before .before .write .ensures .answer); space = c .before .before .before .before .before .write .ensures .space }
 
 pub send-spec : {M : Type 1} → statement M
 send-spec =

@@ -3,13 +3,13 @@ use Prim.Native.Nat.{_≤_, _-_}
 use native.Mathlib.Omega.{arith}
 use Rattle.base.specs.Walks.{joinN}
 use Rattle.rules.specs.Fills.{legRecordAt}
-use Rattle.records.specs.Space.{Wrote, wrote-first, wrote-next, wrote-length, room-row}
+use Rattle.records.specs.Space.{Appended, wrote-first, wrote-next, wrote-length, room-row}
 use Rattle.base.specs.All.{all-head}
 use Rattle.fills.proofs.leg_records.Statement.{statement}
 use Rattle.fills.proofs.leg_records.Tie as tie
 
 abbrev Inv-loop : tie.InvT-loop
-Inv-loop space₀ n e q prices legs count m₀ i₀ space m i = (i ≤ count) × Wrote space₀ space n m (joinN (legRecordAt e legs q prices) i)
+Inv-loop space₀ n e q prices legs count m₀ i₀ space m i = (i ≤ count) × Appended space₀ space n m (joinN (legRecordAt e legs q prices) i)
 
 abbrev μ-loop : tie.MeasureT-loop
 μ-loop space₀ n e q prices legs count m₀ i₀ space m i = count - i

@@ -1,6 +1,6 @@
 use Rattle.rules.specs.Fills.{orderRows}
 use Rattle.base.specs.Walks.{joinN}
-use Rattle.records.specs.Space.{Wrote, wrote-first, wrote-next, wrote-length, room-row}
+use Rattle.records.specs.Space.{Appended, wrote-first, wrote-next, wrote-length, room-row}
 use Prim.Native.Nat.{_≤_, _-_}
 use mathlib.Core.Path.{_≡_}
 use native.Mathlib.Omega.{arith}
@@ -8,7 +8,7 @@ use Rattle.legging.proofs.order_rows.Statement.{statement}
 use Rattle.legging.proofs.order_rows.Tie as tie
 
 abbrev Inv-loop : tie.InvT-loop
-Inv-loop space₀ n price os qs m₀ i₀ space m i = (i ≤ 32) × Wrote space₀ space n m (joinN (orderRows os qs price) i)
+Inv-loop space₀ n price os qs m₀ i₀ space m i = (i ≤ 32) × Appended space₀ space n m (joinN (orderRows os qs price) i)
 
 abbrev μ-loop : tie.MeasureT-loop
 μ-loop space₀ n price os qs m₀ i₀ space m i = 32 - i

@@ -1,4 +1,4 @@
-use Rattle.matching.specs.Matching.{bestNext, bestOf, level-none, best-yes, best-not}
+use Rattle.matching.specs.Matching.{bestNext, bestEntry, level-none, best-yes, best-not}
 use Rattle.rules.specs.State.{noEntry}
 use Rattle.base.specs.Walks.{walk, walk-first, walk-next}
 use Rattle.base.specs.Pick.{told}
@@ -39,7 +39,7 @@ loop-again : tie.Need-loop-again Inv-loop μ-loop
 loop-again c = ⊎-elim (λ w. rw (w .1, w .2) (omega arith, walk-next _ _ _ (c .before .before .before .before .loop .inv .1) (best-yes (c .before .before .before .before .before .args .t1) _ _ _ (c .before .before .before .before .loop .best) (c .before .before .before .before .loop .inv .2) (told (c .before .ahead .ensures) (w .0 .taken))), refl)) (λ w. rw (w .1, w .2) (omega arith, walk-next _ _ _ (c .before .before .before .before .loop .inv .1) (best-not (c .before .before .before .before .before .args .t1) _ _ _ (c .before .before .before .before .loop .best) (c .before .before .before .before .loop .inv .2) (told (c .before .ahead .ensures) (w .0 .left))), c .before .before .before .before .loop .inv .2)) (c .if1 .came)
 
 returns : tie.Need-returns Inv-loop μ-loop
-unfolding bestOf
+unfolding bestEntry
 returns c = let e : c .before .loop .i ≡ 32 = omega arith in rw e at (c .before .loop .inv .1)
 
 pub best-slot-spec : {M : Type 1} → statement M

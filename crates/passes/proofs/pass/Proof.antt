@@ -63,9 +63,9 @@ returns c = let k = c .before .before in
     let v = k .before .before .before .before .before .before .before .loop .inv in
     done-of (pass-stops _ _ _ _ _ _ _ (v .most) (v .done .state) (told (rw (turned k) at (c .before .stops .ensures)) (c .if1 .taken))) (v .done)
 
-take-requires : tie.Need-take-requires Inv-loop μ-loop
+take-turn-requires : tie.Need-take-turn-requires Inv-loop μ-loop
 unfolding pass
-take-requires c κs = let k = c .before .before .before in
+take-turn-requires c κs = let k = c .before .before .before in
     let l = k .before .before .before .before .before .before .before in
     let p = l .before .before .pre in
     rw (turned k) ((p .0 .0, fits l), visit-room (l .loop .inv) (k .before .before .before .before .before .before .loop-test .taken) refl (p .1))
@@ -78,7 +78,7 @@ loop-less c = omega arith
 
 loop-again : tie.Need-loop-again Inv-loop μ-loop
 loop-again c = let k = c .before .before .before .before .before .before in
-    visit-moves (k .before .before .before .before .before .before .before .loop .inv) (k .before .before .before .before .before .before .loop-test .taken) refl (rw (turned k) at (c .before .before .take .ensures))
+    visit-moves (k .before .before .before .before .before .before .before .loop .inv) (k .before .before .before .before .before .before .loop-test .taken) refl (rw (turned k) at (c .before .before .take-turn .ensures))
 
 same-length-2 : tie.Need-same-length-2 Inv-loop μ-loop
 same-length-2 c = done-length (c .before .loop .inv .done)
@@ -105,7 +105,7 @@ pass-spec =
     stops-requires
     same-length
     returns
-    take-requires
+    take-turn-requires
     add-i
     loop-less
     loop-again

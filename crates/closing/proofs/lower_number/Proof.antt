@@ -1,12 +1,12 @@
-use Rattle.rules.specs.Events.{lower}
+use Rattle.rules.specs.Events.{lowerNumber}
 use Rattle.base.specs.Pick.{tests}
 use Rattle.closing.specs.Closing.{lower-first, lower-second}
-use Rattle.closing.proofs.lower.Statement.{statement}
-use Rattle.closing.proofs.lower.Tie as tie
+use Rattle.closing.proofs.lower_number.Statement.{statement}
+use Rattle.closing.proofs.lower_number.Tie as tie
 
-pub lower-spec : {M : Type 1} → statement M
-unfolding lower
-lower-spec =
+pub lower-number-spec : {M : Type 1} → statement M
+unfolding lowerNumber
+lower-number-spec =
     tie.close
     (tie.spec
     (λ c. search tests)
