@@ -4,6 +4,7 @@ ghost use mathlib.Core.Bool.{true};
 ghost use Prim.Native.Nat.{_<_};
 ghost use lib.Dec.{eqb};
 ghost use Rattle.base.specs.Pick.{pick};
+ghost use Rattle.rules.specs.Sizes.{tableRows};
 ghost use Rattle.rules.specs.Moves.{still};
 ghost use Rattle.rules.specs.Fills.{cancelEntry};
 ghost use Rattle.rules.specs.Events.{live, freeSlot, restOrCancel, mayStart, starts, waits, trades, arrive, onOrder, enterSweep, onSweep};
@@ -31,7 +32,7 @@ use sides::other;
 
 // Day rests and others are cancelled.
 fn rest_or_cancel(b: State, i: usize, space: &mut [i32], n: usize) -> After
-    requires { ⌜ i < 32 ⌝ }
+    requires { ⌜ i < tableRows ⌝ }
     requires { ⌜ Room (now space) n (restOrCancel i b .records) ⌝ }
     ensures { λ t. ⌜ Done (now (space .entry)) (now (space .exit)) n (t .count) (t .state) (restOrCancel i b) ⌝ }
 {
@@ -80,7 +81,7 @@ fn starts(b: State, e: Entry) -> bool
 
 // The order at slot i, where an auction runs.
 fn waits(b: State, i: usize, space: &mut [i32], n: usize) -> After
-    requires { ⌜ (i < 32) × Fit b ⌝ }
+    requires { ⌜ (i < tableRows) × Fit b ⌝ }
     requires { ⌜ Room (now space) n (waits i b .records) ⌝ }
     ensures { λ t. ⌜ Done (now (space .entry)) (now (space .exit)) n (t .count) (t .state) (waits i b) ⌝ }
 {
@@ -95,7 +96,7 @@ fn waits(b: State, i: usize, space: &mut [i32], n: usize) -> After
 
 // The order at slot i, where none runs and it starts none.
 fn trades(b: State, i: usize, space: &mut [i32], n: usize) -> After
-    requires { ⌜ (i < 32) × Fit b ⌝ }
+    requires { ⌜ (i < tableRows) × Fit b ⌝ }
     requires { ⌜ Room (now space) n (trades i b .records) ⌝ }
     ensures { λ t. ⌜ Done (now (space .entry)) (now (space .exit)) n (t .count) (t .state) (trades i b) ⌝ }
 {
@@ -106,7 +107,7 @@ fn trades(b: State, i: usize, space: &mut [i32], n: usize) -> After
 
 // What the order at slot i does once it has entered.
 fn arrive(b: State, i: usize, space: &mut [i32], n: usize) -> After
-    requires { ⌜ (i < 32) × Fit b ⌝ }
+    requires { ⌜ (i < tableRows) × Fit b ⌝ }
     requires { ⌜ Room (now space) n (arrive i b .records) ⌝ }
     ensures { λ t. ⌜ Done (now (space .entry)) (now (space .exit)) n (t .count) (t .state) (arrive i b) ⌝ }
 {
@@ -126,7 +127,7 @@ fn arrive(b: State, i: usize, space: &mut [i32], n: usize) -> After
 
 // A complex order, accepted.
 pub fn on_order(e: Entry, b: State, space: &mut [i32], n: usize) -> After
-    requires { ⌜ (freeSlot b < 32) × FitEntry e × Fit b ⌝ }
+    requires { ⌜ (freeSlot b < tableRows) × FitEntry e × Fit b ⌝ }
     requires { ⌜ Room (now space) n (onOrder e b .records) ⌝ }
     ensures { λ t. ⌜ Done (now (space .entry)) (now (space .exit)) n (t .count) (t .state) (onOrder e b) ⌝ }
 {
@@ -154,7 +155,7 @@ fn cancel_at(b: State, i: usize, space: &mut [i32], n: usize) -> After
     requires { ⌜ Room (now space) n (cancelEntry i b .records) ⌝ }
     ensures { λ t. ⌜ Done (now (space .entry)) (now (space .exit)) n (t .count) (t .state) (cancelEntry i b) ⌝ }
 {
-    if i < 32 {
+    if i < State::ROWS {
         return cancel_entry(b, i, space, n);
     }
     After { state: b, count: n }

@@ -4,6 +4,7 @@ ghost use mathlib.Core.Bool.{false};
 ghost use Prim.Native.Nat.{_+_, _-_, _<_};
 ghost use lib.Dec.{eqb};
 ghost use Rattle.base.specs.Pick.{pick};
+ghost use Rattle.rules.specs.Sizes.{strategySlots, tableRows};
 ghost use Rattle.rules.specs.State.{entryAt};
 ghost use Rattle.rules.specs.Moves.{each};
 ghost use Rattle.rules.specs.Auctions.{liveIn, putAuction, begin, close, starterSlot, answer, lapses, cancelLapsed, endUnfilled};
@@ -18,6 +19,7 @@ use rules::Entry;
 use rules::Kind;
 use rules::Record;
 use rules::State;
+use rules::ZERO_LEVEL;
 use sides::other;
 
 // Whether an entry is live and of strategy k.
@@ -43,25 +45,25 @@ fn is_number(k: usize, n: u32, e: Entry) -> bool
 
 // The slot of the order that started the auction of strategy k, 32 where it is gone.
 pub fn starter_slot(b: State, k: usize) -> usize
-    requires { ⌜ k < 16 ⌝ }
+    requires { ⌜ k < strategySlots ⌝ }
     ensures { λ r. ⌜ r ≡ starterSlot b k ⌝ }
 {
     let s = b.strategies[k];
     let n = s.starter;
     let mut i: usize = 0;
-    while i < 32 {
+    while i < State::ROWS {
         let e = b.entries[i];
         if is_number(k, n, e) {
             return i;
         }
         i += 1;
     }
-    32
+    State::ROWS
 }
 
 // The auction of strategy k, changed: its starter, the clock at its start, whether it was answered.
 fn put_auction(b: State, k: usize, n: u32, t: u32, a: bool) -> State
-    requires { ⌜ k < 16 ⌝ }
+    requires { ⌜ k < strategySlots ⌝ }
     ensures { λ c. ⌜ c ≡ putAuction b k n t a ⌝ }
 {
     let mut s = b.strategies[k];
@@ -88,7 +90,7 @@ fn begun_record(e: Entry) -> Record
 
 // Entry i starts the auction of its strategy.
 pub fn begin(b: State, i: usize, space: &mut [i32], n: usize) -> After
-    requires { ⌜ (i < 32) × Fit b ⌝ }
+    requires { ⌜ (i < tableRows) × Fit b ⌝ }
     requires { ⌜ Room (now space) n (begin i b .records) ⌝ }
     ensures { λ t. ⌜ Done (now (space .entry)) (now (space .exit)) n (t .count) (t .state) (begin i b) ⌝ }
 {
@@ -109,13 +111,13 @@ fn ended_record(n: u32, k: u8) -> Record
         place: k,
         side: 0,
         quantity: 0,
-        level: 10000000,
+        level: ZERO_LEVEL,
     }
 }
 
 // The auction of strategy k is over.
 pub fn close(b: State, k: usize, space: &mut [i32], n: usize) -> After
-    requires { ⌜ k < 16 ⌝ }
+    requires { ⌜ k < strategySlots ⌝ }
     requires { ⌜ Room (now space) n (close k b .records) ⌝ }
     ensures { λ t. ⌜ Done (now (space .entry)) (now (space .exit)) n (t .count) (t .state) (close k b) ⌝ }
 {
@@ -131,7 +133,7 @@ fn side_at(b: State, i: usize) -> u8
     requires { ⌜ Fit b ⌝ }
     ensures { λ r. ⌜ r ≡ entryAt b i .side ⌝ }
 {
-    if i < 32 {
+    if i < State::ROWS {
         let e = b.entries[i];
         return e.side;
     }
@@ -140,7 +142,7 @@ fn side_at(b: State, i: usize) -> u8
 
 // An opposite sweep or waiting order of that side was accepted during the auction of strategy k.
 pub fn answer(b: State, k: usize, side: u8) -> State
-    requires { ⌜ (k < 16) × Fit b ⌝ }
+    requires { ⌜ (k < strategySlots) × Fit b ⌝ }
     ensures { λ c. ⌜ c ≡ answer k side b ⌝ }
 {
     let i = starter_slot(b, k);
@@ -171,13 +173,13 @@ fn lapses(k: usize, e: Entry) -> bool
 
 // What lapses is cancelled, by number.
 fn cancel_lapses(b: State, k: usize, space: &mut [i32], n: usize) -> After
-    requires { ⌜ Room (now space) n (each (cancelLapsed k) 32 b .records) ⌝ }
-    ensures { λ t. ⌜ Done (now (space .entry)) (now (space .exit)) n (t .count) (t .state) (each (cancelLapsed k) 32 b) ⌝ }
+    requires { ⌜ Room (now space) n (each (cancelLapsed k) tableRows b .records) ⌝ }
+    ensures { λ t. ⌜ Done (now (space .entry)) (now (space .exit)) n (t .count) (t .state) (each (cancelLapsed k) tableRows b) ⌝ }
 {
     let mut c = b;
     let mut m = n;
     let mut i: usize = 0;
-    while i < 32 {
+    while i < State::ROWS {
         let e = c.entries[i];
         if lapses(k, e) {
             let t = cancel_entry(c, i, space, m);
@@ -191,7 +193,7 @@ fn cancel_lapses(b: State, k: usize, space: &mut [i32], n: usize) -> After
 
 // The auction of strategy k ends without fills: the cancels, then its record.
 pub fn end_unfilled(b: State, k: usize, space: &mut [i32], n: usize) -> After
-    requires { ⌜ k < 16 ⌝ }
+    requires { ⌜ k < strategySlots ⌝ }
     requires { ⌜ Room (now space) n (endUnfilled k b .records) ⌝ }
     ensures { λ t. ⌜ Done (now (space .entry)) (now (space .exit)) n (t .count) (t .state) (endUnfilled k b) ⌝ }
 {

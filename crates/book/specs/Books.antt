@@ -6,6 +6,7 @@ use lib.IntN.{ℤ}
 use lib.ListN.{length}
 use Rattle.events.specs.declared.Event.{Event}
 use Rattle.events.specs.declared.Reading.the-variants as R
+use Rattle.rules.specs.Sizes.{recordsLent}
 use Rattle.rules.specs.State.{first}
 use Rattle.rules.specs.declared.State.{State}
 use Rattle.rules.specs.Step.{Outcome, refuseOrPerform, step, answerOf, answerCount}
@@ -26,7 +27,7 @@ pub record Handed (o : Outcome) (s t : List ℤ) (x : Taken) : Type 0 where
   pub state : x .book .state ≡ o .moved .state
   pub space : t ≡ laid s 0 (o .moved .records)
   pub valid : Valid (x .book .state)
-  pub few : answerCount (x .answer) ≤ 2560
+  pub few : answerCount (x .answer) ≤ recordsLent
   pub same : length t ≡ length s
 
 -- an event of any kind

@@ -9,6 +9,7 @@ ghost use Rattle.base.specs.Pick.{pick};
 ghost use lib.Dec.{eqb};
 ghost use lib.ListN.{length};
 ghost use Prim.Native.Nat.{_≤_, _<_};
+ghost use Rattle.rules.specs.Sizes.{recordSpace};
 ghost use Rattle.book.specs.Books.{First, Took, Stepped};
 ghost use Rattle.book.specs.Outcomes.{refuse, admit};
 use arrivals::on_order;
@@ -82,16 +83,16 @@ fn number_taken(e: Entry) -> u32
 }
 
 impl Book {
-    // The sizes of the tables, and the numbers of a record space.
-    pub const STRATEGIES: usize = 16;
+    // The sizes of the tables, and the numbers of a record space: those of its state.
+    pub const STRATEGIES: usize = State::STRATEGIES;
 
-    pub const ORDERS: usize = 16;
+    pub const ORDERS: usize = State::ORDERS;
 
-    pub const SWEEPS: usize = 16;
+    pub const SWEEPS: usize = State::SWEEPS;
 
-    pub const LEG_ORDERS: usize = 32;
+    pub const LEG_ORDERS: usize = State::LEG_ORDERS;
 
-    pub const RECORD_SPACE: usize = 15360;
+    pub const RECORD_SPACE: usize = State::RECORD_SPACE;
 
     // The first book: timer 5,000, clock 0, all shut, its tables empty and no number given.
     pub fn first() -> Book
@@ -102,7 +103,7 @@ impl Book {
 
     // Kind 1: a strategy.
     fn strategy(self, e: events::Strategy, space: &mut [i32]) -> Taken
-        requires { ⌜ Valid (self .state) × FitGiven e × (15360 ≤ length (now space)) ⌝ }
+        requires { ⌜ Valid (self .state) × FitGiven e × (recordSpace ≤ length (now space)) ⌝ }
         ensures { λ x. ⌜ Took (self .state) (E.Strategy e) (now (space .entry)) (now (space .exit)) x ⌝ }
     {
         let b = self.state;
@@ -115,7 +116,7 @@ impl Book {
         if k < n {
             return admit(b, k as u32, 0);
         }
-        if 16 <= n {
+        if Book::STRATEGIES <= n {
             return refuse(b, 12);
         }
         let c = add(s, b);
@@ -124,7 +125,7 @@ impl Book {
 
     // Kind 2: a complex order.
     fn order(self, e: events::Order, space: &mut [i32]) -> Taken
-        requires { ⌜ Valid (self .state) × FitOrderGiven e × (15360 ≤ length (now space)) ⌝ }
+        requires { ⌜ Valid (self .state) × FitOrderGiven e × (recordSpace ≤ length (now space)) ⌝ }
         ensures { λ x. ⌜ Took (self .state) (E.Order e) (now (space .entry)) (now (space .exit)) x ⌝ }
     {
         let b = self.state;
@@ -140,7 +141,7 @@ impl Book {
 
     // Kind 3: a sweep.
     fn sweep(self, e: events::Sweep, space: &mut [i32]) -> Taken
-        requires { ⌜ Valid (self .state) × FitSweepGiven e × (15360 ≤ length (now space)) ⌝ }
+        requires { ⌜ Valid (self .state) × FitSweepGiven e × (recordSpace ≤ length (now space)) ⌝ }
         ensures { λ x. ⌜ Took (self .state) (E.Sweep e) (now (space .entry)) (now (space .exit)) x ⌝ }
     {
         let b = self.state;
@@ -156,7 +157,7 @@ impl Book {
 
     // Kind 4: a leg order.
     fn leg_order(self, e: events::LegOrder, space: &mut [i32]) -> Taken
-        requires { ⌜ Valid (self .state) × FitLegOrderGiven e × (15360 ≤ length (now space)) ⌝ }
+        requires { ⌜ Valid (self .state) × FitLegOrderGiven e × (recordSpace ≤ length (now space)) ⌝ }
         ensures { λ x. ⌜ Took (self .state) (E.LegOrder e) (now (space .entry)) (now (space .exit)) x ⌝ }
     {
         let b = self.state;
@@ -172,7 +173,7 @@ impl Book {
 
     // Kind 5: a cancel.
     fn cancel(self, e: events::Cancel, space: &mut [i32]) -> Taken
-        requires { ⌜ Valid (self .state) × (1 ≤ e .number) × (15360 ≤ length (now space)) ⌝ }
+        requires { ⌜ Valid (self .state) × (1 ≤ e .number) × (recordSpace ≤ length (now space)) ⌝ }
         ensures { λ x. ⌜ Took (self .state) (E.Cancel e) (now (space .entry)) (now (space .exit)) x ⌝ }
     {
         let b = self.state;
@@ -187,7 +188,7 @@ impl Book {
 
     // Kind 6: a series opens or shuts.
     fn series(self, e: events::Series, space: &mut [i32]) -> Taken
-        requires { ⌜ Valid (self .state) × (e .series < 32) × (15360 ≤ length (now space)) ⌝ }
+        requires { ⌜ Valid (self .state) × (e .series < 32) × (recordSpace ≤ length (now space)) ⌝ }
         ensures { λ x. ⌜ Took (self .state) (E.Series e) (now (space .entry)) (now (space .exit)) x ⌝ }
     {
         let b = self.state;
@@ -198,7 +199,7 @@ impl Book {
 
     // Kind 7: the clock.
     fn clock(self, e: events::Clock, space: &mut [i32]) -> Taken
-        requires { ⌜ Valid (self .state) × (e .time ≤ 86400000) × (15360 ≤ length (now space)) ⌝ }
+        requires { ⌜ Valid (self .state) × (e .time ≤ 86400000) × (recordSpace ≤ length (now space)) ⌝ }
         ensures { λ x. ⌜ Took (self .state) (E.Clock e) (now (space .entry)) (now (space .exit)) x ⌝ }
     {
         let b = self.state;
@@ -213,7 +214,7 @@ impl Book {
 
     // Kind 8: the day's end.
     fn day_end(self, e: events::DayEnd, space: &mut [i32]) -> Taken
-        requires { ⌜ Valid (self .state) × ((1 ≤ e .timer) × (e .timer ≤ 5000)) × (15360 ≤ length (now space)) ⌝ }
+        requires { ⌜ Valid (self .state) × ((1 ≤ e .timer) × (e .timer ≤ 5000)) × (recordSpace ≤ length (now space)) ⌝ }
         ensures { λ x. ⌜ Took (self .state) (E.DayEnd e) (now (space .entry)) (now (space .exit)) x ⌝ }
     {
         let b = self.state;

@@ -5,6 +5,7 @@ ghost use Prim.Native.Nat.{_+_, _-_, _^_, _<_, _≤_};
 ghost use lib.Dec.{eqb, leb};
 ghost use Rattle.base.specs.Pick.{pick};
 ghost use Rattle.base.specs.Sets.{has, minus};
+ghost use Rattle.rules.specs.Sizes.{strategySlots, tableRows};
 ghost use Rattle.rules.specs.State.{fresh, freeStrategy, withOpened, withClock};
 ghost use Rattle.rules.specs.Moves.{each};
 ghost use Rattle.rules.specs.Auctions.{matchIn};
@@ -54,9 +55,9 @@ pub fn fresh(timer: u32) -> State
     ensures { λ b. ⌜ b ≡ fresh timer ⌝ }
 {
     State {
-        strategies: [free_strategy(); 16],
-        entries: [NO_ENTRY; 32],
-        orders: [NO_ORDER; 32],
+        strategies: [free_strategy(); State::STRATEGIES],
+        entries: [NO_ENTRY; State::ROWS],
+        orders: [NO_ORDER; State::LEG_ORDERS],
         defined: 0,
         opened: 0,
         clock: 0,
@@ -76,13 +77,13 @@ fn has_live(x: u32, quantity: u32, number: u32) -> bool
 }
 
 fn cancel_entries(b: State, number: u32, space: &mut [i32], n: usize) -> After
-    requires { ⌜ Room (now space) n (each (cancelEntryOf number) 32 b .records) ⌝ }
-    ensures { λ t. ⌜ Done (now (space .entry)) (now (space .exit)) n (t .count) (t .state) (each (cancelEntryOf number) 32 b) ⌝ }
+    requires { ⌜ Room (now space) n (each (cancelEntryOf number) tableRows b .records) ⌝ }
+    ensures { λ t. ⌜ Done (now (space .entry)) (now (space .exit)) n (t .count) (t .state) (each (cancelEntryOf number) tableRows b) ⌝ }
 {
     let mut c = b;
     let mut m = n;
     let mut i: usize = 0;
-    while i < 32 {
+    while i < State::ROWS {
         let e = c.entries[i];
         if has_live(e.number, e.units, number) {
             let t = cancel_entry(c, i, space, m);
@@ -95,13 +96,13 @@ fn cancel_entries(b: State, number: u32, space: &mut [i32], n: usize) -> After
 }
 
 fn cancel_orders(b: State, number: u32, space: &mut [i32], n: usize) -> After
-    requires { ⌜ Room (now space) n (each (cancelOrderOf number) 32 b .records) ⌝ }
-    ensures { λ t. ⌜ Done (now (space .entry)) (now (space .exit)) n (t .count) (t .state) (each (cancelOrderOf number) 32 b) ⌝ }
+    requires { ⌜ Room (now space) n (each (cancelOrderOf number) tableRows b .records) ⌝ }
+    ensures { λ t. ⌜ Done (now (space .entry)) (now (space .exit)) n (t .count) (t .state) (each (cancelOrderOf number) tableRows b) ⌝ }
 {
     let mut c = b;
     let mut m = n;
     let mut i: usize = 0;
-    while i < 32 {
+    while i < State::LEG_ORDERS {
         let o = c.orders[i];
         if has_live(o.number, o.contracts, number) {
             let t = cancel_order(c, i, space, m);
@@ -155,7 +156,7 @@ fn lowest_live(b: State) -> u32
 {
     let mut n: u32 = 0;
     let mut i: usize = 0;
-    while i < 32 {
+    while i < State::ROWS {
         let e = b.entries[i];
         let o = b.orders[i];
         n = lower_live(n, e.number, e.units);
@@ -168,13 +169,13 @@ fn lowest_live(b: State) -> u32
 // At the day's end: all that is live, by number, until nothing is.
 fn cancel_all(b: State, space: &mut [i32], n: usize) -> After
     requires { ⌜ Numbered b ⌝ }
-    requires { ⌜ Room (now space) n (each cancelLowest 64 b .records) ⌝ }
-    ensures { λ t. ⌜ Done (now (space .entry)) (now (space .exit)) n (t .count) (t .state) (each cancelLowest 64 b) ⌝ }
+    requires { ⌜ Room (now space) n (each cancelLowest (tableRows + tableRows) b .records) ⌝ }
+    ensures { λ t. ⌜ Done (now (space .entry)) (now (space .exit)) n (t .count) (t .state) (each cancelLowest (tableRows + tableRows) b) ⌝ }
 {
     let mut c = b;
     let mut m = n;
     let mut i: usize = 0;
-    while i < 64 {
+    while i < State::ROWS + State::LEG_ORDERS {
         let low = lowest_live(c);
         if low == 0 {
             return After { state: c, count: m };
@@ -189,13 +190,13 @@ fn cancel_all(b: State, space: &mut [i32], n: usize) -> After
 
 // At the day's end: the auctions, by strategy.
 fn close_all(b: State, space: &mut [i32], n: usize) -> After
-    requires { ⌜ Room (now space) n (each closeRunning 16 b .records) ⌝ }
-    ensures { λ t. ⌜ Done (now (space .entry)) (now (space .exit)) n (t .count) (t .state) (each closeRunning 16 b) ⌝ }
+    requires { ⌜ Room (now space) n (each closeRunning strategySlots b .records) ⌝ }
+    ensures { λ t. ⌜ Done (now (space .entry)) (now (space .exit)) n (t .count) (t .state) (each closeRunning strategySlots b) ⌝ }
 {
     let mut c = b;
     let mut m = n;
     let mut k: usize = 0;
-    while k < 16 {
+    while k < State::STRATEGIES {
         let s = c.strategies[k];
         if s.starter != 0 {
             let t = close(c, k, space, m);
@@ -251,7 +252,7 @@ pub fn on_clock(b: State, t: u32, space: &mut [i32], n: usize) -> After
     let mut c = with_clock(b, t);
     let mut m = n;
     let mut k: usize = 0;
-    while k < 16 {
+    while k < State::STRATEGIES {
         let s = c.strategies[k];
         if due(s, c.timer, c.clock) {
             let x = end_auction(c, k, space, m);
@@ -291,7 +292,7 @@ fn shut(b: State, s: u8, space: &mut [i32], n: usize) -> After
     let mut c = with_opened(b, left);
     let mut m = n;
     let mut k: usize = 0;
-    while k < 16 {
+    while k < State::STRATEGIES {
         let h = c.strategies[k];
         if ends(h, s) {
             let t = end_unfilled(c, k, space, m);
@@ -316,13 +317,13 @@ fn matches(h: Strategy, opened: u32, s: u8) -> bool
 
 fn match_series(b: State, s: u8, space: &mut [i32], n: usize) -> After
     requires { ⌜ (s < 32) × Fit b ⌝ }
-    requires { ⌜ Room (now space) n (each (matchIn s) 16 b .records) ⌝ }
-    ensures { λ t. ⌜ Done (now (space .entry)) (now (space .exit)) n (t .count) (t .state) (each (matchIn s) 16 b) ⌝ }
+    requires { ⌜ Room (now space) n (each (matchIn s) strategySlots b .records) ⌝ }
+    ensures { λ t. ⌜ Done (now (space .entry)) (now (space .exit)) n (t .count) (t .state) (each (matchIn s) strategySlots b) ⌝ }
 {
     let mut c = b;
     let mut m = n;
     let mut k: usize = 0;
-    while k < 16 {
+    while k < State::STRATEGIES {
         let h = c.strategies[k];
         if matches(h, c.opened, s) {
             let t = match_in(c, s, k, space, m);
@@ -381,7 +382,7 @@ pub fn on_series(b: State, s: u8, state: u32, space: &mut [i32], n: usize) -> Af
 
 // The passes by legs only, where something of the leg order at slot a rests.
 fn if_rests(b: State, s: u8, a: usize, space: &mut [i32], n: usize) -> After
-    requires { ⌜ (s < 32) × (a < 32) × Fit b ⌝ }
+    requires { ⌜ (s < 32) × (a < tableRows) × Fit b ⌝ }
     requires { ⌜ Room (now space) n (ifRests s a b .records) ⌝ }
     ensures { λ t. ⌜ Done (now (space .entry)) (now (space .exit)) n (t .count) (t .state) (ifRests s a b) ⌝ }
 {
@@ -394,7 +395,7 @@ fn if_rests(b: State, s: u8, a: usize, space: &mut [i32], n: usize) -> After
 
 // A leg order enters and trades; if any rests, the passes by legs only.
 pub fn on_leg_order(b: State, o: LegOrder, space: &mut [i32], n: usize) -> After
-    requires { ⌜ (freeOrderSlot b < 32) × FitOrder o × Fit b ⌝ }
+    requires { ⌜ (freeOrderSlot b < tableRows) × FitOrder o × Fit b ⌝ }
     requires { ⌜ Room (now space) n (onLegOrder o b .records) ⌝ }
     ensures { λ t. ⌜ Done (now (space .entry)) (now (space .exit)) n (t .count) (t .state) (onLegOrder o b) ⌝ }
 {

@@ -5,6 +5,7 @@ ghost use mathlib.Core.Path.{_≡_};
 ghost use Prim.Native.Nat.{_<_, _≤_};
 ghost use lib.ListN.{length};
 ghost use Rattle.base.specs.All.{All};
+ghost use Rattle.rules.specs.Sizes.{tableRows};
 ghost use Rattle.rules.specs.Lookups.{wellFormed, rowDepth};
 ghost use Rattle.rules.specs.Valid.{FitOrder};
 ghost use Rattle.nets.specs.Best.{Priced};
@@ -13,11 +14,12 @@ use lookups::depth;
 use rules::Depth;
 use rules::LegOrder;
 use rules::OrderEntry;
+use rules::State;
 use tables::NO_ORDER;
 
 // The leg orders of the entries read so far, by their places, and whether each was well formed.
 struct RowOrders {
-    orders: [LegOrder; 32],
+    orders: [LegOrder; State::LEG_ORDERS],
     fine: bool,
 }
 
@@ -64,13 +66,13 @@ fn order_of(e: OrderEntry) -> LegOrder
 fn no_orders() -> RowOrders
     ensures { λ r. ⌜ r ≡ noOrders ⌝ }
 {
-    let orders = [NO_ORDER; 32];
+    let orders = [NO_ORDER; State::LEG_ORDERS];
     RowOrders { orders, fine: true }
 }
 
 // With the entry at place i.
 fn with_entry(r: RowOrders, i: usize, e: OrderEntry) -> RowOrders
-    requires { ⌜ i < 32 ⌝ }
+    requires { ⌜ i < tableRows ⌝ }
     ensures { λ x. ⌜ x ≡ ordersWith i e r ⌝ }
 {
     let mut x = r;
@@ -97,7 +99,7 @@ fn orders_depth(r: RowOrders, series: u32, side: u32) -> Depth
 
 // The leg orders of a row of at most 32 entries.
 fn orders_of(row: &[OrderEntry]) -> RowOrders
-    requires { ⌜ length (now row) ≤ 32 ⌝ }
+    requires { ⌜ length (now row) ≤ tableRows ⌝ }
     ensures { λ r. ⌜ r ≡ ordersN (now (row .entry)) (length (now (row .entry))) ⌝ }
 {
     let mut r = no_orders();
@@ -113,7 +115,7 @@ fn orders_of(row: &[OrderEntry]) -> RowOrders
 pub fn row_depth(row: &[OrderEntry], series: u32, side: u32) -> Depth
     ensures { λ r. ⌜ r ≡ rowDepth (now (row .entry)) series side ⌝ }
 {
-    if 32 < row.len() {
+    if State::LEG_ORDERS < row.len() {
         return Depth::Refused(3);
     }
     let r = orders_of(row);

@@ -4,6 +4,7 @@ ghost use mathlib.Core.Bool.{false, not};
 ghost use Prim.Native.Nat.{_+_, _-_, _%_, _<_};
 ghost use lib.Dec.{eqb};
 ghost use Rattle.base.specs.Sets.{has};
+ghost use Rattle.rules.specs.Sizes.{strategySlots, tableRows};
 ghost use Rattle.rules.specs.Moves.{each};
 ghost use Rattle.rules.specs.Auctions.{running, starterPass, later, laterPass, endAuction};
 ghost use Rattle.records.specs.Space.{Room};
@@ -28,7 +29,7 @@ fn runs(s: Strategy) -> bool
 
 // Whether an auction runs in strategy k.
 pub fn running(b: State, k: usize) -> bool
-    requires { ⌜ k < 16 ⌝ }
+    requires { ⌜ k < strategySlots ⌝ }
     ensures { λ r. ⌜ r ≡ running b k ⌝ }
 {
     let s = b.strategies[k];
@@ -46,12 +47,12 @@ pub fn holds(t: Strategy, s: u8) -> bool
 
 // The starter's shared pass, legs barred if an opposite sweep or waiting order was accepted meanwhile.
 fn starter_pass(b: State, k: usize, space: &mut [i32], n: usize) -> After
-    requires { ⌜ (k < 16) × Fit b ⌝ }
+    requires { ⌜ (k < strategySlots) × Fit b ⌝ }
     requires { ⌜ Room (now space) n (starterPass k b .records) ⌝ }
     ensures { λ t. ⌜ Done (now (space .entry)) (now (space .exit)) n (t .count) (t .state) (starterPass k b) ⌝ }
 {
     let a = starter_slot(b, k);
-    if a < 32 {
+    if a < State::ROWS {
         let s = b.strategies[k];
         let legs = !s.answered;
         return pass(Allocation::Shared, legs, b, a, space, n);
@@ -72,13 +73,13 @@ fn later(k: usize, n: u32, e: Entry) -> bool
 // A numbered pass of each entry accepted meanwhile, by number; sweeps never use legs.
 fn later_passes(b: State, k: usize, n: u32, space: &mut [i32], m: usize) -> After
     requires { ⌜ Fit b ⌝ }
-    requires { ⌜ Room (now space) m (each (laterPass k n) 32 b .records) ⌝ }
-    ensures { λ t. ⌜ Done (now (space .entry)) (now (space .exit)) m (t .count) (t .state) (each (laterPass k n) 32 b) ⌝ }
+    requires { ⌜ Room (now space) m (each (laterPass k n) tableRows b .records) ⌝ }
+    ensures { λ t. ⌜ Done (now (space .entry)) (now (space .exit)) m (t .count) (t .state) (each (laterPass k n) tableRows b) ⌝ }
 {
     let mut c = b;
     let mut o = m;
     let mut i: usize = 0;
-    while i < 32 {
+    while i < State::ROWS {
         let e = c.entries[i];
         if later(k, n, e) {
             let legs = e.life != 4;
@@ -93,7 +94,7 @@ fn later_passes(b: State, k: usize, n: u32, space: &mut [i32], m: usize) -> Afte
 
 // The auction of strategy k ends.
 pub fn end_auction(b: State, k: usize, space: &mut [i32], n: usize) -> After
-    requires { ⌜ (k < 16) × Fit b ⌝ }
+    requires { ⌜ (k < strategySlots) × Fit b ⌝ }
     requires { ⌜ Room (now space) n (endAuction k b .records) ⌝ }
     ensures { λ t. ⌜ Done (now (space .entry)) (now (space .exit)) n (t .count) (t .state) (endAuction k b) ⌝ }
 {

@@ -3,6 +3,7 @@ ghost use mathlib.Core.Path.{_≡_};
 ghost use lib.ListN.{length};
 ghost use Rattle.base.specs.Pick.{pick};
 ghost use Rattle.base.specs.Walks.{sumN};
+ghost use Rattle.rules.specs.Sizes.{tableRows};
 ghost use Rattle.rules.specs.State.{noEntry};
 ghost use Rattle.rules.specs.Events.{live, keep, behind, enter, freeSlot, sameSweep, oldSweep};
 ghost use Rattle.rules.specs.Refusals.{isOrderAt, isSweepAt};
@@ -19,18 +20,18 @@ pub fn live(e: Entry) -> bool
 
 // The table with a new entry, and the slot of it.
 struct Inserted {
-    rows: [Entry; 32],
+    rows: [Entry; State::ROWS],
     slot: usize,
 }
 
 // The live entries in front, in their order, and one more behind them, if a slot is free.
-fn insert(es: [Entry; 32], e: Entry) -> Inserted
+fn insert(es: [Entry; State::ROWS], e: Entry) -> Inserted
     ensures { λ x. ⌜ (x .rows ≡ behind live noEntry e es) × (x .slot ≡ length (keep live es)) ⌝ }
 {
-    let mut rows = [NO_ENTRY; 32];
+    let mut rows = [NO_ENTRY; State::ROWS];
     let mut n: usize = 0;
     let mut i: usize = 0;
-    while i < 32 {
+    while i < State::ROWS {
         let x = es[i];
         if live(x) {
             rows[n] = x;
@@ -38,7 +39,7 @@ fn insert(es: [Entry; 32], e: Entry) -> Inserted
         }
         i += 1;
     }
-    if n < 32 {
+    if n < State::ROWS {
         rows[n] = e;
     }
     Inserted {
@@ -90,14 +91,14 @@ fn counts(e: Entry, sweeps: bool) -> u32
 
 // The number of live sweeps, or of live complex orders. The exit, where all 32 are, keeps the compiler from unrolling the loop and splitting the state.
 pub fn count_of(b: State, sweeps: bool) -> u32
-    ensures { λ r. ⌜ r ≡ pick sweeps (sumN (isSweepAt b) 32) (sumN (isOrderAt b) 32) ⌝ }
+    ensures { λ r. ⌜ r ≡ pick sweeps (sumN (isSweepAt b) tableRows) (sumN (isOrderAt b) tableRows) ⌝ }
 {
     let mut n: u32 = 0;
     let mut i: usize = 0;
-    while i < 32 {
+    while i < State::ROWS {
         let x = counts(b.entries[i], sweeps);
         n += x;
-        if n == 32 {
+        if n == State::ROWS {
             return n;
         }
         i += 1;
@@ -132,11 +133,11 @@ pub fn old_sweep(b: State, e: Entry) -> usize
     ensures { λ r. ⌜ r ≡ oldSweep b e ⌝ }
 {
     let mut i: usize = 0;
-    while i < 32 {
+    while i < State::ROWS {
         if same_sweep(e, b.entries[i]) {
             return i;
         }
         i += 1;
     }
-    32
+    State::ROWS
 }

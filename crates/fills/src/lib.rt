@@ -3,6 +3,7 @@ ghost use mathlib.Core.Path.{_≡_};
 ghost use mathlib.Core.List.{_++_};
 ghost use Prim.Native.Nat.{_+_, _*_, _-_, _<_, _≤_};
 ghost use Rattle.base.specs.Walks.{joinN};
+ghost use Rattle.rules.specs.Sizes.{tableRows, zeroLevel};
 ghost use Rattle.rules.specs.Fills.{wholeRecord, legRecord, legRecordAt, partyRecords, noPrices, cutEntry, cut, wholeFill, cancelRecord, cancelEntry};
 ghost use Rattle.rules.specs.Passes.{give, giveInTurn, giveGroup, giveShared};
 ghost use Rattle.records.specs.Space.{Appended, Room};
@@ -20,6 +21,7 @@ use rules::Leg;
 use rules::Record;
 use rules::State;
 use rules::Strategy;
+use rules::ZERO_LEVEL;
 use sides::leg_side;
 
 fn whole_record(e: Entry, q: u32, level: u32) -> Record
@@ -36,7 +38,7 @@ fn whole_record(e: Entry, q: u32, level: u32) -> Record
 }
 
 fn leg_record(e: Entry, q: u32, price: u32, l: Leg) -> Record
-    requires { ⌜ (l .ratio * q < 2147483648) × (10000000 + price < 2147483648) ⌝ }
+    requires { ⌜ (l .ratio * q < 2147483648) × (zeroLevel + price < 2147483648) ⌝ }
     ensures { λ r. ⌜ r ≡ legRecord e q price l ⌝ }
 {
     let side = leg_side(e.side, l);
@@ -47,7 +49,7 @@ fn leg_record(e: Entry, q: u32, price: u32, l: Leg) -> Record
         place: l.series,
         side: side,
         quantity: ratio * q,
-        level: 10000000 + price,
+        level: ZERO_LEVEL + price,
     }
 }
 
@@ -105,7 +107,7 @@ fn cut_entry(e: Entry, q: u32) -> Entry
 
 // q units taken from entry i.
 pub fn cut(b: State, i: usize, q: u32) -> State
-    requires { ⌜ i < 32 ⌝ }
+    requires { ⌜ i < tableRows ⌝ }
     ensures { λ c. ⌜ c ≡ cut b i q ⌝ }
 {
     let mut c = b;
@@ -143,7 +145,7 @@ pub fn whole_fill(
     space: &mut [i32],
     n: usize,
 ) -> After
-    requires { ⌜ (a < 32) × (h < 32) × Fit b ⌝ }
+    requires { ⌜ (a < tableRows) × (h < tableRows) × Fit b ⌝ }
     requires { ⌜ Room (now space) n (wholeFill b a h level q .records) ⌝ }
     ensures { λ t. ⌜ Done (now (space .entry)) (now (space .exit)) n (t .count) (t .state) (wholeFill b a h level q) ⌝ }
 {
@@ -163,15 +165,22 @@ pub fn whole_fill(
 }
 
 // Entry a meets each slot for its quota.
-fn give(b: State, a: usize, level: u32, qs: [u32; 32], space: &mut [i32], n: usize) -> After
-    requires { ⌜ (a < 32) × Fit b ⌝ }
+fn give(
+    b: State,
+    a: usize,
+    level: u32,
+    qs: [u32; State::ROWS],
+    space: &mut [i32],
+    n: usize,
+) -> After
+    requires { ⌜ (a < tableRows) × Fit b ⌝ }
     requires { ⌜ Room (now space) n (give a level qs b .records) ⌝ }
     ensures { λ t. ⌜ Done (now (space .entry)) (now (space .exit)) n (t .count) (t .state) (give a level qs b) ⌝ }
 {
     let mut c = b;
     let mut m = n;
     let mut i: usize = 0;
-    while i < 32 {
+    while i < State::ROWS {
         let q = qs[i];
         if q != 0 {
             let e = c.entries[a];
@@ -190,7 +199,7 @@ fn give(b: State, a: usize, level: u32, qs: [u32; 32], space: &mut [i32], n: usi
 
 // The holders of group g (3: all) by number.
 pub fn give_in_turn(b: State, a: usize, level: u32, g: u8, space: &mut [i32], n: usize) -> After
-    requires { ⌜ (a < 32) × Fit b ⌝ }
+    requires { ⌜ (a < tableRows) × Fit b ⌝ }
     requires { ⌜ Room (now space) n (giveInTurn a level g b .records) ⌝ }
     ensures { λ t. ⌜ Done (now (space .entry)) (now (space .exit)) n (t .count) (t .state) (giveInTurn a level g b) ⌝ }
 {
@@ -203,7 +212,7 @@ pub fn give_in_turn(b: State, a: usize, level: u32, g: u8, space: &mut [i32], n:
 
 // The holders of group g, shared where they hold more than what remains.
 fn give_group(b: State, a: usize, level: u32, g: u8, space: &mut [i32], n: usize) -> After
-    requires { ⌜ (a < 32) × Fit b ⌝ }
+    requires { ⌜ (a < tableRows) × Fit b ⌝ }
     requires { ⌜ Room (now space) n (giveGroup a level g b .records) ⌝ }
     ensures { λ t. ⌜ Done (now (space .entry)) (now (space .exit)) n (t .count) (t .state) (giveGroup a level g b) ⌝ }
 {
@@ -216,7 +225,7 @@ fn give_group(b: State, a: usize, level: u32, g: u8, space: &mut [i32], n: usize
 
 // Customers by number; then sweeps and market makers; then broker-dealers.
 pub fn give_shared(b: State, a: usize, level: u32, space: &mut [i32], n: usize) -> After
-    requires { ⌜ (a < 32) × Fit b ⌝ }
+    requires { ⌜ (a < tableRows) × Fit b ⌝ }
     requires { ⌜ Room (now space) n (giveShared a level b .records) ⌝ }
     ensures { λ t. ⌜ Done (now (space .entry)) (now (space .exit)) n (t .count) (t .state) (giveShared a level b) ⌝ }
 {
@@ -236,13 +245,13 @@ fn cancel_record(e: Entry) -> Record
         place: 0,
         side: e.side,
         quantity: e.units,
-        level: 10000000,
+        level: ZERO_LEVEL,
     }
 }
 
 // All that is live of entry i.
 pub fn cancel_entry(b: State, i: usize, space: &mut [i32], n: usize) -> After
-    requires { ⌜ i < 32 ⌝ }
+    requires { ⌜ i < tableRows ⌝ }
     requires { ⌜ Room (now space) n (cancelEntry i b .records) ⌝ }
     ensures { λ t. ⌜ Done (now (space .entry)) (now (space .exit)) n (t .count) (t .state) (cancelEntry i b) ⌝ }
 {

@@ -2,6 +2,7 @@
 ghost use mathlib.Core.Path.{_≡_};
 ghost use Prim.Native.Nat.{_+_, _*_, _-_, _<_, _≤_};
 ghost use Rattle.base.specs.Walks.{joinN};
+ghost use Rattle.rules.specs.Sizes.{tableRows};
 ghost use Rattle.rules.specs.Nets.{netOf};
 ghost use Rattle.rules.specs.Fills.{legQuotas, orderRows, orderRecords, cutOrders, takeLegs, legFill};
 ghost use Rattle.records.specs.Space.{Appended, Room};
@@ -27,12 +28,18 @@ use trades::order_row;
 
 // The leg orders left, and the next free place for records.
 struct Cuts {
-    rows: [LegOrder; 32],
+    rows: [LegOrder; State::LEG_ORDERS],
     count: usize,
 }
 
 // The quotas of one leg, by number, for c contracts at a price.
-fn leg_quotas(os: [LegOrder; 32], side: u8, c: u32, price: u32, l: Leg) -> [u32; 32]
+fn leg_quotas(
+    os: [LegOrder; State::LEG_ORDERS],
+    side: u8,
+    c: u32,
+    price: u32,
+    l: Leg,
+) -> [u32; State::ROWS]
     ensures { λ qs. ⌜ qs ≡ legQuotas os side c price l ⌝ }
 {
     let on = other(leg_side(side, l));
@@ -41,13 +48,19 @@ fn leg_quotas(os: [LegOrder; 32], side: u8, c: u32, price: u32, l: Leg) -> [u32;
 }
 
 // The leg orders' records of one leg, by number.
-fn order_rows(space: &mut [i32], n: usize, os: [LegOrder; 32], qs: [u32; 32], price: u32) -> usize
-    requires { ⌜ Room (now space) n (joinN (orderRows os qs price) 32) ⌝ }
-    ensures { λ m. ⌜ Appended (now (space .entry)) (now (space .exit)) n m (joinN (orderRows os qs price) 32) ⌝ }
+fn order_rows(
+    space: &mut [i32],
+    n: usize,
+    os: [LegOrder; State::LEG_ORDERS],
+    qs: [u32; State::ROWS],
+    price: u32,
+) -> usize
+    requires { ⌜ Room (now space) n (joinN (orderRows os qs price) tableRows) ⌝ }
+    ensures { λ m. ⌜ Appended (now (space .entry)) (now (space .exit)) n m (joinN (orderRows os qs price) tableRows) ⌝ }
 {
     let mut m = n;
     let mut i: usize = 0;
-    while i < 32 {
+    while i < State::LEG_ORDERS {
         m = order_row(space, m, os[i], qs[i], price);
         i += 1;
     }
@@ -55,12 +68,15 @@ fn order_rows(space: &mut [i32], n: usize, os: [LegOrder; 32], qs: [u32; 32], pr
 }
 
 // The leg orders with quotas taken from them.
-fn cut_orders(os: [LegOrder; 32], qs: [u32; 32]) -> [LegOrder; 32]
+fn cut_orders(
+    os: [LegOrder; State::LEG_ORDERS],
+    qs: [u32; State::ROWS],
+) -> [LegOrder; State::LEG_ORDERS]
     ensures { λ ps. ⌜ ps ≡ cutOrders os qs ⌝ }
 {
     let mut ps = os;
     let mut i: usize = 0;
-    while i < 32 {
+    while i < State::LEG_ORDERS {
         ps[i] = cut_order(os[i], qs[i]);
         i += 1;
     }
@@ -70,7 +86,7 @@ fn cut_orders(os: [LegOrder; 32], qs: [u32; 32]) -> [LegOrder; 32]
 // What q units take on one leg: quotas from the orders as they stood, their records, and the cuts.
 fn one_leg(
     c: Cuts,
-    os: [LegOrder; 32],
+    os: [LegOrder; State::LEG_ORDERS],
     side: u8,
     q: u32,
     price: u32,
@@ -78,7 +94,7 @@ fn one_leg(
     space: &mut [i32],
 ) -> Cuts
     requires { ⌜ (l .ratio ≤ 12) × (q ≤ 9999) ⌝ }
-    requires { ⌜ Room (now space) (c .count) (joinN (orderRows os (legQuotas os side (l .ratio * q) price l) price) 32) ⌝ }
+    requires { ⌜ Room (now space) (c .count) (joinN (orderRows os (legQuotas os side (l .ratio * q) price l) price) tableRows) ⌝ }
     ensures { λ d. ⌜ OneLeg (now (space .entry)) (now (space .exit)) (c .count) (d .count) (c .rows) (d .rows) os side q price l ⌝ }
 {
     let ratio = l.ratio as u32;
@@ -94,7 +110,7 @@ fn one_leg(
 
 // Leg after leg.
 fn all_legs(
-    os: [LegOrder; 32],
+    os: [LegOrder; State::LEG_ORDERS],
     side: u8,
     q: u32,
     s: Strategy,
@@ -127,7 +143,7 @@ fn take_legs(
     space: &mut [i32],
     n: usize,
 ) -> After
-    requires { ⌜ (a < 32) × FitLegs s × (q ≤ 9999) × (p .net ≡ netOf s (p .prices)) ⌝ }
+    requires { ⌜ (a < tableRows) × FitLegs s × (q ≤ 9999) × (p .net ≡ netOf s (p .prices)) ⌝ }
     requires { ⌜ Room (now space) n (takeLegs b a s (p .prices) q .records) ⌝ }
     ensures { λ t. ⌜ Done (now (space .entry)) (now (space .exit)) n (t .count) (t .state) (takeLegs b a s (p .prices) q) ⌝ }
 {
@@ -147,7 +163,7 @@ fn take_legs(
 
 // Entry a at the leg net: as many units as it has and the best prices hold.
 pub fn leg_fill(b: State, a: usize, space: &mut [i32], n: usize) -> After
-    requires { ⌜ (a < 32) × Fit b ⌝ }
+    requires { ⌜ (a < tableRows) × Fit b ⌝ }
     requires { ⌜ Room (now space) n (legFill a b .records) ⌝ }
     ensures { λ t. ⌜ Done (now (space .entry)) (now (space .exit)) n (t .count) (t .state) (legFill a b) ⌝ }
 {

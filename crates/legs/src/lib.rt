@@ -24,13 +24,13 @@ fn live(o: LegOrder) -> bool
 }
 
 // The live orders in front, in their order, and one more behind them, if a slot is free.
-fn insert(os: [LegOrder; 32], o: LegOrder) -> [LegOrder; 32]
+fn insert(os: [LegOrder; State::LEG_ORDERS], o: LegOrder) -> [LegOrder; State::LEG_ORDERS]
     ensures { λ rows. ⌜ rows ≡ behind liveOrder noOrder o os ⌝ }
 {
-    let mut rows = [NO_ORDER; 32];
+    let mut rows = [NO_ORDER; State::LEG_ORDERS];
     let mut n: usize = 0;
     let mut i: usize = 0;
-    while i < 32 {
+    while i < State::LEG_ORDERS {
         let x = os[i];
         if live(x) {
             rows[n] = x;
@@ -38,19 +38,19 @@ fn insert(os: [LegOrder; 32], o: LegOrder) -> [LegOrder; 32]
         }
         i += 1;
     }
-    if n < 32 {
+    if n < State::LEG_ORDERS {
         rows[n] = o;
     }
     rows
 }
 
 // The number of live orders.
-fn count(os: [LegOrder; 32]) -> usize
+fn count(os: [LegOrder; State::LEG_ORDERS]) -> usize
     ensures { λ r. ⌜ r ≡ length (keep liveOrder os) ⌝ }
 {
     let mut n: usize = 0;
     let mut i: usize = 0;
-    while i < 32 {
+    while i < State::LEG_ORDERS {
         if live(os[i]) {
             n += 1;
         }
@@ -94,7 +94,7 @@ fn ahead_order(o: LegOrder, p: LegOrder, best: usize, price: u32) -> bool
     ensures { λ r. ⌜ r ≡ aheadOf o p best price ⌝ }
 {
     if meets_order(o, p) {
-        if best == 32 {
+        if best == State::LEG_ORDERS {
             return true;
         }
         return better(o.side, p.price, price);
@@ -106,10 +106,10 @@ fn ahead_order(o: LegOrder, p: LegOrder, best: usize, price: u32) -> bool
 pub fn best_order(b: State, o: LegOrder) -> usize
     ensures { λ r. ⌜ r ≡ bestOrder b o ⌝ }
 {
-    let mut best: usize = 32;
+    let mut best: usize = State::LEG_ORDERS;
     let mut price: u32 = 0;
     let mut i: usize = 0;
-    while i < 32 {
+    while i < State::LEG_ORDERS {
         let p = b.orders[i];
         if ahead_order(o, p, best, price) {
             best = i;

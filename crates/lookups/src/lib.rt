@@ -4,6 +4,7 @@ ghost use Prim.Native.Nat.{_+_, _-_, _<_};
 ghost use lib.Dec.{eqb};
 ghost use Rattle.base.specs.Pick.{pick};
 ghost use Rattle.base.specs.All.{All};
+ghost use Rattle.rules.specs.Sizes.{strategySlots};
 ghost use Rattle.rules.specs.Strategies.{shutSet};
 ghost use Rattle.rules.specs.Lookups.{liveQuantity, shutLegs};
 ghost use Rattle.rules.specs.Valid.{FitOrder, Valid};
@@ -32,7 +33,7 @@ pub fn live_quantity(b: State, n: u32) -> u32
 {
     let mut quantity: u32 = 0;
     let mut i: usize = 0;
-    while i < 32 {
+    while i < State::LEG_ORDERS {
         let e = b.entries[i];
         let o = b.orders[i];
         let units = held_by(e.number, e.units, n);
@@ -45,7 +46,7 @@ pub fn live_quantity(b: State, n: u32) -> u32
 
 // The shut legs of a strategy, as a set of series.
 fn shut_set(b: State, k: usize) -> u32
-    requires { ⌜ k < 16 ⌝ }
+    requires { ⌜ k < strategySlots ⌝ }
     ensures { λ r. ⌜ r ≡ shutSet b k ⌝ }
 {
     let s = b.strategies[k];
@@ -66,7 +67,7 @@ pub fn shut_legs(b: State, k: u32) -> Shut
 }
 
 // The best price of a series and side and its contracts.
-pub fn depth(os: [LegOrder; 32], s: u32, side: u32) -> Depth
+pub fn depth(os: [LegOrder; State::LEG_ORDERS], s: u32, side: u32) -> Depth
     requires { ⌜ All FitOrder os × Priced os ⌝ }
     ensures { λ r. ⌜ r ≡ bookDepth os s side ⌝ }
 {

@@ -3,6 +3,7 @@ ghost use mathlib.Core.Path.{_≡_};
 ghost use Prim.Native.Nat.{_+_, _-_, _<_};
 ghost use lib.Dec.{eqb};
 ghost use Rattle.base.specs.Sets.{minus};
+ghost use Rattle.rules.specs.Sizes.{strategySlots, tableRows};
 ghost use Rattle.rules.specs.Moves.{each};
 ghost use Rattle.rules.specs.Strategies.{allOpen};
 ghost use Rattle.rules.specs.Auctions.{dayOrder, legPass, legPasses, matchAll, matchIn};
@@ -35,7 +36,7 @@ fn none_shut(t: Strategy, opened: u32) -> bool
 
 // Whether no leg of strategy k is shut.
 pub fn all_open(b: State, k: usize) -> bool
-    requires { ⌜ k < 16 ⌝ }
+    requires { ⌜ k < strategySlots ⌝ }
     ensures { λ r. ⌜ r ≡ allOpen b k ⌝ }
 {
     let t = b.strategies[k];
@@ -68,13 +69,13 @@ fn day_order(k: usize, e: Entry) -> bool
 // A pass by legs only of each day order of strategy k, by number.
 fn leg_passes_of(b: State, k: usize, space: &mut [i32], n: usize) -> After
     requires { ⌜ Fit b ⌝ }
-    requires { ⌜ Room (now space) n (each (legPass k) 32 b .records) ⌝ }
-    ensures { λ t. ⌜ Done (now (space .entry)) (now (space .exit)) n (t .count) (t .state) (each (legPass k) 32 b) ⌝ }
+    requires { ⌜ Room (now space) n (each (legPass k) tableRows b .records) ⌝ }
+    ensures { λ t. ⌜ Done (now (space .entry)) (now (space .exit)) n (t .count) (t .state) (each (legPass k) tableRows b) ⌝ }
 {
     let mut c = b;
     let mut m = n;
     let mut i: usize = 0;
-    while i < 32 {
+    while i < State::ROWS {
         let e = c.entries[i];
         if day_order(k, e) {
             let h = e.strategy as usize;
@@ -101,7 +102,7 @@ pub fn leg_passes(b: State, s: u8, space: &mut [i32], n: usize) -> After
     let mut c = b;
     let mut m = n;
     let mut k: usize = 0;
-    while k < 16 {
+    while k < State::STRATEGIES {
         let t = c.strategies[k];
         if passes_legs(t, s, c.opened) {
             let u = leg_passes_of(c, k, space, m);
@@ -119,7 +120,7 @@ fn ahead(k: usize, side: u8, e: Entry, best: usize, level: u32) -> bool
 {
     if live_in(k, e) {
         if e.side == side {
-            if best == 32 {
+            if best == State::ROWS {
                 return true;
             }
             let on = other(side);
@@ -131,13 +132,13 @@ fn ahead(k: usize, side: u8, e: Entry, best: usize, level: u32) -> bool
 }
 
 // The slot of the best entry of a side, by price, then number; 32 where there is none.
-fn best_slot(es: [Entry; 32], k: usize, side: u8) -> usize
+fn best_slot(es: [Entry; State::ROWS], k: usize, side: u8) -> usize
     ensures { λ r. ⌜ r ≡ bestEntry es k side ⌝ }
 {
-    let mut best: usize = 32;
+    let mut best: usize = State::ROWS;
     let mut level: u32 = 0;
     let mut i: usize = 0;
-    while i < 32 {
+    while i < State::ROWS {
         let e = es[i];
         if ahead(k, side, e, best, level) {
             best = i;
@@ -149,11 +150,11 @@ fn best_slot(es: [Entry; 32], k: usize, side: u8) -> usize
 }
 
 // Whether the best buy and the best sell meet.
-fn crossed(es: [Entry; 32], x: usize, y: usize) -> bool
+fn crossed(es: [Entry; State::ROWS], x: usize, y: usize) -> bool
     ensures { λ r. ⌜ r ≡ meet es x y ⌝ }
 {
-    if x < 32 {
-        if y < 32 {
+    if x < State::ROWS {
+        if y < State::ROWS {
             let e = es[x];
             let f = es[y];
             return f.level <= e.level;
@@ -165,7 +166,7 @@ fn crossed(es: [Entry; 32], x: usize, y: usize) -> bool
 
 // The best buy with the best sell, at the lower number's limit, its order active.
 fn match_once(b: State, x: usize, y: usize, space: &mut [i32], n: usize) -> After
-    requires { ⌜ (x < 32) × (y < 32) × Fit b ⌝ }
+    requires { ⌜ (x < tableRows) × (y < tableRows) × Fit b ⌝ }
     requires { ⌜ Room (now space) n (matched b x y .records) ⌝ }
     ensures { λ t. ⌜ Done (now (space .entry)) (now (space .exit)) n (t .count) (t .state) (matched b x y) ⌝ }
 {
@@ -188,7 +189,7 @@ fn match_all(b: State, k: usize, space: &mut [i32], n: usize) -> After
     let mut c = b;
     let mut m = n;
     let mut i: usize = 0;
-    while i < 32 {
+    while i < State::ROWS {
         let es = c.entries;
         let x = best_slot(es, k, 0);
         let y = best_slot(es, k, 1);
@@ -198,7 +199,7 @@ fn match_all(b: State, k: usize, space: &mut [i32], n: usize) -> After
             m = t.count;
             i += 1;
         } else {
-            i = 32;
+            i = State::ROWS;
         }
     }
     After { state: c, count: m }
@@ -206,7 +207,7 @@ fn match_all(b: State, k: usize, space: &mut [i32], n: usize) -> After
 
 // The resting orders of strategy k, where it holds series s and is all open.
 pub fn match_in(b: State, s: u8, k: usize, space: &mut [i32], n: usize) -> After
-    requires { ⌜ (s < 32) × (k < 16) × Fit b ⌝ }
+    requires { ⌜ (s < 32) × (k < strategySlots) × Fit b ⌝ }
     requires { ⌜ Room (now space) n (matchIn s k b .records) ⌝ }
     ensures { λ t. ⌜ Done (now (space .entry)) (now (space .exit)) n (t .count) (t .state) (matchIn s k b) ⌝ }
 {

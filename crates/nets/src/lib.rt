@@ -14,6 +14,7 @@ use rules::Leg;
 use rules::LegOrder;
 use rules::State;
 use rules::Strategy;
+use rules::ZERO_LEVEL;
 use sides::best_price;
 use sides::leg_side;
 use sides::other;
@@ -53,12 +54,12 @@ fn price_with(s: u8, side: u8, p: u32, o: LegOrder) -> u32
 }
 
 // The best price of a series and side, 0 where no order stands there.
-fn price_of(os: [LegOrder; 32], s: u8, side: u8) -> u32
+fn price_of(os: [LegOrder; State::LEG_ORDERS], s: u8, side: u8) -> u32
     ensures { λ p. ⌜ p ≡ priceOf os s side ⌝ }
 {
     let mut p: u32 = 0;
     let mut i: usize = 0;
-    while i < 32 {
+    while i < State::LEG_ORDERS {
         p = price_with(s, side, p, os[i]);
         i += 1;
     }
@@ -78,12 +79,12 @@ fn lot(s: u8, side: u8, price: u32, o: LegOrder) -> u32
 }
 
 // What each leg order holds of a series and side at a price.
-pub fn lots(os: [LegOrder; 32], s: u8, side: u8, price: u32) -> [u32; 32]
+pub fn lots(os: [LegOrder; State::LEG_ORDERS], s: u8, side: u8, price: u32) -> [u32; State::ROWS]
     ensures { λ xs. ⌜ xs ≡ lots os s side price ⌝ }
 {
-    let mut xs: [u32; 32] = [0; 32];
+    let mut xs: [u32; State::ROWS] = [0; State::ROWS];
     let mut i: usize = 0;
-    while i < 32 {
+    while i < State::LEG_ORDERS {
         xs[i] = lot(s, side, price, os[i]);
         i += 1;
     }
@@ -91,13 +92,13 @@ pub fn lots(os: [LegOrder; 32], s: u8, side: u8, price: u32) -> [u32; 32]
 }
 
 // The contracts of a series and side at a price.
-fn contracts_at(os: [LegOrder; 32], s: u8, side: u8, price: u32) -> u32
+fn contracts_at(os: [LegOrder; State::LEG_ORDERS], s: u8, side: u8, price: u32) -> u32
     requires { ⌜ All FitOrder os ⌝ }
     ensures { λ n. ⌜ n ≡ contractsAt os s side price ⌝ }
 {
     let mut n: u32 = 0;
     let mut i: usize = 0;
-    while i < 32 {
+    while i < State::LEG_ORDERS {
         n += lot(s, side, price, os[i]);
         i += 1;
     }
@@ -105,14 +106,14 @@ fn contracts_at(os: [LegOrder; 32], s: u8, side: u8, price: u32) -> u32
 }
 
 // The best price that a complex party of that side meets on a leg.
-fn leg_price(os: [LegOrder; 32], side: u8, l: Leg) -> u32
+fn leg_price(os: [LegOrder; State::LEG_ORDERS], side: u8, l: Leg) -> u32
     ensures { λ p. ⌜ p ≡ legPrice os side l ⌝ }
 {
     let on = other(leg_side(side, l));
     price_of(os, l.series, on)
 }
 
-fn prices(os: [LegOrder; 32], side: u8, legs: [Leg; 6]) -> [u32; 6]
+fn prices(os: [LegOrder; State::LEG_ORDERS], side: u8, legs: [Leg; 6]) -> [u32; 6]
     ensures { λ ps. ⌜ ps ≡ prices os side legs ⌝ }
 {
     let mut ps: [u32; 6] = [0; 6];
@@ -181,13 +182,13 @@ fn net_of(s: Strategy, ps: [u32; 6]) -> u32
     if known(ps, count) {
         let buys = weighed(0, legs, ps, count);
         let sells = weighed(1, legs, ps, count);
-        return 10000000 + buys - sells;
+        return ZERO_LEVEL + buys - sells;
     }
     0
 }
 
 // The best prices that a complex party of that side meets on the legs of a strategy, and their net.
-pub fn leg_prices(os: [LegOrder; 32], side: u8, s: Strategy) -> LegPrices
+pub fn leg_prices(os: [LegOrder; State::LEG_ORDERS], side: u8, s: Strategy) -> LegPrices
     requires { ⌜ All FitOrder os × FitLegs s ⌝ }
     ensures { λ r. ⌜ r ≡ legPrices os side s ⌝ }
 {
@@ -209,7 +210,7 @@ fn whole_units(contracts: u32, ratio: u32) -> u32
 }
 
 // The units of a leg's ratio that its contracts at a price give, rounded down.
-fn leg_units(os: [LegOrder; 32], side: u8, price: u32, l: Leg) -> u32
+fn leg_units(os: [LegOrder; State::LEG_ORDERS], side: u8, price: u32, l: Leg) -> u32
     requires { ⌜ All FitOrder os × (0 < l .ratio) ⌝ }
     ensures { λ n. ⌜ n ≡ legUnits os side price l ⌝ }
 {
@@ -219,7 +220,13 @@ fn leg_units(os: [LegOrder; 32], side: u8, price: u32, l: Leg) -> u32
 }
 
 // The units that the legs give at these prices, at most `most`.
-pub fn units_of(os: [LegOrder; 32], side: u8, s: Strategy, ps: [u32; 6], most: u32) -> u32
+pub fn units_of(
+    os: [LegOrder; State::LEG_ORDERS],
+    side: u8,
+    s: Strategy,
+    ps: [u32; 6],
+    most: u32,
+) -> u32
     requires { ⌜ All FitOrder os × FitLegs s ⌝ }
     ensures { λ n. ⌜ n ≡ unitsOf os side s ps most ⌝ }
 {
@@ -260,7 +267,7 @@ fn best_with(s: u8, side: u8, b: Best, o: LegOrder) -> Best
 }
 
 // The best price of a series and side with the contracts at it, in one walk.
-pub fn best_of(os: [LegOrder; 32], s: u8, side: u8) -> Best
+pub fn best_of(os: [LegOrder; State::LEG_ORDERS], s: u8, side: u8) -> Best
     requires { ⌜ All FitOrder os × Priced os ⌝ }
     ensures { λ b. ⌜ b ≡ bestOf os s side ⌝ }
 {
@@ -269,7 +276,7 @@ pub fn best_of(os: [LegOrder; 32], s: u8, side: u8) -> Best
         contracts: 0,
     };
     let mut i: usize = 0;
-    while i < 32 {
+    while i < State::LEG_ORDERS {
         b = best_with(s, side, b, os[i]);
         i += 1;
     }
@@ -281,8 +288,8 @@ pub fn leg_net(b: State, side: u8, k: usize) -> u32
     requires { ⌜ All FitOrder (b .orders) × All FitLegs (b .strategies) ⌝ }
     ensures { λ r. ⌜ r ≡ legNet b side k ⌝ }
 {
-    if 16 <= k {
-        return 10000000;
+    if State::STRATEGIES <= k {
+        return ZERO_LEVEL;
     }
     let s = b.strategies[k];
     let os = b.orders;
@@ -291,7 +298,7 @@ pub fn leg_net(b: State, side: u8, k: usize) -> u32
 }
 
 // The leg net that a complex party of that side meets where the legs give one unit, else 0.
-pub fn net_ready(os: [LegOrder; 32], side: u8, s: Strategy) -> u32
+pub fn net_ready(os: [LegOrder; State::LEG_ORDERS], side: u8, s: Strategy) -> u32
     requires { ⌜ All FitOrder os × FitLegs s ⌝ }
     ensures { λ r. ⌜ r ≡ netReady os side s ⌝ }
 {
@@ -305,7 +312,7 @@ pub fn net_ready(os: [LegOrder; 32], side: u8, s: Strategy) -> u32
         let on = other(leg_side(side, l));
         let mut p: u32 = 0;
         let mut j: usize = 0;
-        while j < 32 {
+        while j < State::LEG_ORDERS {
             p = price_with(l.series, on, p, os[j]);
             j += 1;
         }
@@ -314,7 +321,7 @@ pub fn net_ready(os: [LegOrder; 32], side: u8, s: Strategy) -> u32
         }
         let mut n: u32 = 0;
         let mut h: usize = 0;
-        while h < 32 {
+        while h < State::LEG_ORDERS {
             n += lot(l.series, on, p, os[h]);
             h += 1;
         }
@@ -326,5 +333,5 @@ pub fn net_ready(os: [LegOrder; 32], side: u8, s: Strategy) -> u32
         sells += weight(1, l, p);
         i += 1;
     }
-    10000000 + buys - sells
+    ZERO_LEVEL + buys - sells
 }

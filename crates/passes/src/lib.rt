@@ -2,6 +2,7 @@
 ghost use mathlib.Core.Path.{_≡_};
 ghost use Prim.Native.Nat.{_+_, _-_, _<_};
 ghost use Rattle.base.specs.All.{All};
+ghost use Rattle.rules.specs.Sizes.{tableRows};
 ghost use Rattle.rules.specs.Valid.{FitOrder};
 ghost use Rattle.rules.specs.Passes.{legsFirst, turnAt, meetLimit, takeTurn, pass};
 ghost use Rattle.records.specs.Space.{Room};
@@ -59,7 +60,7 @@ fn turn_at(e: Entry, x: u32, net: u32) -> Turn
 }
 
 // The best limit that a pass looks at, opposite e.
-fn opposite(way: Allocation, es: [Entry; 32], e: Entry) -> u32
+fn opposite(way: Allocation, es: [Entry; State::ROWS], e: Entry) -> u32
     ensures { λ x. ⌜ x ≡ oppositeIn way es e ⌝ }
 {
     match way {
@@ -70,7 +71,7 @@ fn opposite(way: Allocation, es: [Entry; 32], e: Entry) -> u32
 }
 
 // The leg net of a complex party of that side where the legs may be used and are ready, else 0.
-fn ready_net(legs: bool, os: [LegOrder; 32], side: u8, s: Strategy) -> u32
+fn ready_net(legs: bool, os: [LegOrder; State::LEG_ORDERS], side: u8, s: Strategy) -> u32
     requires { ⌜ All FitOrder os × FitLegs s ⌝ }
     ensures { λ r. ⌜ r ≡ netIn legs os side s ⌝ }
 {
@@ -85,8 +86,8 @@ fn turn_of(
     way: Allocation,
     legs: bool,
     e: Entry,
-    es: [Entry; 32],
-    os: [LegOrder; 32],
+    es: [Entry; State::ROWS],
+    os: [LegOrder; State::LEG_ORDERS],
     s: Strategy,
 ) -> Turn
     requires { ⌜ All FitOrder os × FitLegs s ⌝ }
@@ -102,7 +103,7 @@ fn turn_of(
 
 // The holders of a limit are met.
 fn meet_limit(way: Allocation, b: State, a: usize, level: u32, space: &mut [i32], n: usize) -> After
-    requires { ⌜ (a < 32) × Fit b ⌝ }
+    requires { ⌜ (a < tableRows) × Fit b ⌝ }
     requires { ⌜ Room (now space) n (meetLimit way a level b .records) ⌝ }
     ensures { λ t. ⌜ Done (now (space .entry)) (now (space .exit)) n (t .count) (t .state) (meetLimit way a level b) ⌝ }
 {
@@ -114,7 +115,7 @@ fn meet_limit(way: Allocation, b: State, a: usize, level: u32, space: &mut [i32]
 }
 
 fn take_turn(way: Allocation, b: State, a: usize, t: Turn, space: &mut [i32], n: usize) -> After
-    requires { ⌜ (a < 32) × Fit b ⌝ }
+    requires { ⌜ (a < tableRows) × Fit b ⌝ }
     requires { ⌜ Room (now space) n (takeTurn way a t b .records) ⌝ }
     ensures { λ r. ⌜ Done (now (space .entry)) (now (space .exit)) n (r .count) (r .state) (takeTurn way a t b) ⌝ }
 {
@@ -145,7 +146,7 @@ pub fn legs_idle(e: Entry, net: u32) -> bool
 
 // A pass of entry a: turn after turn, each chosen anew, until one stops. There are no more than it has units.
 pub fn pass(way: Allocation, legs: bool, b: State, a: usize, space: &mut [i32], n: usize) -> After
-    requires { ⌜ (a < 32) × Fit b ⌝ }
+    requires { ⌜ (a < tableRows) × Fit b ⌝ }
     requires { ⌜ Room (now space) n (pass way legs a b .records) ⌝ }
     ensures { λ r. ⌜ Done (now (space .entry)) (now (space .exit)) n (r .count) (r .state) (pass way legs a b) ⌝ }
 {

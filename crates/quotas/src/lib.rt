@@ -2,22 +2,24 @@
 ghost use mathlib.Core.Path.{_≡_};
 ghost use Prim.Native.Nat.{_+_, _*_, _<_, _≤_};
 ghost use Rattle.base.specs.Walks.{sumN, slot};
+ghost use Rattle.rules.specs.Sizes.{tableRows};
 ghost use Rattle.rules.specs.Quotas.{inTurn, portion, portionAt, oneOf, share};
 ghost use Rattle.rules.specs.Passes.{opposes, limitWith, bestOpposite, groupOf, within, holding, sizes};
 ghost use Rattle.ranges.specs.Most.{AtMost};
 use records::least;
 use rules::Entry;
+use rules::State;
 use sides::best_price;
 use sides::other;
 
 // By number: each slot gets what it holds, or what those before it left of r.
-pub fn in_turn(r: u32, xs: [u32; 32]) -> [u32; 32]
+pub fn in_turn(r: u32, xs: [u32; State::ROWS]) -> [u32; State::ROWS]
     ensures { λ qs. ⌜ qs ≡ inTurn r xs ⌝ }
 {
-    let mut qs: [u32; 32] = [0; 32];
+    let mut qs: [u32; State::ROWS] = [0; State::ROWS];
     let mut left = r;
     let mut i: usize = 0;
-    while i < 32 {
+    while i < State::ROWS {
         let q = least(left, xs[i]);
         qs[i] = q;
         left -= q;
@@ -26,13 +28,13 @@ pub fn in_turn(r: u32, xs: [u32; 32]) -> [u32; 32]
     qs
 }
 
-fn total(xs: [u32; 32]) -> u32
+fn total(xs: [u32; State::ROWS]) -> u32
     requires { ⌜ AtMost 9999 xs ⌝ }
-    ensures { λ t. ⌜ t ≡ sumN (slot xs) 32 ⌝ }
+    ensures { λ t. ⌜ t ≡ sumN (slot xs) tableRows ⌝ }
 {
     let mut t: u32 = 0;
     let mut i: usize = 0;
-    while i < 32 {
+    while i < State::ROWS {
         t += xs[i];
         i += 1;
     }
@@ -57,13 +59,13 @@ fn one_of(n: u32, x: u32) -> u32
     least(n, 1)
 }
 
-fn portions_total(r: u32, total: u32, xs: [u32; 32]) -> u32
+fn portions_total(r: u32, total: u32, xs: [u32; State::ROWS]) -> u32
     requires { ⌜ (r ≤ 9999) × (r < total) × AtMost 9999 xs ⌝ }
-    ensures { λ n. ⌜ n ≡ sumN (portionAt r total xs) 32 ⌝ }
+    ensures { λ n. ⌜ n ≡ sumN (portionAt r total xs) tableRows ⌝ }
 {
     let mut n: u32 = 0;
     let mut i: usize = 0;
-    while i < 32 {
+    while i < State::ROWS {
         n += portion(r, total, xs[i]);
         i += 1;
     }
@@ -71,7 +73,7 @@ fn portions_total(r: u32, total: u32, xs: [u32; 32]) -> u32
 }
 
 // The sizes where they are no more than what remains, else the portions and one unit each by number.
-pub fn share(r: u32, xs: [u32; 32]) -> [u32; 32]
+pub fn share(r: u32, xs: [u32; State::ROWS]) -> [u32; State::ROWS]
     requires { ⌜ (r ≤ 9999) × AtMost 9999 xs ⌝ }
     ensures { λ qs. ⌜ qs ≡ share r xs ⌝ }
 {
@@ -80,9 +82,9 @@ pub fn share(r: u32, xs: [u32; 32]) -> [u32; 32]
         return xs;
     }
     let mut n = r - portions_total(r, t, xs);
-    let mut qs: [u32; 32] = [0; 32];
+    let mut qs: [u32; State::ROWS] = [0; State::ROWS];
     let mut i: usize = 0;
-    while i < 32 {
+    while i < State::ROWS {
         let x = xs[i];
         let u = one_of(n, x);
         qs[i] = portion(r, t, x) + u;
@@ -117,12 +119,12 @@ fn limit_with(e: Entry, x: u32, f: Entry) -> u32
     x
 }
 
-pub fn best_opposite(es: [Entry; 32], e: Entry) -> u32
+pub fn best_opposite(es: [Entry; State::ROWS], e: Entry) -> u32
     ensures { λ x. ⌜ x ≡ bestOpposite es e ⌝ }
 {
     let mut x: u32 = 0;
     let mut i: usize = 0;
-    while i < 32 {
+    while i < State::ROWS {
         x = limit_with(e, x, es[i]);
         i += 1;
     }
@@ -171,12 +173,12 @@ fn holding(e: Entry, level: u32, g: u8, f: Entry) -> u32
     0
 }
 
-pub fn sizes(es: [Entry; 32], e: Entry, level: u32, g: u8) -> [u32; 32]
+pub fn sizes(es: [Entry; State::ROWS], e: Entry, level: u32, g: u8) -> [u32; State::ROWS]
     ensures { λ xs. ⌜ xs ≡ sizes es e level g ⌝ }
 {
-    let mut xs: [u32; 32] = [0; 32];
+    let mut xs: [u32; State::ROWS] = [0; State::ROWS];
     let mut i: usize = 0;
-    while i < 32 {
+    while i < State::ROWS {
         xs[i] = holding(e, level, g, es[i]);
         i += 1;
     }

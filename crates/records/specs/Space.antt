@@ -16,6 +16,7 @@ use lib.ListN.{length, set, length-append}
 use lib.Seq.{sets, length-sets}
 use Rattle.base.specs.All.{All, all-first, all-rest}
 use Rattle.base.specs.Walks.{joinN, join-all}
+use Rattle.rules.specs.Sizes.{recordsLent, recordSpace}
 use Rattle.rules.specs.declared.Kind.{Kind}
 use Rattle.rules.specs.declared.Kind.the-variants.{WholeFill, LegFill, LegOrderFill, Cancelled, LegOrderCancelled, AuctionBegun, AuctionEnded}
 use Rattle.rules.specs.declared.Record.{Record}
@@ -43,8 +44,8 @@ pub record Small (r : Record) : Type 0 where
 
 -- there is room for rs from place n on: "Each event is lent space for 2,560 records", and each of them fits it
 pub record Room (s : List ℤ) (n : ℕ) (rs : List Record) : Type 0 where
-  pub count : n + length rs ≤ 2560
-  pub space : 15_360 ≤ length s
+  pub count : n + length rs ≤ recordsLent
+  pub space : recordSpace ≤ length s
   pub small : All Small rs
 
 -- laws

@@ -74,7 +74,7 @@ pub fn less(a: u32, b: u32) -> u32
     a - b
 }
 
-pub fn with_orders(b: State, rows: [LegOrder; 32]) -> State
+pub fn with_orders(b: State, rows: [LegOrder; State::LEG_ORDERS]) -> State
     ensures { λ c. ⌜ c ≡ withOrders b rows ⌝ }
 {
     let mut c = b;

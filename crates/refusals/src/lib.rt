@@ -5,6 +5,7 @@ ghost use Prim.Native.Nat.{_+_, _<_};
 ghost use lib.Dec.{eqb};
 ghost use Rattle.base.specs.Pick.{pick};
 ghost use Rattle.events.specs.declared.Event.the-variants as E;
+ghost use Rattle.rules.specs.Sizes.{strategySlots};
 ghost use Rattle.rules.specs.Auctions.{running};
 ghost use Rattle.rules.specs.Refusals.{firstCause, causes, undefined, notOpen, isOrderOf, isLegOrderOf, notFound, isStarter, unanswerable, ordersFull, sweepsFull, legOrdersFull, replaces, removesNone, noRoom, numbersOut, sweepNumbersOut};
 ghost use Rattle.rules.specs.Fits.{FitOrderGiven, FitSweepGiven, FitLegOrderGiven};
@@ -63,7 +64,7 @@ fn is_leg_order_of(m: u32, n: u32, o: LegOrder) -> bool
 
 // Whether no auction runs in strategy k.
 fn no_auction(b: State, k: usize) -> bool
-    requires { ⌜ k < 16 ⌝ }
+    requires { ⌜ k < strategySlots ⌝ }
     ensures { λ r. ⌜ r ≡ not (running b k) ⌝ }
 {
     let runs = running(b, k);
@@ -71,7 +72,7 @@ fn no_auction(b: State, k: usize) -> bool
 }
 
 fn unanswerable(b: State, life: u32, k: usize) -> bool
-    requires { ⌜ k < 16 ⌝ }
+    requires { ⌜ k < strategySlots ⌝ }
     ensures { λ r. ⌜ r ≡ unanswerable b life k ⌝ }
 {
     if life == 2 {
@@ -91,7 +92,7 @@ fn not_found(b: State, m: u32, n: u32) -> bool
     ensures { λ r. ⌜ r ≡ notFound b m n ⌝ }
 {
     let mut i: usize = 0;
-    while i < 32 {
+    while i < State::ROWS {
         if is_order_of(m, n, b.entries[i]) {
             return false;
         }
@@ -108,7 +109,7 @@ fn is_starter(b: State, n: u32) -> bool
     ensures { λ r. ⌜ r ≡ isStarter b n ⌝ }
 {
     let mut k: usize = 0;
-    while k < 16 {
+    while k < State::STRATEGIES {
         let s = b.strategies[k];
         if s.starter == n {
             return true;
@@ -122,14 +123,14 @@ fn orders_full(b: State) -> bool
     ensures { λ r. ⌜ r ≡ ordersFull b ⌝ }
 {
     let live_orders = count_of(b, false);
-    16 <= live_orders
+    State::ORDERS <= live_orders
 }
 
 fn sweeps_full(b: State) -> bool
     ensures { λ r. ⌜ r ≡ sweepsFull b ⌝ }
 {
     let live_sweeps = count_of(b, true);
-    16 <= live_sweeps
+    State::SWEEPS <= live_sweeps
 }
 
 // Whether no slot of the leg orders is free.
@@ -137,7 +138,7 @@ fn leg_orders_full(b: State) -> bool
     ensures { λ r. ⌜ r ≡ legOrdersFull b ⌝ }
 {
     let live = free_order_slot(b);
-    32 <= live
+    State::LEG_ORDERS <= live
 }
 
 // The refusal of a complex order.
@@ -167,7 +168,7 @@ fn replaces(b: State, e: events::Sweep) -> bool
 {
     let x = sweep_given(b, e);
     let old = old_sweep(b, x);
-    old < 32
+    old < State::ROWS
 }
 
 // Whether a sweep has 0 units and none to remove.

@@ -6,6 +6,7 @@ use lib.Dec.{eqb, ltb, leb}
 use lib.ListN.{set}
 use Rattle.base.specs.Pick.{pick}
 use Rattle.base.specs.Walks.{firstN, walk}
+use Rattle.rules.specs.Sizes.{strategySlots, tableRows, zeroLevel}
 use Rattle.rules.specs.declared.Strategy.{Strategy}
 use Rattle.rules.specs.declared.Entry.{Entry}
 use Rattle.rules.specs.declared.State.{State}
@@ -47,7 +48,7 @@ begin i b =
 unfoldable pub close : ℕ → State → Moved
 close k b = record {
   state = putAuction b k 0 0 false;
-  records = record { kind = AuctionEnded; number = strategyAt b k .starter; place = k; side = 0; quantity = 0; level = 10_000_000 } ∷ [];
+  records = record { kind = AuctionEnded; number = strategyAt b k .starter; place = k; side = 0; quantity = 0; level = zeroLevel } ∷ [];
 }
 
 -- the slot of the entry of strategy k with that number, 32 where it has none
@@ -56,7 +57,7 @@ isNumber b k n i = pick (liveIn k (entryAt b i)) (eqb (entryAt b i .number) n) f
 
 -- the slot of the running auction's starter
 unfoldable pub starterSlot : State → ℕ → ℕ
-starterSlot b k = firstN (isNumber b k (strategyAt b k .starter)) 32
+starterSlot b k = firstN (isNumber b k (strategyAt b k .starter)) tableRows
 
 -- "if any opposite sweep or waiting order was accepted meanwhile": one of that side has been
 unfoldable pub answer : ℕ → ℕ → State → State
@@ -74,7 +75,7 @@ cancelLapsed k i b = pick (lapses k (entryAt b i)) (cancelEntry i b) (still b)
 
 -- "from the cancels on": the cancels, then record 5
 unfoldable pub endUnfilled : ℕ → State → Moved
-endUnfilled k b = and-then (each (cancelLapsed k) 32 b) (close k)
+endUnfilled k b = and-then (each (cancelLapsed k) tableRows b) (close k)
 
 -- "The starter gets a shared pass, legs barred if any opposite .. was accepted meanwhile."
 unfoldable pub starterPass : ℕ → State → Moved
@@ -92,7 +93,7 @@ laterPass k n i b = pick (later k n (entryAt b i)) (pass Numbered (not (eqb (ent
 unfoldable pub endAuction : ℕ → State → Moved
 endAuction k b =
     let n : ℕ = strategyAt b k .starter in
-    and-then (starterPass k b) (λ c. and-then (each (laterPass k n) 32 c) (endUnfilled k))
+    and-then (starterPass k b) (λ c. and-then (each (laterPass k n) tableRows c) (endUnfilled k))
 
 -- "auctions begun at least the timer ago end, by strategy"
 unfoldable pub due : State → ℕ → Bool
@@ -117,17 +118,17 @@ legPass k i b = pick (dayOrder k (entryAt b i)) (pass LegsOnly true i b) (still 
 -- .. in strategy k: holding the series, all open, without an auction
 unfoldable pub legPassesIn : ℕ → ℕ → State → Moved
 legPassesIn s k b =
-    pick (holds b s k) (pick (allOpen b k) (pick (running b k) (still b) (each (legPass k) 32 b)) (still b)) (still b)
+    pick (holds b s k) (pick (allOpen b k) (pick (running b k) (still b) (each (legPass k) tableRows b)) (still b)) (still b)
 
 -- .. by strategy
 unfoldable pub legPasses : ℕ → State → Moved
-legPasses s b = each (legPassesIn s) 16 b
+legPasses s b = each (legPassesIn s) strategySlots b
 
 -- "best buy" and "best sell (price, then number)": the slot of the best entry of a side, 32 where there is none
 unfoldable pub ahead : State → ℕ → ℕ → ℕ → ℕ → Bool
 ahead b k side i best =
     let e : Entry = entryAt b i in
-    pick (liveIn k e) (pick (eqb (e .side) side) (pick (eqb best 32) true (better (other side) (e .level) (entryAt b best .level))) false) false
+    pick (liveIn k e) (pick (eqb (e .side) side) (pick (eqb best tableRows) true (better (other side) (e .level) (entryAt b best .level))) false) false
 
 -- one slot more: the best so far, or this one
 abbrev pub bestStep : State → ℕ → ℕ → ℕ → ℕ → ℕ
@@ -135,11 +136,11 @@ bestStep b k side i best = pick (ahead b k side i best) i best
 
 -- the best of the 32 slots: by price, then by slot, which is by number
 unfoldable pub bestSlot : State → ℕ → ℕ → ℕ
-bestSlot b k side = walk (bestStep b k side) 32 32
+bestSlot b k side = walk (bestStep b k side) tableRows tableRows
 
 -- whether the best buy and the best sell meet
 unfoldable pub crossed : State → ℕ → ℕ → Bool
-crossed b x y = pick (ltb x 32) (pick (ltb y 32) (leb (entryAt b y .level) (entryAt b x .level)) false) false
+crossed b x y = pick (ltb x tableRows) (pick (ltb y tableRows) (leb (entryAt b y .level) (entryAt b x .level)) false) false
 
 -- "matches best buy with best sell .. at the lower number's limit, its order active"
 unfoldable pub matchOnce : ℕ → ℕ → State → Moved
@@ -152,7 +153,7 @@ matchOnce k i b =
 
 -- ".. while they meet": each match finishes an order, so there are no more than slots
 unfoldable pub matchAll : ℕ → State → Moved
-matchAll k b = each (matchOnce k) 32 b
+matchAll k b = each (matchOnce k) tableRows b
 
 -- "each all-open strategy holding it, by strategy"
 unfoldable pub matchIn : ℕ → ℕ → State → Moved

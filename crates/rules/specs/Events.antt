@@ -7,6 +7,7 @@ use lib.ListN.{length, take, replicate}
 use Rattle.base.specs.Pick.{pick}
 use Rattle.base.specs.Walks.{firstN, walk}
 use Rattle.base.specs.Sets.{has}
+use Rattle.rules.specs.Sizes.{strategySlots, tableRows}
 use Rattle.rules.specs.declared.Entry.{Entry}
 use Rattle.rules.specs.declared.LegOrder.{LegOrder}
 use Rattle.rules.specs.declared.State.{State}
@@ -35,7 +36,7 @@ keep test (x ∷ xs) = pick (test x) (x ∷ keep test xs) (keep test xs)
 
 -- "A finished order's slot is free again": 32 rows, the live ones and one more behind them
 unfoldable pub behind : {A : Type 0} → (A → Bool) → A → A → List A → List A
-behind test none x xs = take 32 (keep test xs ++ (x ∷ replicate 32 none))
+behind test none x xs = take tableRows (keep test xs ++ (x ∷ replicate tableRows none))
 
 -- an order or sweep enters under the next number, its slot being the first behind the live ones
 unfoldable pub enter : Entry → State → State
@@ -106,7 +107,7 @@ sameSweepAt b e i = sameSweep e (entryAt b i)
 
 -- the slot of the old one, 32 where there is none
 unfoldable pub oldSweep : State → Entry → ℕ
-oldSweep b e = firstN (sameSweepAt b e) 32
+oldSweep b e = firstN (sameSweepAt b e) tableRows
 
 -- ".. 0 units enters nothing"
 unfoldable pub enterSweep : Entry → State → Moved
@@ -123,7 +124,7 @@ meetsOrder o p = pick (stands (o .series) (other (o .side)) p) (meets (o .side) 
 -- whether the leg order at slot i goes before the best so far: it meets the price and is strictly better, or the first
 unfoldable pub aheadOrder : State → LegOrder → ℕ → ℕ → Bool
 aheadOrder b o i best =
-    pick (meetsOrder o (orderAt b i)) (pick (eqb best 32) true (better (o .side) (orderAt b i .price) (orderAt b best .price))) false
+    pick (meetsOrder o (orderAt b i)) (pick (eqb best tableRows) true (better (o .side) (orderAt b i .price) (orderAt b best .price))) false
 
 -- one slot more: the best so far, or this one
 abbrev pub bestOrderStep : State → LegOrder → ℕ → ℕ → ℕ
@@ -131,17 +132,17 @@ bestOrderStep b o i best = pick (aheadOrder b o i best) i best
 
 -- the best of the 32 slots: by price, then by slot, which is by number
 unfoldable pub bestOrder : State → LegOrder → ℕ
-bestOrder b o = walk (bestOrderStep b o) 32 32
+bestOrder b o = walk (bestOrderStep b o) tableRows tableRows
 
 -- one trade of the leg order at slot a, while it has contracts and one meets it
 unfoldable pub tradeOnce : ℕ → ℕ → State → Moved
 tradeOnce a i b =
     let h : ℕ = bestOrder b (orderAt b a) in
-    pick (eqb (orderAt b a .contracts) 0) (still b) (pick (ltb h 32) (legTrade b a h) (still b))
+    pick (eqb (orderAt b a .contracts) 0) (still b) (pick (ltb h tableRows) (legTrade b a h) (still b))
 
 -- each trade finishes an order, so there are no more than slots
 unfoldable pub tradeAll : ℕ → State → Moved
-tradeAll a b = each (tradeOnce a) 32 b
+tradeAll a b = each (tradeOnce a) tableRows b
 
 -- "If any rests, each day order .. gets a pass by legs only."
 unfoldable pub ifRests : ℕ → ℕ → State → Moved
@@ -163,19 +164,19 @@ cancelOrderOf n i b = pick (eqb (orderAt b i .number) n) (cancelOrder i b) (stil
 
 -- whichever table holds the number
 unfoldable pub cancelNumber : ℕ → State → Moved
-cancelNumber n b = and-then (each (cancelEntryOf n) 32 b) (each (cancelOrderOf n) 32)
+cancelNumber n b = and-then (each (cancelEntryOf n) tableRows b) (each (cancelOrderOf n) tableRows)
 
 -- "Clock": the clock, then the auctions that are due
 unfoldable pub onClock : ℕ → State → Moved
-onClock t b = each endDue 16 (withClock b t)
+onClock t b = each endDue strategySlots (withClock b t)
 
 -- "Series": shut, opened, or no change
 unfoldable pub shut : ℕ → State → Moved
-shut s b = each (endHolding s) 16 (withOpened b (b .opened - 2 ^ s))
+shut s b = each (endHolding s) strategySlots (withOpened b (b .opened - 2 ^ s))
 
 -- "when all have matched, the legs-only passes"
 unfoldable pub reopen : ℕ → State → Moved
-reopen s b = and-then (each (matchIn s) 16 (withOpened b (b .opened + 2 ^ s))) (legPasses s)
+reopen s b = and-then (each (matchIn s) strategySlots (withOpened b (b .opened + 2 ^ s))) (legPasses s)
 
 -- "No change of state does nothing."
 unfoldable pub onSeries : ℕ → ℕ → State → Moved
@@ -202,7 +203,7 @@ lowerOrder b i n = pick (liveOrder (orderAt b i)) (lowerNumber n (orderAt b i .n
 
 -- .. over both tables
 unfoldable pub lowestLive : State → ℕ
-lowestLive b = walk (lowerOrder b) (walk (lowerEntry b) 0 32) 32
+lowestLive b = walk (lowerOrder b) (walk (lowerEntry b) 0 tableRows) tableRows
 
 -- "3 by number": one cancel, of the lowest live number
 unfoldable pub cancelLowest : ℕ → State → Moved
@@ -214,4 +215,4 @@ restart timer b = still (fresh timer)
 
 -- all three, one after the other; 64 rows are the most that can be live
 unfoldable pub onDayEnd : ℕ → State → Moved
-onDayEnd timer b = and-then (each closeRunning 16 b) (λ c. and-then (each cancelLowest 64 c) (restart timer))
+onDayEnd timer b = and-then (each closeRunning strategySlots b) (λ c. and-then (each cancelLowest (tableRows + tableRows) c) (restart timer))

@@ -5,6 +5,7 @@ use lib.Dec.{eqb}
 use lib.ListN.{getD, set, replicate}
 use Rattle.base.specs.Pick.{pick}
 use Rattle.base.specs.Walks.{slot, table, walk, joinN}
+use Rattle.rules.specs.Sizes.{tableRows, zeroLevel}
 use Rattle.rules.specs.declared.Leg.{Leg}
 use Rattle.rules.specs.declared.Strategy.{Strategy}
 use Rattle.rules.specs.declared.Entry.{Entry}
@@ -24,7 +25,7 @@ wholeRecord e q level = record { kind = WholeFill; number = e .number; place = e
 
 -- "2 leg fill (place series, contracts, price; ..)"; "in a complex party's leg fill it is the side it takes on that leg"
 abbrev pub legRecord : Entry → ℕ → ℕ → Leg → Record
-legRecord e q price l = record { kind = LegFill; number = e .number; place = l .series; side = legSide (e .side) l; quantity = l .ratio * q; level = 10_000_000 + price }
+legRecord e q price l = record { kind = LegFill; number = e .number; place = l .series; side = legSide (e .side) l; quantity = l .ratio * q; level = zeroLevel + price }
 
 -- .. of the leg at place i
 abbrev pub legRecordAt : Entry → List Leg → ℕ → List ℕ → ℕ → List Record
@@ -70,7 +71,7 @@ legQuotas os side c price l = inTurn c (lots os (l .series) (other (legSide side
 
 -- a leg order's record of a fill, none of quantity 0
 abbrev pub orderRecord : LegOrder → ℕ → ℕ → Record
-orderRecord o q price = record { kind = LegOrderFill; number = o .number; place = o .series; side = o .side; quantity = q; level = 10_000_000 + price }
+orderRecord o q price = record { kind = LegOrderFill; number = o .number; place = o .series; side = o .side; quantity = q; level = zeroLevel + price }
 
 -- "No fill record has quantity 0."
 unfoldable pub orderRow : LegOrder → ℕ → ℕ → List Record
@@ -86,7 +87,7 @@ cutAt os qs i = cutOrder (getD os i noOrder) (slot qs i)
 
 -- all 32 of them
 unfoldable pub cutOrders : List LegOrder → List ℕ → List LegOrder
-cutOrders os qs = table (cutAt os qs) 32
+cutOrders os qs = table (cutAt os qs) tableRows
 
 -- what q units of a complex party take, leg by leg, from the leg orders as they stood
 abbrev pub quotasAt : List LegOrder → ℕ → ℕ → List Leg → List ℕ → ℕ → List ℕ
@@ -94,7 +95,7 @@ quotasAt os side q legs ps i = legQuotas os side (getD legs i noLeg .ratio * q) 
 
 -- the leg orders' records of the leg at place i, by number
 abbrev pub orderRecords : List LegOrder → ℕ → ℕ → List Leg → List ℕ → ℕ → List Record
-orderRecords os side q legs ps i = joinN (orderRows os (quotasAt os side q legs ps i) (slot ps i)) 32
+orderRecords os side q legs ps i = joinN (orderRows os (quotasAt os side q legs ps i) (slot ps i)) tableRows
 
 -- the leg orders after the leg at place i
 abbrev pub cutStep : List LegOrder → ℕ → ℕ → List Leg → List ℕ → ℕ → List LegOrder → List LegOrder
@@ -131,11 +132,11 @@ legTrade b a h =
 
 -- "3 cancelled (place 0, quantity, price 0)": all that is live of an entry, or of a leg order
 abbrev pub cancelRecord : Entry → Record
-cancelRecord e = record { kind = Cancelled; number = e .number; place = 0; side = e .side; quantity = e .units; level = 10_000_000 }
+cancelRecord e = record { kind = Cancelled; number = e .number; place = 0; side = e .side; quantity = e .units; level = zeroLevel }
 
 -- the same of a leg order
 abbrev pub cancelLegRecord : LegOrder → Record
-cancelLegRecord o = record { kind = LegOrderCancelled; number = o .number; place = 0; side = o .side; quantity = o .contracts; level = 10_000_000 }
+cancelLegRecord o = record { kind = LegOrderCancelled; number = o .number; place = 0; side = o .side; quantity = o .contracts; level = zeroLevel }
 
 -- CANCELLED: all that the entry at slot i has; nothing where it has nothing
 unfoldable pub cancelEntry : ℕ → State → Moved

@@ -10,6 +10,7 @@ use Rattle.events.specs.declared.Strategy.{Strategy as GivenStrategy}
 use Rattle.events.specs.declared.Order.{Order as GivenOrder}
 use Rattle.events.specs.declared.Sweep.{Sweep as GivenSweep}
 use Rattle.events.specs.declared.LegOrder.{LegOrder as GivenLegOrder}
+use Rattle.rules.specs.Sizes.{strategySlots}
 use Rattle.rules.specs.State.{noLeg}
 use Rattle.rules.specs.Strategies.{seriesOf, ratioOf}
 use Rattle.rules.specs.Given.{legsGiven}
@@ -27,7 +28,7 @@ pub record FitGiven (e : GivenStrategy) : Type 0 where
 -- kind 2
 pub record FitOrderGiven (e : GivenOrder) : Type 0 where
   pub member : e .member ≤ 65_535
-  pub strategy : e .strategy < 16
+  pub strategy : e .strategy < strategySlots
   pub side : e .side ≤ 1
   pub class : e .class ≤ 3
   pub life : e .life ≤ 3
@@ -37,7 +38,7 @@ pub record FitOrderGiven (e : GivenOrder) : Type 0 where
 -- kind 3
 pub record FitSweepGiven (e : GivenSweep) : Type 0 where
   pub member : e .member ≤ 65_535
-  pub strategy : e .strategy < 16
+  pub strategy : e .strategy < strategySlots
   pub side : e .side ≤ 1
   pub units : e .units ≤ 9999
   pub level : (1 ≤ e .level) × (e .level ≤ 19_999_999)

@@ -7,6 +7,7 @@ use lib.ListN.{getD, length}
 use Rattle.base.specs.Pick.{pick}
 use Rattle.base.specs.Walks.{sumN, slot, allN}
 use Rattle.base.specs.Sets.{sizeOf, lowestOf}
+use Rattle.rules.specs.Sizes.{tableRows}
 use Rattle.rules.specs.declared.LegOrder.{LegOrder}
 use Rattle.rules.specs.declared.State.{State}
 use Rattle.rules.specs.declared.OrderEntry.{OrderEntry}
@@ -29,7 +30,7 @@ contractsOfNumber b n i = pick (eqb (orderAt b i .number) n) (orderAt b i .contr
 
 -- a number stands in one row at most
 unfoldable pub liveQuantity : State → ℕ → ℕ
-liveQuantity b n = sumN (unitsOfNumber b n) 32 + sumN (contractsOfNumber b n) 32
+liveQuantity b n = sumN (unitsOfNumber b n) tableRows + sumN (contractsOfNumber b n) tableRows
 
 -- "Shut legs of a strategy, count and lowest series, 32 when none is shut (4 if undefined)."
 unfoldable pub shutLegs : State → ℕ → Shut
@@ -39,7 +40,7 @@ shutLegs b k = pick (undefined b k) (S.Refused 4) (S.Legs (sizeOf (shutSet b k))
 unfoldable pub depthOf : List LegOrder → ℕ → ℕ → Depth
 depthOf os s side =
     let price : ℕ = priceOf os s side in
-    pick (eqb price 0) D.Empty (D.Best price (sumN (slot (lots os s side price)) 32))
+    pick (eqb price 0) D.Empty (D.Best price (sumN (slot (lots os s side price)) tableRows))
 
 -- ".. read from the leg orders lent as a row of order entries"
 abbrev pub noOrderEntry : OrderEntry
@@ -67,7 +68,7 @@ unfoldable pub rowDepth : List OrderEntry → ℕ → ℕ → Depth
 rowDepth row s side =
     pick (ltb 31 s) (D.Refused 3)
     (pick (ltb 1 side) (D.Refused 3)
-    (pick (ltb 32 (length row)) (D.Refused 3)
+    (pick (ltb tableRows (length row)) (D.Refused 3)
     (pick (allN (wellFormedAt row) (length row)) (depthOf (map asOrder row) s side) (D.Refused 3))))
 
 -- the paper's number and values of these answers: 0 or the refusal, then what was found

@@ -6,6 +6,7 @@ use lib.Dec.{eqb, ltb}
 use lib.ListN.{getD}
 use Rattle.base.specs.Pick.{pick}
 use Rattle.base.specs.Walks.{sumN, slot, table, allN, walk}
+use Rattle.rules.specs.Sizes.{tableRows, zeroLevel}
 use Rattle.rules.specs.declared.Leg.{Leg}
 use Rattle.rules.specs.declared.Strategy.{Strategy}
 use Rattle.rules.specs.declared.LegOrder.{LegOrder}
@@ -27,7 +28,7 @@ priceStep os s side i p = priceWith s side p (getD os i noOrder)
 
 -- .. over the 32 slots
 unfoldable pub priceOf : List LegOrder → ℕ → ℕ → ℕ
-priceOf os s side = walk (priceStep os s side) 0 32
+priceOf os s side = walk (priceStep os s side) 0 tableRows
 
 -- what each leg order holds of a series and side at a price
 unfoldable pub lot : ℕ → ℕ → ℕ → LegOrder → ℕ
@@ -39,7 +40,7 @@ lotAt os s side price i = lot s side price (getD os i noOrder)
 
 -- .. by each of the 32
 unfoldable pub lots : List LegOrder → ℕ → ℕ → ℕ → List ℕ
-lots os s side price = table (lotAt os s side price) 32
+lots os s side price = table (lotAt os s side price) tableRows
 
 -- the best price that a complex party of that side meets on a leg: "offers for buy legs, bids for sell legs", or the reverse
 unfoldable pub legPrice : List LegOrder → ℕ → Leg → ℕ
@@ -75,7 +76,7 @@ weighed w legs ps count = sumN (weightAt w legs ps) count
 
 -- "Net = sum of ratio × price over buy legs, less that over sell legs", as a level; 0 where it is unknown
 unfoldable pub netOf : Strategy → List ℕ → ℕ
-netOf s ps = pick (known ps (s .count)) (10_000_000 + weighed 0 (s .legs) ps (s .count) - weighed 1 (s .legs) ps (s .count)) 0
+netOf s ps = pick (known ps (s .count)) (zeroLevel + weighed 0 (s .legs) ps (s .count) - weighed 1 (s .legs) ps (s .count)) 0
 
 -- the leg net that a complex party of that side meets: "offer net for a buy, bid net for a sell"
 unfoldable pub legNet : State → ℕ → ℕ → ℕ
@@ -91,7 +92,7 @@ bidNet b k = legNet b 1 k
 
 -- "each best price's contracts divided by ratio, rounded down"
 unfoldable pub legUnits : List LegOrder → ℕ → ℕ → Leg → ℕ
-legUnits os side price l = sumN (slot (lots os (l .series) (other (legSide side l)) price)) 32 / l .ratio
+legUnits os side price l = sumN (slot (lots os (l .series) (other (legSide side l)) price)) tableRows / l .ratio
 
 -- the least so far and those of the leg at place i
 abbrev pub unitsStep : List LegOrder → ℕ → List Leg → List ℕ → ℕ → ℕ → ℕ

@@ -6,6 +6,7 @@ use lib.Dec.{eqb}
 use lib.ListN.{getD}
 use Rattle.base.specs.Pick.{pick}
 use Rattle.base.specs.Walks.{slot, table, walk}
+use Rattle.rules.specs.Sizes.{tableRows}
 use Rattle.rules.specs.declared.Strategy.{Strategy}
 use Rattle.rules.specs.declared.Entry.{Entry}
 use Rattle.rules.specs.declared.State.{State}
@@ -34,7 +35,7 @@ limitStep es e i x = limitWith e x (getD es i noEntry)
 
 -- .. over the 32 slots
 unfoldable pub bestOpposite : List Entry → Entry → ℕ
-bestOpposite es e = walk (limitStep es e) 0 32
+bestOpposite es e = walk (limitStep es e) 0 tableRows
 
 -- "customers by number; then sweeps and market makers; then broker-dealers": groups 0, 1, 2
 unfoldable pub groupOf : Entry → ℕ
@@ -54,7 +55,7 @@ sizeAt es e level g i = holding e level g (getD es i noEntry)
 
 -- .. by each of the 32
 unfoldable pub sizes : List Entry → Entry → ℕ → ℕ → List ℕ
-sizes es e level g = table (sizeAt es e level g) 32
+sizes es e level g = table (sizeAt es e level g) tableRows
 
 -- "Each holder met is a fill of its own, by number within a group": the active entry meets slot i for its quota
 abbrev pub giveAt : ℕ → ℕ → List ℕ → ℕ → State → Moved
@@ -62,7 +63,7 @@ giveAt a level qs i b = wholeFill b a i level (slot qs i)
 
 -- .. slot by slot, which is by number
 unfoldable pub give : ℕ → ℕ → List ℕ → State → Moved
-give a level qs b = each (giveAt a level qs) 32 b
+give a level qs b = each (giveAt a level qs) tableRows b
 
 -- a group by number
 unfoldable pub giveInTurn : ℕ → ℕ → ℕ → State → Moved

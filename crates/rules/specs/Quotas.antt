@@ -4,6 +4,7 @@ use Prim.Native.Nat.{ℕ, _+_, _-_, _*_, _/_, min}
 use lib.Dec.{eqb, leb}
 use Rattle.base.specs.Pick.{pick}
 use Rattle.base.specs.Walks.{sumN, slot, table}
+use Rattle.rules.specs.Sizes.{tableRows}
 
 -- "by number": each slot gets what it holds, or what those before it left of r
 unfoldable pub inTurnAt : ℕ → List ℕ → ℕ → ℕ
@@ -11,7 +12,7 @@ inTurnAt r xs i = min (r - sumN (slot xs) i) (slot xs i)
 
 -- .. for each of the 32
 unfoldable pub inTurn : ℕ → List ℕ → List ℕ
-inTurn r xs = table (inTurnAt r xs) 32
+inTurn r xs = table (inTurnAt r xs) tableRows
 
 -- "remaining × size / group total, rounded down"
 unfoldable pub portion : ℕ → ℕ → ℕ → ℕ
@@ -36,5 +37,5 @@ sharedAt r total n xs i = portionAt r total xs i + oneOf (n - sumN (holderAt xs)
 -- "The second or third group, when larger than what remains, is shared"; else each has its size
 unfoldable pub share : ℕ → List ℕ → List ℕ
 share r xs =
-    let total : ℕ = sumN (slot xs) 32 in
-    pick (leb total r) xs (table (sharedAt r total (r - sumN (portionAt r total xs) 32) xs) 32)
+    let total : ℕ = sumN (slot xs) tableRows in
+    pick (leb total r) xs (table (sharedAt r total (r - sumN (portionAt r total xs) tableRows) xs) tableRows)

@@ -2,6 +2,7 @@
 use mathlib.Core.List.{List, [], _∷_}
 use Prim.Native.Nat.{ℕ}
 use lib.IntN.{ℤ, pos, _-ℤ_}
+use Rattle.rules.specs.Sizes.{zeroLevel}
 use Rattle.rules.specs.declared.Kind.{Kind}
 use Rattle.rules.specs.declared.Kind.the-variants.{WholeFill, LegFill, LegOrderFill, Cancelled, LegOrderCancelled, AuctionBegun, AuctionEnded}
 use Rattle.rules.specs.declared.Record.{Record}
@@ -18,7 +19,7 @@ kindNumber AuctionEnded = 5
 
 -- a price, limit or net in cents, from its level
 unfoldable pub cents : ℕ → ℤ
-cents level = pos level -ℤ pos 10_000_000
+cents level = pos level -ℤ pos zeroLevel
 
 -- a record as it is read: "kind, order number, place, side, quantity, price"
 pub record Line : Type 0 where

@@ -12,6 +12,7 @@ use Rattle.events.specs.declared.Reading.{Reading}
 use Rattle.events.specs.declared.Reading.the-variants as R
 use Rattle.events.specs.declared.Strategy.{Strategy as GivenStrategy}
 use Rattle.events.specs.declared.Sweep.{Sweep as GivenSweep}
+use Rattle.rules.specs.Sizes.{strategySlots, orderSlots, sweepSlots, legOrderSlots, tableRows, recordSpace}
 use Rattle.rules.specs.declared.Entry.{Entry}
 use Rattle.rules.specs.declared.LegOrder.{LegOrder}
 use Rattle.rules.specs.declared.State.{State}
@@ -66,7 +67,7 @@ legOrderAtIs b m n i = isLegOrderOf m n (orderAt b i)
 
 -- neither table has it
 unfoldable pub notFound : State → ℕ → ℕ → Bool
-notFound b m n = pick (anyN (orderAtIs b m n) 32) false (not (anyN (legOrderAtIs b m n) 32))
+notFound b m n = pick (anyN (orderAtIs b m n) tableRows) false (not (anyN (legOrderAtIs b m n) tableRows))
 
 -- 8: "cancel of a running auction's starter"
 abbrev pub startedBy : State → ℕ → ℕ → Bool
@@ -74,7 +75,7 @@ startedBy b n k = eqb (strategyAt b k .starter) n
 
 -- .. of any of the 16 strategies
 unfoldable pub isStarter : State → ℕ → Bool
-isStarter b n = anyN (startedBy b n) 16
+isStarter b n = anyN (startedBy b n) strategySlots
 
 -- 9: "sweep or response, no auction in the strategy"
 unfoldable pub unanswerable : State → ℕ → ℕ → Bool
@@ -82,7 +83,7 @@ unanswerable b life k = pick (eqb life 2) (not (running b k)) false
 
 -- 10: "sweep of 0 units with none to remove"
 abbrev pub replaces : State → GivenSweep → Bool
-replaces b e = ltb (oldSweep b (sweepGiven b e)) 32
+replaces b e = ltb (oldSweep b (sweepGiven b e)) tableRows
 
 -- .. 0 units, and none to remove
 unfoldable pub removesNone : State → GivenSweep → Bool
@@ -90,7 +91,7 @@ removesNone b e = pick (eqb (e .units) 0) (not (replaces b e)) false
 
 -- 12: "the table needed is full": 16 strategies, 16 complex orders, 16 sweeps, 32 leg orders
 unfoldable pub strategiesFull : State → GivenStrategy → Bool
-strategiesFull b e = pick (held b (strategyGiven e)) false (leb 16 (b .defined))
+strategiesFull b e = pick (held b (strategyGiven e)) false (leb strategySlots (b .defined))
 
 -- 1 for a live complex order
 unfoldable pub isOrder : Entry → ℕ
@@ -118,15 +119,15 @@ isLegOrderAt b i = isLegOrder (orderAt b i)
 
 -- 16 complex orders
 unfoldable pub ordersFull : State → Bool
-ordersFull b = leb 16 (sumN (isOrderAt b) 32)
+ordersFull b = leb orderSlots (sumN (isOrderAt b) tableRows)
 
 -- 16 sweeps
 unfoldable pub sweepsFull : State → Bool
-sweepsFull b = leb 16 (sumN (isSweepAt b) 32)
+sweepsFull b = leb sweepSlots (sumN (isSweepAt b) tableRows)
 
 -- 32 leg orders
 unfoldable pub legOrdersFull : State → Bool
-legOrdersFull b = leb 32 (sumN (isLegOrderAt b) 32)
+legOrdersFull b = leb legOrderSlots (sumN (isLegOrderAt b) tableRows)
 
 -- ".. a sweep that replaces one takes its slot", and one of 0 units needs none
 unfoldable pub noRoom : State → GivenSweep → Bool
@@ -162,7 +163,7 @@ readCauses b (R.Event e) = causes b e
 
 -- the whole table, for a frame that reads so and a record space of that length
 unfoldable pub tableOf : State → Reading → ℕ → List Cause
-tableOf b r space = (1 if ltb space 15_360) ∷ readCauses b r
+tableOf b r space = (1 if ltb space recordSpace) ∷ readCauses b r
 
 -- "The smallest number that applies"
 unfoldable pub refusal : State → Reading → ℕ → ℕ

@@ -3,6 +3,7 @@ use mathlib.Core.Bool.{false}
 use mathlib.Core.List.{List, []}
 use Prim.Native.Nat.{ℕ}
 use lib.ListN.{getD, replicate}
+use Rattle.rules.specs.Sizes.{strategySlots, tableRows}
 use Rattle.rules.specs.declared.Leg.{Leg}
 use Rattle.rules.specs.declared.Strategy.{Strategy}
 use Rattle.rules.specs.declared.Entry.{Entry}
@@ -32,7 +33,7 @@ freeStrategy = record { legs = replicate 6 noLeg; count = 0; series = 0; starter
 -- a fresh book of a timer: clock 0, all shut, its tables empty and no number given
 unfoldable pub fresh : ℕ → State
 fresh timer = record {
-  strategies = replicate 16 freeStrategy;
+  strategies = replicate strategySlots freeStrategy;
   entries = replicate 32 noEntry;
   orders = replicate 32 noOrder;
   defined = 0;

@@ -6,6 +6,7 @@ use lib.ListN.{length}
 use Rattle.base.specs.All.{All}
 use Rattle.base.specs.Walks.{sumN}
 use Rattle.base.specs.Sets.{has, sizeOf}
+use Rattle.rules.specs.Sizes.{strategySlots, orderSlots, sweepSlots, tableRows}
 use Rattle.rules.specs.declared.Leg.{Leg}
 use Rattle.rules.specs.declared.Strategy.{Strategy}
 use Rattle.rules.specs.declared.Entry.{Entry}
@@ -36,7 +37,7 @@ pub record FitStrategy (s : Strategy) : Type 0 where
 pub record FitEntry (e : Entry) : Type 0 where
   pub number : e .number ≤ 100_000
   pub member : e .member ≤ 65_535
-  pub strategy : e .strategy < 16
+  pub strategy : e .strategy < strategySlots
   pub side : e .side ≤ 1
   pub class : e .class ≤ 3
   pub life : e .life ≤ 4
@@ -65,10 +66,10 @@ pub record Sound (b : State) : Type 0 where
   pub strategies : All FitStrategy (b .strategies)
   pub entries : All FitEntry (b .entries)
   pub orders : All FitOrder (b .orders)
-  pub strategyRows : length (b .strategies) ≡ 16
-  pub entryRows : length (b .entries) ≡ 32
-  pub orderRows : length (b .orders) ≡ 32
-  pub defined : b .defined ≤ 16
+  pub strategyRows : length (b .strategies) ≡ strategySlots
+  pub entryRows : length (b .entries) ≡ tableRows
+  pub orderRows : length (b .orders) ≡ tableRows
+  pub defined : b .defined ≤ strategySlots
   pub opened : b .opened < 2 ^ 32
   pub clock : b .clock ≤ 86_400_000
   pub timer : (1 ≤ b .timer) × (b .timer ≤ 5000)
@@ -84,12 +85,12 @@ pub record Sound (b : State) : Type 0 where
   pub risingOrders : (i j : ℕ) → i < j → 0 < orderAt b i .contracts → 0 < orderAt b j .contracts → orderAt b i .number < orderAt b j .number
   -- no number stands in both tables
   pub apart : (i j : ℕ) → 0 < entryAt b i .units → 0 < orderAt b j .contracts → entryAt b i .number ≡ orderAt b j .number → ⊥
-  pub complexOrders : sumN (isOrderAt b) 32 ≤ 16
-  pub sweeps : sumN (isSweepAt b) 32 ≤ 16
+  pub complexOrders : sumN (isOrderAt b) tableRows ≤ orderSlots
+  pub sweeps : sumN (isSweepAt b) tableRows ≤ orderSlots
 
 -- An auction's starter stands in a slot: live, in its strategy, of class 1 or 2 and of life 0 or 1.
 pub record Starter (b : State) (k i : ℕ) : Type 0 where
-  pub slot : i < 32
+  pub slot : i < tableRows
   pub live : 0 < entryAt b i .units
   pub strategy : entryAt b i .strategy ≡ k
   pub number : entryAt b i .number ≡ strategyAt b k .starter

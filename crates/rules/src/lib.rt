@@ -44,15 +44,34 @@ pub struct LegOrder {
 // The whole state: the tables, how many strategies are defined, the open series as a set of 32 bits, the last accepted
 // clock, the timer of auctions, and the last number given.
 pub struct State {
-    pub strategies: [Strategy; 16],
-    pub entries: [Entry; 32],
-    pub orders: [LegOrder; 32],
+    pub strategies: [Strategy; State::STRATEGIES],
+    pub entries: [Entry; State::ROWS],
+    pub orders: [LegOrder; State::LEG_ORDERS],
     pub defined: u8,
     pub opened: u32,
     pub clock: u32,
     pub timer: u32,
     pub last: u32,
 }
+
+// The sizes of the tables, and the numbers of a record space. Complex orders and sweeps stand in one table; a list of sizes
+// or quotas has a number for each row of a table.
+impl State {
+    pub const STRATEGIES: usize = 16;
+
+    pub const ORDERS: usize = 16;
+
+    pub const SWEEPS: usize = 16;
+
+    pub const LEG_ORDERS: usize = 32;
+
+    pub const ROWS: usize = State::ORDERS + State::SWEEPS;
+
+    pub const RECORD_SPACE: usize = 15360;
+}
+
+// The level of a price, limit or net of 0 cents.
+pub const ZERO_LEVEL: u32 = 10000000;
 
 // What a record tells. A complex party's leg fill and a leg order's are both written 2, and both cancels 3.
 pub enum Kind {

@@ -163,7 +163,7 @@ pub fn add(s: Strategy, b: State) -> State
     let at = b.defined as usize;
     let mut c = b;
     c.defined = b.defined + 1;
-    if 16 <= at {
+    if State::STRATEGIES <= at {
         return c;
     }
     c.strategies[at] = s;

@@ -1,6 +1,7 @@
 // Trades of a leg order with opposite ones, and its cancel, with their records.
 ghost use mathlib.Core.Path.{_≡_};
 ghost use Prim.Native.Nat.{_+_, _<_};
+ghost use Rattle.rules.specs.Sizes.{tableRows, zeroLevel};
 ghost use Rattle.rules.specs.Fills.{orderRecord, orderRow, cutOrder, cutLeg, legTrade, cancelLegRecord, cancelOrder};
 ghost use Rattle.rules.specs.Events.{tradeAll};
 ghost use Rattle.records.specs.Space.{Appended, Room};
@@ -15,10 +16,11 @@ use rules::Kind;
 use rules::LegOrder;
 use rules::Record;
 use rules::State;
+use rules::ZERO_LEVEL;
 
 // A leg order's record of a fill of q contracts.
 fn order_record(o: LegOrder, q: u32, price: u32) -> Record
-    requires { ⌜ 10000000 + price < 2147483648 ⌝ }
+    requires { ⌜ zeroLevel + price < 2147483648 ⌝ }
     ensures { λ r. ⌜ r ≡ orderRecord o q price ⌝ }
 {
     Record {
@@ -27,7 +29,7 @@ fn order_record(o: LegOrder, q: u32, price: u32) -> Record
         place: o.series,
         side: o.side,
         quantity: q,
-        level: 10000000 + price,
+        level: ZERO_LEVEL + price,
     }
 }
 
@@ -53,7 +55,7 @@ pub fn cut_order(o: LegOrder, q: u32) -> LegOrder
 
 // The leg order at slot i loses q contracts.
 fn cut_leg(b: State, i: usize, q: u32) -> State
-    requires { ⌜ i < 32 ⌝ }
+    requires { ⌜ i < tableRows ⌝ }
     ensures { λ c. ⌜ c ≡ cutLeg b i q ⌝ }
 {
     let o = b.orders[i];
@@ -75,7 +77,7 @@ fn report(space: &mut [i32], n: usize, o: LegOrder, p: LegOrder, q: u32) -> usiz
 
 // One trade of the leg order at slot a with the one at slot h.
 fn leg_trade(b: State, a: usize, h: usize, space: &mut [i32], n: usize) -> After
-    requires { ⌜ (a < 32) × (h < 32) ⌝ }
+    requires { ⌜ (a < tableRows) × (h < tableRows) ⌝ }
     requires { ⌜ Room (now space) n (legTrade b a h .records) ⌝ }
     ensures { λ t. ⌜ Done (now (space .entry)) (now (space .exit)) n (t .count) (t .state) (legTrade b a h) ⌝ }
 {
@@ -92,12 +94,12 @@ fn leg_trade(b: State, a: usize, h: usize, space: &mut [i32], n: usize) -> After
 fn next_trade(b: State, a: usize) -> usize
     ensures { λ h. ⌜ h ≡ nextTrade a b ⌝ }
 {
-    if 32 <= a {
-        return 32;
+    if State::LEG_ORDERS <= a {
+        return State::LEG_ORDERS;
     }
     let o = b.orders[a];
     if o.contracts == 0 {
-        return 32;
+        return State::LEG_ORDERS;
     }
     best_order(b, o)
 }
@@ -110,9 +112,9 @@ pub fn trade_all(b: State, a: usize, space: &mut [i32], n: usize) -> After
     let mut c = b;
     let mut m = n;
     let mut i: usize = 0;
-    while i < 32 {
+    while i < State::LEG_ORDERS {
         let h = next_trade(c, a);
-        if h == 32 {
+        if h == State::LEG_ORDERS {
             return After { state: c, count: m };
         }
         let t = leg_trade(c, a, h, space, m);
@@ -132,7 +134,7 @@ fn cancel_leg_record(o: LegOrder) -> Record
         place: 0,
         side: o.side,
         quantity: o.contracts,
-        level: 10000000,
+        level: ZERO_LEVEL,
     }
 }
 
@@ -141,7 +143,7 @@ pub fn cancel_order(b: State, i: usize, space: &mut [i32], n: usize) -> After
     requires { ⌜ Room (now space) n (cancelOrder i b .records) ⌝ }
     ensures { λ t. ⌜ Done (now (space .entry)) (now (space .exit)) n (t .count) (t .state) (cancelOrder i b) ⌝ }
 {
-    if 32 <= i {
+    if State::LEG_ORDERS <= i {
         return After { state: b, count: n };
     }
     let o = b.orders[i];
