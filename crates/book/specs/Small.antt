@@ -23,7 +23,7 @@ use Rattle.rules.specs.State.{noLeg, noOrder, entryAt, strategyOf, legAt}
 use Rattle.rules.specs.Moves.{Moved}
 use Rattle.rules.specs.Sides.{other, legSide, meets}
 use Rattle.rules.specs.Nets.{lotAt, lots, prices, netOf, unitsOf}
-use Rattle.rules.specs.Fills.{partyRecords, legRecordAt, noPrices, wholeFill, legQuotas, orderRow, orderRows, orderRecords, quotasAt, takeLegs, legFill, legTrade, cancelEntry, cancelOrder}
+use Rattle.rules.specs.Fills.{partyRecords, legRecordAt, noPrices, wholeFill, legQuotas, orderRow, orderRows, orderRecordsAt, takesAt, takeLegs, legFill, legTrade, cancelEntry, cancelOrder, legTake}
 use Rattle.rules.specs.Auctions.{begin, close}
 use Rattle.rules.specs.Refusals.{firstCause, causes}
 use Rattle.rules.specs.Step.{accept}
@@ -86,7 +86,7 @@ row-small : (o : LegOrder) (q price : ℕ) → FitOrder o → q ≤ 9999 → pri
 unfolding orderRow
 row-small o q price f h l = pick-all (All Small) (eqb q 0) all-nil (one-small _ (omega (arith, f .number)) (omega arith) (omega arith))
 
-quotas-most : (os : List LegOrder) (side c price : ℕ) (l : Leg) → All FitOrder os → AtMost 9999 (legQuotas os side c price l)
+quotas-most : (os : List LegOrder) (side c price : ℕ) (l : Leg) → All FitOrder os → AtMost 9999 (legQuotas os (legTake side c price l))
 unfolding legQuotas lots
 quotas-most os side c price l a =
     under-most 9999 (inTurn-under c _) (table-most (lotAt os (l .series) (other (legSide side l)) price) 9999 (λ i. lot-most _ _ _ (getD os i noOrder) (fit-order a i)) 32)
@@ -103,8 +103,8 @@ legs-small b a r =
     let few : q ≤ 9999 = omega (arith, legged-mine b a, fit-entry (r .fit .entries) a .units) in
     let top : netOf s ps ≤ 20_000_000 = omega (arith, net-most s ps f m) in
     all-append (party-small e s q (netOf s ps) ps (fit-entry (r .fit .entries) a) f few top m)
-    (all-join (orderRecords (b .orders) (e .side) q (s .legs) ps) (s .count)
-    (λ i _. all-join (orderRows (b .orders) (quotasAt (b .orders) (e .side) q (s .legs) ps i) (slot ps i)) 32
+    (all-join (orderRecordsAt (b .orders) (takesAt (e .side) q (s .legs) ps)) (s .count)
+    (λ i _. all-join (orderRows (b .orders) (legQuotas (b .orders) (takesAt (e .side) q (s .legs) ps i)) (slot ps i)) 32
     (λ j _. row-small (getD (b .orders) j noOrder) _ _ (fit-order (r .fit .orders) j) (quotas-most (b .orders) (e .side) (getD (s .legs) i noLeg .ratio * q) (slot ps i) (getD (s .legs) i noLeg) (r .fit .orders) .at j) (m .at i))))
 
 trade-small : (b : State) (a h : ℕ) → Ranged b → All Small (legTrade b a h .records)

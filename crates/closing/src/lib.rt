@@ -175,7 +175,7 @@ fn cancel_all(b: State, space: &mut [i32], n: usize) -> After
     let mut c = b;
     let mut m = n;
     let mut i: usize = 0;
-    while i < State::ROWS + State::LEG_ORDERS {
+    while i < State::LIVE {
         let low = lowest_live(c);
         if low == 0 {
             return After { state: c, count: m };

@@ -71,7 +71,7 @@ pub fn enter(e: Entry, b: State) -> Entered
 }
 
 // 1 for a live sweep, or for a live complex order.
-fn counts(e: Entry, sweeps: bool) -> u32
+fn counts(e: Entry, sweeps: bool) -> usize
     ensures { λ r. ⌜ r ≡ counts sweeps e ⌝ }
 {
     if live(e) {
@@ -90,10 +90,10 @@ fn counts(e: Entry, sweeps: bool) -> u32
 }
 
 // The number of live sweeps, or of live complex orders. The exit, where all 32 are, keeps the compiler from unrolling the loop and splitting the state.
-pub fn count_of(b: State, sweeps: bool) -> u32
+pub fn count_of(b: State, sweeps: bool) -> usize
     ensures { λ r. ⌜ r ≡ pick sweeps (sumN (isSweepAt b) tableRows) (sumN (isOrderAt b) tableRows) ⌝ }
 {
-    let mut n: u32 = 0;
+    let mut n: usize = 0;
     let mut i: usize = 0;
     while i < State::ROWS {
         let x = counts(b.entries[i], sweeps);

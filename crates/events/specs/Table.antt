@@ -82,9 +82,9 @@ leg fs = series ∷ side ∷ ratio ∷ fs
 
 -- "then the fields": those of each kind, 19 with the empty ones
 abbrev pub fieldsOf : Kind → List Field
--- "1 strategy: leg count (1) 2–6; per leg series, side, ratio"
+-- "1 strategy: leg count (1) 2–6; per leg series (1) 0–31, side (1), ratio (1) 1–12."
 fieldsOf K.Strategy = count ∷ leg (leg (leg (leg (leg (leg [])))))
--- "2 complex order: member (2) from 1, strategy (1) 0–15, side (1), class (1), life (1), units (2), limit (4, signed)"
+-- "2 complex order: member (2) from 1, strategy (1) 0–15, side (1), class (1): .. life (1): .. units (2) 1–9,999; limit (4, signed) .."
 fieldsOf K.Order = member ∷ strategy ∷ side ∷ class ∷ life ∷ units ∷ limit ∷ replicate 12 none
 -- "3 sweep: member, strategy, side, units 0–9,999, limit, each as in 2"
 fieldsOf K.Sweep = member ∷ strategy ∷ side ∷ sweepUnits ∷ limit ∷ replicate 14 none

@@ -22,7 +22,7 @@ use Rattle.frames.specs.declared.Written.the-variants as W
 unfoldable pub kindAt : List ℕ → Kind
 kindAt f = kindOf (number 2 f 2)
 
--- "that byte": the fifth, a strategy's count; 0 where "a frame ends before that byte"
+-- "for every count byte": the fifth; 0 where "a frame .. ends before that byte"
 abbrev pub countAt : List ℕ → ℕ
 countAt f = getD f 4 0
 

@@ -12,20 +12,20 @@ use Rattle.rules.specs.declared.LegOrder.{LegOrder}
 use Rattle.rules.specs.declared.State.{State}
 use Rattle.rules.specs.State.{noLeg, entryAt, strategyOf}
 use Rattle.rules.specs.Nets.{netOf, unitsOf}
-use Rattle.rules.specs.Fills.{legQuotas, orderRows, cutOrders, orderRecords, cutStep, cutByLegs, takeLegs, legFill}
+use Rattle.rules.specs.Fills.{legQuotas, orderRows, cutOrders, orderRecordsAt, cutStep, cutByLegs, takeLegs, legFill, takesAt, legTake}
 use Rattle.records.specs.Space.{Appended, wrote-first, wrote-next}
 use Rattle.nets.specs.declared.LegPrices.{LegPrices}
 use Rattle.nets.specs.Nets.{legPrices}
 
 -- one leg: its records are written, and its quotas taken from the rows
 pub record OneLeg (sp sq : List ℤ) (n m : ℕ) (rows rest os : List LegOrder) (side q price : ℕ) (l : Leg) : Type 0 where
-  pub wrote : Appended sp sq n m (joinN (orderRows os (legQuotas os side (l .ratio * q) price l) price) 32)
-  pub left : rest ≡ cutOrders rows (legQuotas os side (l .ratio * q) price l)
+  pub wrote : Appended sp sq n m (joinN (orderRows os (legQuotas os (legTake side (l .ratio * q) price l)) price) 32)
+  pub left : rest ≡ cutOrders rows (legQuotas os (legTake side (l .ratio * q) price l))
 
 -- the first k legs
 pub record AllLegs (sp sq : List ℤ) (n m : ℕ) (rows os : List LegOrder) (side q : ℕ) (legs : List Leg) (ps : List ℕ) (k : ℕ) : Type 0 where
-  pub wrote : Appended sp sq n m (joinN (orderRecords os side q legs ps) k)
-  pub left : rows ≡ cutByLegs os side q legs ps k
+  pub wrote : Appended sp sq n m (joinN (orderRecordsAt os (takesAt side q legs ps)) k)
+  pub left : rows ≡ cutByLegs os (takesAt side q legs ps) k
 
 -- laws
 
@@ -37,7 +37,7 @@ pub legs-next : {sp sq sr : List ℤ} {n m k : ℕ} {rows rest os : List LegOrde
     → AllLegs sp sq n m rows os side q legs ps i → OneLeg sq sr m k rows rest os side q (slot ps i) (getD legs i noLeg) → AllLegs sp sr n k rest os side q legs ps (i + 1)
 unfolding cutByLegs
 legs-next {os = os} {side = side} {q = q} {legs = legs} {ps = ps} {i = i} g d =
-    record { wrote = wrote-next (orderRecords os side q legs ps) i (g .wrote) (d .wrote); left = walk-next (cutStep os side q legs ps) os i (g .left) (d .left) }
+    record { wrote = wrote-next (orderRecordsAt os (takesAt side q legs ps)) i (g .wrote) (d .wrote); left = walk-next (cutStep os (takesAt side q legs ps)) os i (g .left) (d .left) }
 
 pub contracts-fit : (r q : ℕ) → r ≤ 12 → q ≤ 9999 → r * q ≤ 119_988
 contracts-fit r q a b = mul-le-mul a b

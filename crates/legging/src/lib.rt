@@ -4,7 +4,7 @@ ghost use Prim.Native.Nat.{_+_, _*_, _-_, _<_, _≤_};
 ghost use Rattle.base.specs.Walks.{joinN};
 ghost use Rattle.rules.specs.Sizes.{tableRows};
 ghost use Rattle.rules.specs.Nets.{netOf};
-ghost use Rattle.rules.specs.Fills.{legQuotas, orderRows, orderRecords, cutOrders, takeLegs, legFill};
+ghost use Rattle.rules.specs.Fills.{legQuotas, orderRows, orderRecordsAt, cutOrders, takeLegs, legFill, takesAt, legTake};
 ghost use Rattle.records.specs.Space.{Appended, Room};
 ghost use Rattle.records.specs.Done.{Done};
 ghost use Rattle.ranges.specs.Fit.{FitLegs, Fit};
@@ -40,7 +40,7 @@ fn leg_quotas(
     price: u32,
     l: Leg,
 ) -> [u32; State::ROWS]
-    ensures { λ qs. ⌜ qs ≡ legQuotas os side c price l ⌝ }
+    ensures { λ qs. ⌜ qs ≡ legQuotas os (legTake side c price l) ⌝ }
 {
     let on = other(leg_side(side, l));
     let xs = lots(os, l.series, on, price);
@@ -94,7 +94,7 @@ fn one_leg(
     space: &mut [i32],
 ) -> Cuts
     requires { ⌜ (l .ratio ≤ 12) × (q ≤ 9999) ⌝ }
-    requires { ⌜ Room (now space) (c .count) (joinN (orderRows os (legQuotas os side (l .ratio * q) price l) price) tableRows) ⌝ }
+    requires { ⌜ Room (now space) (c .count) (joinN (orderRows os (legQuotas os (legTake side (l .ratio * q) price l)) price) tableRows) ⌝ }
     ensures { λ d. ⌜ OneLeg (now (space .entry)) (now (space .exit)) (c .count) (d .count) (c .rows) (d .rows) os side q price l ⌝ }
 {
     let ratio = l.ratio as u32;
@@ -119,7 +119,7 @@ fn all_legs(
     n: usize,
 ) -> Cuts
     requires { ⌜ FitLegs s × (q ≤ 9999) ⌝ }
-    requires { ⌜ Room (now space) n (joinN (orderRecords os side q (s .legs) ps) (s .count)) ⌝ }
+    requires { ⌜ Room (now space) n (joinN (orderRecordsAt os (takesAt side q (s .legs) ps)) (s .count)) ⌝ }
     ensures { λ c. ⌜ AllLegs (now (space .entry)) (now (space .exit)) n (c .count) (c .rows) os side q (s .legs) ps (s .count) ⌝ }
 {
     let count = s.count as usize;

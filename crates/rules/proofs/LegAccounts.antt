@@ -21,7 +21,7 @@ use Rattle.rules.specs.State.{noLeg, noOrder, entryAt, orderAt, strategy
 use Rattle.rules.specs.Moves.{Moved}
 use Rattle.rules.specs.Sides.{other, legSide, meets}
 use Rattle.rules.specs.Nets.{stands, lot, lotAt, lots, known, weight, weightAt, weighed, netOf, legUnits, unitsStep, unitsOf}
-use Rattle.rules.specs.Fills.{wholeRecord, legRecord, partyRecords, cutOrder, cut, legQuotas, orderRecord, orderRow, orderRows, cutAt, cutOrders, quotasAt, orderRecords, cutByLegs, takeLegs, legFill}
+use Rattle.rules.specs.Fills.{wholeRecord, legRecord, partyRecords, cutOrder, cut, legQuotas, orderRecord, orderRow, orderRows, cutAt, cutOrders, takesAt, orderRecordsAt, cutByLegs, takeLegs, legFill}
 use Rattle.rules.specs.Totals.{ifSame}
 use Rattle.rules.proofs.Shrinks.{takeLegs-shrinks}
 use Rattle.rules.proofs.Quotas.{inTurn-under, inTurn-sum}
@@ -71,7 +71,7 @@ sum-linear f g k z a h (suc m) = rw (a (sumN g m) (g m)) (omega (arith, sum-line
 -- THE QUOTAS of q units, leg by leg and slot by slot
 module _ (os : List LegOrder) (side q : ℕ) (legs : List Leg) (ps : List ℕ) where
   abbrev pub quota : ℕ → ℕ → ℕ
-  quota i j = slot (quotasAt os side q legs ps i) j
+  quota i j = slot (legQuotas os (takesAt side q legs ps i)) j
 
   abbrev pub leg : ℕ → Leg
   leg i = getD legs i noLeg
@@ -111,20 +111,20 @@ module _ (os : List LegOrder) (side q : ℕ) (legs : List Leg) (ps : List ℕ) w
           (lt-or-le 0 (quota i j))
 
   -- the orders after the cuts
-  cut-row : (k j : ℕ) → j < 32 → getD (cutByLegs os side q legs ps k) j noOrder ≡ cutOrder (row j) (lost k j)
+  cut-row : (k j : ℕ) → j < 32 → getD (cutByLegs os (takesAt side q legs ps) k) j noOrder ≡ cutOrder (row j) (lost k j)
   unfolding cutByLegs walk cutOrders sumN
   cut-row zero j l = rw (sub-zero (row j .contracts))
   cut-row (suc k) j l =
-      let qs : List ℕ = quotasAt os side q legs ps k in
-      let rows : List LegOrder = cutByLegs os side q legs ps k in
+      let qs : List ℕ = legQuotas os (takesAt side q legs ps k) in
+      let rows : List LegOrder = cutByLegs os (takesAt side q legs ps) k in
       let e : row j .contracts - lost k j - quota k j ≡ row j .contracts - (lost k j + quota k j) = omega arith in
       table-slot (cutAt rows qs) noOrder 32 j l ∙ ap (λ (o : LegOrder). cutOrder o (quota k j)) (cut-row k j l) ∙ rw e
 
   -- the records of the leg orders
-  legs-tally : (w : Record → ℕ) (k : ℕ) → tally w (joinN (orderRecords os side q legs ps) k) ≡ sumN (λ (i : ℕ). sumN (λ (j : ℕ). tally w (orderRow (row j) (quota i j) (slot ps i))) 32) k
+  legs-tally : (w : Record → ℕ) (k : ℕ) → tally w (joinN (orderRecordsAt os (takesAt side q legs ps)) k) ≡ sumN (λ (i : ℕ). sumN (λ (j : ℕ). tally w (orderRow (row j) (quota i j) (slot ps i))) 32) k
   legs-tally w k =
-      tally-join w (orderRecords os side q legs ps) k
-      ∙ sum-same _ _ k (λ i l. tally-join w (orderRows os (quotasAt os side q legs ps i) (slot ps i)) 32)
+      tally-join w (orderRecordsAt os (takesAt side q legs ps)) k
+      ∙ sum-same _ _ k (λ i l. tally-join w (orderRows os (legQuotas os (takesAt side q legs ps i)) (slot ps i)) 32)
 
   -- one record, by whether there is a quota
   row-by : (w : Record → ℕ) (P : ℕ → Type 0) (i j : ℕ) → (quota i j ≡ 0 → P 0) → (0 < quota i j → Held (leg i .series) (its i) (slot ps i) (row j) → P (w (orderRecord (row j) (quota i j) (slot ps i)))) →
@@ -139,7 +139,7 @@ module _ (os : List LegOrder) (side q : ℕ) (legs : List Leg) (ps : List ℕ) w
 
   -- records that weigh nothing
   legs-none : (w : Record → ℕ) (k : ℕ) → ((i j : ℕ) → 0 < quota i j → Held (leg i .series) (its i) (slot ps i) (row j) → w (orderRecord (row j) (quota i j) (slot ps i)) ≡ 0) →
-      tally w (joinN (orderRecords os side q legs ps) k) ≡ 0
+      tally w (joinN (orderRecordsAt os (takesAt side q legs ps)) k) ≡ 0
   legs-none w k h =
       legs-tally w k
       ∙ sum-zero _ k (λ i l. sum-zero (λ (j : ℕ). tally w (orderRow (row j) (quota i j) (slot ps i))) 32 (λ j m. row-by w (λ (x : ℕ). x ≡ 0) i j (λ z. refl) (λ s d. h i j s d)))
@@ -175,7 +175,7 @@ module _ (os : List LegOrder) (side q : ℕ) (legs : List Leg) (ps : List ℕ) w
   }
 
   -- CONTRACTS of a number: what the records say is what the orders lost
-  legs-contracts : (n k : ℕ) → tally (gone (ofContracts n)) (joinN (orderRecords os side q legs ps) k) ≡ sumN (λ (j : ℕ). ifSame (row j .number) n (lost k j)) 32
+  legs-contracts : (n k : ℕ) → tally (gone (ofContracts n)) (joinN (orderRecordsAt os (takesAt side q legs ps)) k) ≡ sumN (λ (j : ℕ). ifSame (row j .number) n (lost k j)) 32
   legs-contracts n k =
       let g : ℕ → ℕ → ℕ = λ (i j : ℕ). ifSame (row j .number) n (quota i j) in
       legs-tally (gone (ofContracts n)) k
@@ -187,11 +187,11 @@ module _ (os : List LegOrder) (side q : ℕ) (legs : List Leg) (ps : List ℕ) w
   cut-contracts-legs : (n k : ℕ) → ((j : ℕ) → lost k j ≤ row j .contracts) →
       sumN (λ (j : ℕ). ifSame (row j .number) n (row j .contracts)) 32
       ≡ sumN (λ (j : ℕ). ifSame (row j .number) n (lost k j)) 32
-      + sumN (λ (j : ℕ). ifSame (getD (cutByLegs os side q legs ps k) j noOrder .number) n (getD (cutByLegs os side q legs ps k) j noOrder .contracts)) 32
+      + sumN (λ (j : ℕ). ifSame (getD (cutByLegs os (takesAt side q legs ps) k) j noOrder .number) n (getD (cutByLegs os (takesAt side q legs ps) k) j noOrder .contracts)) 32
   cut-contracts-legs n k h =
       let u : ℕ → ℕ = λ (j : ℕ). ifSame (row j .number) n (lost k j) in
       let v : ℕ → ℕ = λ (j : ℕ). ifSame (row j .number) n (row j .contracts - lost k j) in
-      let x : ℕ → ℕ = λ (j : ℕ). ifSame (getD (cutByLegs os side q legs ps k) j noOrder .number) n (getD (cutByLegs os side q legs ps k) j noOrder .contracts) in
+      let x : ℕ → ℕ = λ (j : ℕ). ifSame (getD (cutByLegs os (takesAt side q legs ps) k) j noOrder .number) n (getD (cutByLegs os (takesAt side q legs ps) k) j noOrder .contracts) in
       omega (
         arith,
         sum-same (λ (j : ℕ). ifSame (row j .number) n (row j .contracts)) (λ (j : ℕ). u j + v j) 32 (λ j l. pick-sub (eqb (row j .number) n) (row j .contracts) (lost k j) (h j)),
@@ -216,14 +216,14 @@ module _ (os : List LegOrder) (side q : ℕ) (s : Strategy) (ps : List ℕ) (rea
   -- what all legs' records weigh
   legs-weight : (w : Record → ℕ) (f : ℕ → ℕ → ℕ) → ((i : ℕ) → f i 0 ≡ 0) → ((i x y : ℕ) → f i (x + y) ≡ f i x + f i y)
       → ((i : ℕ) (o : LegOrder) (x : ℕ) → Held (legAt s i .series) (other (legSide side (legAt s i))) (slot ps i) o → w (orderRecord o x (slot ps i)) ≡ f i x)
-      → tally w (joinN (orderRecords os side q (s .legs) ps) (s .count)) ≡ sumN (λ (i : ℕ). f i (legAt s i .ratio * q)) (s .count)
+      → tally w (joinN (orderRecordsAt os (takesAt side q (s .legs) ps)) (s .count)) ≡ sumN (λ (i : ℕ). f i (legAt s i .ratio * q)) (s .count)
   legs-weight w f z a h =
       legs-tally os side q (s .legs) ps w (s .count)
       ∙ sum-same _ (λ (i : ℕ). f i (legAt s i .ratio * q)) (s .count)
       (λ i l. leg-weight os side q (s .legs) ps w (f i) i (z i) (a i) (h i) ∙ ap (f i) (quotas-sum os side q (s .legs) ps (s .count) ready i l))
 
   side-weight : (x w : ℕ) (f : Record → ℕ) → ((o : LegOrder) (y p : ℕ) → f (orderRecord o y p) ≡ ifSame (o .series) x (ifSame (o .side) w y)) →
-      tally f (joinN (orderRecords os side q (s .legs) ps) (s .count)) ≡ sumN (λ (i : ℕ). bits side s x w i (legAt s i .ratio * q)) (s .count)
+      tally f (joinN (orderRecordsAt os (takesAt side q (s .legs) ps)) (s .count)) ≡ sumN (λ (i : ℕ). bits side s x w i (legAt s i .ratio * q)) (s .count)
   side-weight x w f h =
       legs-weight f (bits side s x w)
       (λ i. pick-nil (eqb (legAt s i .series) x) (eqb (other (legSide side (legAt s i))) w))
@@ -231,8 +231,8 @@ module _ (os : List LegOrder) (side q : ℕ) (s : Strategy) (ps : List ℕ) (rea
       (λ i o y d. h o y (slot ps i) ∙ rw (d .standing .inSeries, d .standing .onSide))
 
   legs-even : (e : Entry) → e .side ≡ side → ((i : ℕ) → legAt s i .side ≤ 1) → (x : ℕ) →
-      sumN (partAt (come (ofSeries x)) e s q ps) (s .count) + tally (come (ofSeries x)) (joinN (orderRecords os side q (s .legs) ps) (s .count))
-      ≡ sumN (partAt (gone (ofSeries x)) e s q ps) (s .count) + tally (gone (ofSeries x)) (joinN (orderRecords os side q (s .legs) ps) (s .count))
+      sumN (partAt (come (ofSeries x)) e s q ps) (s .count) + tally (come (ofSeries x)) (joinN (orderRecordsAt os (takesAt side q (s .legs) ps)) (s .count))
+      ≡ sumN (partAt (gone (ofSeries x)) e s q ps) (s .count) + tally (gone (ofSeries x)) (joinN (orderRecordsAt os (takesAt side q (s .legs) ps)) (s .count))
   legs-even e k g x =
       rw (side-weight x 0 (come (ofSeries x)) (λ o y p. refl), side-weight x 1 (gone (ofSeries x)) (λ o y p. refl))
       (sym (sum-add (partAt (come (ofSeries x)) e s q ps) (λ (i : ℕ). bits side s x 0 i (legAt s i .ratio * q)) (s .count))
@@ -319,14 +319,14 @@ net-exact s ps =
 
 module _ (os : List LegOrder) (side q : ℕ) (s : Strategy) (ps : List ℕ) (ready : Ready os side q (s .legs) ps (s .count)) (h : side ≤ 1) (g : (i : ℕ) → legAt s i .side ≤ 1) where
   cash-weight : (u v : ℕ → ℕ) (w : Record → ℕ) → ((o : LegOrder) (y i : ℕ) → w (orderRecord o y (slot ps i)) ≡ worth (o .side) (u i) (v i) y) →
-      tally w (joinN (orderRecords os side q (s .legs) ps) (s .count)) ≡ sumN (λ (i : ℕ). worth (other (legSide side (legAt s i))) (u i) (v i) (legAt s i .ratio * q)) (s .count)
+      tally w (joinN (orderRecordsAt os (takesAt side q (s .legs) ps)) (s .count)) ≡ sumN (λ (i : ℕ). worth (other (legSide side (legAt s i))) (u i) (v i) (legAt s i .ratio * q)) (s .count)
   cash-weight u v w f =
       legs-weight os side q s ps ready w (λ (i y : ℕ). worth (other (legSide side (legAt s i))) (u i) (v i) y)
       (λ i. worth-none (other (legSide side (legAt s i))) (u i) (v i)) (λ i. worth-plus (other (legSide side (legAt s i))) (u i) (v i))
       (λ i o y d. f o y i ∙ rw (d .standing .onSide))
 
-  legs-cash : tally (come ofCash) (joinN (orderRecords os side q (s .legs) ps) (s .count)) + pick (eqb side 0) (q * weighed 0 (s .legs) ps (s .count)) (q * weighed 1 (s .legs) ps (s .count))
-      ≡ tally (gone ofCash) (joinN (orderRecords os side q (s .legs) ps) (s .count)) + pick (eqb side 0) (q * weighed 1 (s .legs) ps (s .count)) (q * weighed 0 (s .legs) ps (s .count))
+  legs-cash : tally (come ofCash) (joinN (orderRecordsAt os (takesAt side q (s .legs) ps)) (s .count)) + pick (eqb side 0) (q * weighed 0 (s .legs) ps (s .count)) (q * weighed 1 (s .legs) ps (s .count))
+      ≡ tally (gone ofCash) (joinN (orderRecordsAt os (takesAt side q (s .legs) ps)) (s .count)) + pick (eqb side 0) (q * weighed 1 (s .legs) ps (s .count)) (q * weighed 0 (s .legs) ps (s .count))
   unfolding weighed
   legs-cash =
       let u : ℕ → ℕ = λ (i : ℕ). 10_000_000 + slot ps i in
@@ -360,11 +360,11 @@ module _ (b : State) (a : ℕ) (st : Steady b) (legged : Legged b a) where
   os = b .orders
 
   abbrev theirs : List Record
-  theirs = joinN (orderRecords os (e .side) q (s .legs) ps) (s .count)
+  theirs = joinN (orderRecordsAt os (takesAt (e .side) q (s .legs) ps)) (s .count)
 
   abbrev taken : Moved
   taken = record {
-    state = withOrders (cut b a q) (cutByLegs os (e .side) q (s .legs) ps (s .count));
+    state = withOrders (cut b a q) (cutByLegs os (takesAt (e .side) q (s .legs) ps) (s .count));
     records = partyRecords e s q (netOf s ps) ps ++ theirs;
   }
 

@@ -22,7 +22,7 @@ use Rattle.rules.specs.Moves.{Moved}
 use Rattle.rules.specs.Sides.{other, legSide}
 use Rattle.rules.specs.Quotas.{inTurnAt, inTurn}
 use Rattle.rules.specs.Nets.{stands, priceWith, priceStep, priceOf, lot, lotAt, lots, legPrice, priceAt, prices, netOf, legUnits, unitsOf}
-use Rattle.rules.specs.Fills.{partyRecords, cutOrder, cut, legQuotas, orderRow, orderRows, cutAt, cutOrders, quotasAt, orderRecords, cutByLegs, takeLegs, legFill}
+use Rattle.rules.specs.Fills.{partyRecords, cutOrder, cut, legQuotas, orderRow, orderRows, cutAt, cutOrders, takesAt, orderRecordsAt, cutByLegs, takeLegs, legFill}
 use Rattle.rules.proofs.Tables.{positive}
 use Rattle.rules.proofs.Shrinks.{SameOrder, same-order, order-trans, cut-order}
 use Rattle.rules.proofs.Quotas.{inTurn-under, inTurn-sum}
@@ -114,17 +114,17 @@ touch c x s r h =
 -- A FILL OF q UNITS, leg by leg
 module _ (os : List LegOrder) (side q : ℕ) (legs : List Leg) (ps : List ℕ) where
   abbrev rows : ℕ → List LegOrder
-  rows k = cutByLegs os side q legs ps k
+  rows k = cutByLegs os (takesAt side q legs ps) k
 
   abbrev row : ℕ → ℕ → LegOrder
-  row k j = getD (cutByLegs os side q legs ps k) j noOrder
+  row k j = getD (cutByLegs os (takesAt side q legs ps) k) j noOrder
 
   -- what the orders hold for leg k, and what is taken of them
   abbrev sizesOf : ℕ → List ℕ
   sizesOf k = lots os (getD legs k noLeg .series) (other (legSide side (getD legs k noLeg))) (slot ps k)
 
   abbrev quota : ℕ → ℕ → ℕ
-  quota k j = slot (quotasAt os side q legs ps k) j
+  quota k j = slot (legQuotas os (takesAt side q legs ps k)) j
 
   quota-under : (k j : ℕ) → quota k j ≤ slot (sizesOf k) j
   unfolding legQuotas
@@ -138,7 +138,7 @@ module _ (os : List LegOrder) (side q : ℕ) (legs : List Leg) (ps : List ℕ) w
 
   row-next : (k j : ℕ) → j < 32 → row (suc k) j ≡ cutOrder (row k j) (quota k j)
   unfolding cutByLegs walk cutOrders
-  row-next k j l = table-slot (cutAt (rows k) (quotasAt os side q legs ps k)) noOrder 32 j l
+  row-next k j l = table-slot (cutAt (rows k) (legQuotas os (takesAt side q legs ps k))) noOrder 32 j l
 
   row-same : (k j : ℕ) → j < 32 → SameOrder (getD os j noOrder) (row k j)
   unfolding cutByLegs walk
@@ -194,23 +194,23 @@ module _ (os : List LegOrder) (side q : ℕ) (legs : List Leg) (ps : List ℕ) w
         (λ e. omega (arith, eqb-true n 0 e))
         (λ e. omega (arith, positive n e))
 
-    leg-length : (k : ℕ) → length (orderRecords os side q legs ps k) ≡ sumN (λ (j : ℕ). min (quota k j) 1) 32
+    leg-length : (k : ℕ) → length (orderRecordsAt os (takesAt side q legs ps) k) ≡ sumN (λ (j : ℕ). min (quota k j) 1) 32
     leg-length k =
-        length-join (orderRows os (quotasAt os side q legs ps k) (slot ps k)) 32
+        length-join (orderRows os (legQuotas os (takesAt side q legs ps k)) (slot ps k)) 32
         ∙ sum-same _ (λ (j : ℕ). min (quota k j) 1) 32 (λ j l. row-length (getD os j noOrder) (quota k j) (slot ps k))
 
-    leg-one : (k : ℕ) → k < count → length (orderRecords os side q legs ps k) + sumN (aliveOrder (rows (suc k))) 32 ≤ sumN (aliveOrder (rows k)) 32 + 1
+    leg-one : (k : ℕ) → k < count → length (orderRecordsAt os (takesAt side q legs ps) k) + sumN (aliveOrder (rows (suc k))) 32 ≤ sumN (aliveOrder (rows k)) 32 + 1
     leg-one k c = rw (leg-length k) (one _ _ _ (leg-touched k c 32 (omega arith)))
       where
         one : (x y z : ℕ) → x ≤ y + min z 1 → x ≤ y + 1
         one x y z h = omega arith
 
     -- all legs: each leaves one order touched and not finished at most
-    legs-length : (k : ℕ) → k ≤ count → sumN (λ (i : ℕ). length (orderRecords os side q legs ps i)) k + sumN (aliveOrder (rows k)) 32 ≤ k + sumN (aliveOrder os) 32
+    legs-length : (k : ℕ) → k ≤ count → sumN (λ (i : ℕ). length (orderRecordsAt os (takesAt side q legs ps) i)) k + sumN (aliveOrder (rows k)) 32 ≤ k + sumN (aliveOrder os) 32
     unfolding cutByLegs walk
-    legs-length zero l = omega (arith, sum-none (λ (i : ℕ). length (orderRecords os side q legs ps i)))
+    legs-length zero l = omega (arith, sum-none (λ (i : ℕ). length (orderRecordsAt os (takesAt side q legs ps) i)))
     legs-length (suc k) l =
-        let f : ℕ → ℕ = λ (i : ℕ). length (orderRecords os side q legs ps i) in
+        let f : ℕ → ℕ = λ (i : ℕ). length (orderRecordsAt os (takesAt side q legs ps) i) in
         let h = legs-length k (omega arith) in
         let g = leg-one k (omega arith) in
         omega (arith, h, g, sum-next f k)
@@ -324,10 +324,10 @@ module _ (b : State) (six : Six b) (a : ℕ) (l : Legged b a) where
   s = strategyOf b (entryAt b a)
 
   abbrev after : List LegOrder
-  after = cutByLegs (b .orders) (entryAt b a .side) (unitsFor b a) (strategyOf b (entryAt b a) .legs) (pricesFor b a) (strategyOf b (entryAt b a) .count)
+  after = cutByLegs (b .orders) (takesAt (entryAt b a .side) (unitsFor b a) (strategyOf b (entryAt b a) .legs) (pricesFor b a)) (strategyOf b (entryAt b a) .count)
 
   abbrev told : List Record
-  told = joinN (orderRecords (b .orders) (entryAt b a .side) (unitsFor b a) (s .legs) (pricesFor b a)) (s .count)
+  told = joinN (orderRecordsAt (b .orders) (takesAt (entryAt b a .side) (unitsFor b a) (s .legs) (pricesFor b a))) (s .count)
 
   after-same : (j : ℕ) → j < 32 → SameOrder (orderAt b j) (getD after j noOrder)
   after-same j n = row-same (b .orders) (entryAt b a .side) (unitsFor b a) (s .legs) (pricesFor b a) (s .count) j n

@@ -35,3 +35,4 @@ pub mod Paper
 pub mod Ratios
 pub mod Origins
 pub mod Totals
+pub mod Sample

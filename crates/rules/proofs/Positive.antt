@@ -20,7 +20,7 @@ use Rattle.rules.specs.declared.Kind.the-variants.{WholeFill, LegFill, L
 use Rattle.rules.specs.State.{noStrategy, noOrder, entryAt, orderAt, strategyAt, strategyOf, legAt, withEntries, withOrders, withOpened, withClock, withLast}
 use Rattle.rules.specs.Moves.{Moved}
 use Rattle.rules.specs.Nets.{prices, netOf, unitsOf}
-use Rattle.rules.specs.Fills.{partyRecords, legRecordAt, noPrices, wholeFill, orderRow, orderRows, orderRecords, quotasAt, takeLegs, legFill, legTrade, cancelEntry, cancelOrder}
+use Rattle.rules.specs.Fills.{partyRecords, legRecordAt, noPrices, wholeFill, orderRow, orderRows, orderRecordsAt, takesAt, takeLegs, legFill, legTrade, cancelEntry, cancelOrder, legQuotas}
 use Rattle.rules.specs.Auctions.{begin, close}
 use Rattle.rules.specs.Events.{liveOrder, enter, enterOrder}
 use Rattle.rules.specs.Given.{orderGiven, legOrderGiven}
@@ -95,9 +95,9 @@ legs-filled b a l r =
     let ps : List ℕ = prices (b .orders) (e .side) (s .legs) in
     let q : ℕ = unitsOf (b .orders) (e .side) s ps (e .units) in
     all-append (party-filled e s q (netOf s ps) ps (legged-some b a l) (r .used (e .strategy)))
-    (all-join (orderRecords (b .orders) (e .side) q (s .legs) ps) (s .count)
-    (λ i _. all-join (orderRows (b .orders) (quotasAt (b .orders) (e .side) q (s .legs) ps i) (slot ps i)) 32
-    (λ j _. row-filled (getD (b .orders) j noOrder) (slot (quotasAt (b .orders) (e .side) q (s .legs) ps i) j) (slot ps i))))
+    (all-join (orderRecordsAt (b .orders) (takesAt (e .side) q (s .legs) ps)) (s .count)
+    (λ i _. all-join (orderRows (b .orders) (legQuotas (b .orders) (takesAt (e .side) q (s .legs) ps i)) (slot ps i)) 32
+    (λ j _. row-filled (getD (b .orders) j noOrder) (slot (legQuotas (b .orders) (takesAt (e .side) q (s .legs) ps i)) j) (slot ps i))))
 
 trade-filled : (b : State) (a h : ℕ) → Trading b a h → All Filled (legTrade b a h .records)
 unfolding legTrade Filled

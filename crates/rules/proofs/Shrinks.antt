@@ -15,7 +15,7 @@ use Rattle.rules.specs.declared.LegOrder.{LegOrder}
 use Rattle.rules.specs.declared.State.{State}
 use Rattle.rules.specs.State.{noEntry, noOrder, noStrategy, entryAt, orderAt, strategyAt, withEntries, withOrders, withStrategies}
 use Rattle.rules.specs.Moves.{Moved, and-then}
-use Rattle.rules.specs.Fills.{cutEntry, cutOrder, cut, cutLeg, cutAt, cutOrders, quotasAt, cutByLegs, wholeFill, takeLegs, legFill, legTrade, cancelEntry, cancelOrder}
+use Rattle.rules.specs.Fills.{cutEntry, cutOrder, cut, cutLeg, cutAt, cutOrders, takesAt, cutByLegs, wholeFill, takeLegs, legFill, legTrade, cancelEntry, cancelOrder, legQuotas}
 use Rattle.rules.specs.Auctions.{withAuction, putAuction, begin, close, answer}
 
 -- an entry that has lost units at most
@@ -194,16 +194,16 @@ unfolding cutOrders
 cutOrders-rows os qs = length-table (cutAt os qs) 32
 
 module _ (os : List LegOrder) (n : length os ≡ 32) (side q : ℕ) (legs : List Leg) (ps : List ℕ) where
-  cutByLegs-rows : (count : ℕ) → length (cutByLegs os side q legs ps count) ≡ 32
+  cutByLegs-rows : (count : ℕ) → length (cutByLegs os (takesAt side q legs ps) count) ≡ 32
   unfolding cutByLegs walk
   cutByLegs-rows zero = n
-  cutByLegs-rows (suc k) = cutOrders-rows (cutByLegs os side q legs ps k) (quotasAt os side q legs ps k)
+  cutByLegs-rows (suc k) = cutOrders-rows (cutByLegs os (takesAt side q legs ps) k) (legQuotas os (takesAt side q legs ps k))
 
-  cutByLegs-same : (count : ℕ) (i : ℕ) → SameOrder (getD os i noOrder) (getD (cutByLegs os side q legs ps count) i noOrder)
+  cutByLegs-same : (count : ℕ) (i : ℕ) → SameOrder (getD os i noOrder) (getD (cutByLegs os (takesAt side q legs ps) count) i noOrder)
   unfolding cutByLegs walk
   cutByLegs-same zero i = same-order _
   cutByLegs-same (suc k) i =
-      order-trans (cutByLegs-same k i) (cutOrders-same (cutByLegs os side q legs ps k) (quotasAt os side q legs ps k) (cutByLegs-rows k) i)
+      order-trans (cutByLegs-same k i) (cutOrders-same (cutByLegs os (takesAt side q legs ps) k) (legQuotas os (takesAt side q legs ps k)) (cutByLegs-rows k) i)
 
 -- the moves
 pub whole-shrinks : (b : State) (a h level q : ℕ) → Shrinks b (wholeFill b a h level q .state)

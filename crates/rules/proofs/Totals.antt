@@ -238,6 +238,16 @@ module _ (timer : ℕ) (low : 1 ≤ timer) (high : timer ≤ 5000) (xs : List Se
         line-within w l (x .of) (x .is) (o .order .side) (10_000_000 + o .order .price) (o .side) (cents-price (o .order .price) ∙ o .limit)
         (traded-met (x .of) (x .there) (sym (ap (λ (y : Line). y .kind) (x .is)) ∙ kind) (sym (ap (λ (y : Line). y .number) (x .is)) ∙ number))
 
+    whole-of : (l : Line) → List·Memᴰ l (linesOf log) → l .kind ≡ 1 → l .number ≡ w .number → ⊥
+    unfolding lineOf
+    whole-of l there kind number =
+        let x : Written l rs = written l rs (rw lines at there) in
+        let k : kindNumber (x .of .kind) ≡ 1 = sym (ap (λ (y : Line). y .kind) (x .is)) ∙ kind in
+        let m : x .of .number ≡ w .number = sym (ap (λ (y : Line). y .number) (x .is)) ∙ number in
+        let z : onComplex (x .of .kind) (ifSame (x .of .number) (w .number) 1) ≡ 0 = tally-mem (come (noEntries (w .number))) (x .of) rs (x .there) no-entries in
+        let y : ifSame (x .of .number) (w .number) 1 ≡ 0 = rw (whole-line (x .of .kind) k) at z in
+        omega (arith, y, when-yes (x .of .number) (w .number) 1 m)
+
   -- no other number
   other-law : (n : ℕ) → Unknown n log → {l : Law} → About n l → tally (come l) rs ≡ tally (gone l) rs + size l end
   other-law n u {l} a = law-quiet l timer xs v (quiet a (fresh timer) xs (apart-unknown n (fresh timer) xs u))
@@ -300,6 +310,7 @@ module _ (timer : ℕ) (low : 1 ≤ timer) (high : timer ≤ 5000) (xs : List Se
     series = series-of;
     limit = limit-of;
     price = price-of;
+    whole = whole-of;
     paid = paid-of;
   }
 

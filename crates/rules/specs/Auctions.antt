@@ -4,7 +4,7 @@ use mathlib.Core.List.{[], _∷_}
 use Prim.Native.Nat.{ℕ, _+_, _-_, min}
 use lib.Dec.{eqb, ltb, leb}
 use lib.ListN.{set}
-use Rattle.base.specs.Pick.{pick}
+use Rattle.base.specs.Pick.{pick, both, either}
 use Rattle.base.specs.Walks.{firstN, walk}
 use Rattle.rules.specs.Sizes.{strategySlots, tableRows, zeroLevel}
 use Rattle.rules.specs.declared.Strategy.{Strategy}
@@ -51,25 +51,25 @@ close k b = record {
   records = record { kind = AuctionEnded; number = strategyAt b k .starter; place = k; side = 0; quantity = 0; level = zeroLevel } ∷ [];
 }
 
--- the slot of the entry of strategy k with that number, 32 where it has none
+-- whether the entry at slot i is live, of strategy k and of that number
 abbrev pub isNumber : State → ℕ → ℕ → ℕ → Bool
-isNumber b k n i = pick (liveIn k (entryAt b i)) (eqb (entryAt b i .number) n) false
+isNumber b k n i = both (liveIn k (entryAt b i)) (eqb (entryAt b i .number) n)
 
--- the slot of the running auction's starter
+-- the slot of the running auction's starter, past the table where it is gone
 unfoldable pub starterSlot : State → ℕ → ℕ
 starterSlot b k = firstN (isNumber b k (strategyAt b k .starter)) tableRows
 
--- "if any opposite sweep or waiting order was accepted meanwhile": one of that side has been
+-- "if any opposite sweep or waiting order was accepted meanwhile": one of that side has been accepted
 unfoldable pub answer : ℕ → ℕ → State → State
 answer k side b =
     let s : Strategy = strategyAt b k in
     pick (eqb (entryAt b (starterSlot b k) .side) (other side)) (putAuction b k (s .starter) (s .begun) true) b
 
--- "Sweeps, responses and immediates left are cancelled by number"
+-- "Sweeps, responses and immediates left": e is one of strategy k
 unfoldable pub lapses : ℕ → Entry → Bool
-lapses k e = pick (liveIn k e) (pick (eqb (e .life) 1) true (pick (eqb (e .life) 2) true (eqb (e .life) 4))) false
+lapses k e = both (liveIn k e) (either (eqb (e .life) 1) (either (eqb (e .life) 2) (eqb (e .life) 4)))
 
--- .. by number: the one at slot i, if it lapses
+-- ".. are cancelled by number": the one at slot i, if it lapses
 unfoldable pub cancelLapsed : ℕ → ℕ → State → Moved
 cancelLapsed k i b = pick (lapses k (entryAt b i)) (cancelEntry i b) (still b)
 
@@ -81,11 +81,11 @@ endUnfilled k b = and-then (each (cancelLapsed k) tableRows b) (close k)
 unfoldable pub starterPass : ℕ → State → Moved
 starterPass k b = pass Shared (not (strategyAt b k .answered)) (starterSlot b k) b
 
--- "Then each other entry accepted meanwhile, by number, gets a numbered pass; sweeps never use legs."
+-- "each other entry accepted meanwhile": e of strategy k came after number n
 unfoldable pub later : ℕ → ℕ → Entry → Bool
-later k n e = pick (liveIn k e) (ltb n (e .number)) false
+later k n e = both (liveIn k e) (ltb n (e .number))
 
--- .. the pass of the one at slot i
+-- ".. gets a numbered pass; sweeps never use legs": the one at slot i
 unfoldable pub laterPass : ℕ → ℕ → ℕ → State → Moved
 laterPass k n i b = pick (later k n (entryAt b i)) (pass Numbered (not (eqb (entryAt b i .life) 4)) i b) (still b)
 
@@ -95,54 +95,54 @@ endAuction k b =
     let n : ℕ = strategyAt b k .starter in
     and-then (starterPass k b) (λ c. and-then (each (laterPass k n) tableRows c) (endUnfilled k))
 
--- "auctions begun at least the timer ago end, by strategy"
+-- "auctions begun at least the timer ago": that of strategy k
 unfoldable pub due : State → ℕ → Bool
-due b k = pick (running b k) (leb (strategyAt b k .begun + b .timer) (b .clock)) false
+due b k = both (running b k) (leb (strategyAt b k .begun + b .timer) (b .clock))
 
--- .. the one of strategy k, if it is due
+-- ".. end, by strategy": that of strategy k, if it is due
 unfoldable pub endDue : ℕ → State → Moved
 endDue k b = pick (due b k) (endAuction k b) (still b)
 
--- "shut ends the auctions of strategies holding it, by strategy, without fills"
+-- "shut ends the auctions of strategies holding it, by strategy, without fills": that of strategy k
 unfoldable pub endHolding : ℕ → ℕ → State → Moved
 endHolding s k b = pick (running b k) (pick (holds b s k) (endUnfilled k b) (still b)) (still b)
 
--- "each day order by strategy, then number, in strategies holding that series, all open, without an auction, gets a pass by legs only"
+-- a "day order" of strategy k
 unfoldable pub dayOrder : ℕ → Entry → Bool
-dayOrder k e = pick (liveIn k e) (eqb (e .life) 0) false
+dayOrder k e = both (liveIn k e) (eqb (e .life) 0)
 
--- .. the pass of the day order at slot i
+-- ".. gets a pass by legs only": the day order at slot i
 unfoldable pub legPass : ℕ → ℕ → State → Moved
 legPass k i b = pick (dayOrder k (entryAt b i)) (pass LegsOnly true i b) (still b)
 
--- .. in strategy k: holding the series, all open, without an auction
+-- "in strategies holding that series, all open, without an auction": strategy k
 unfoldable pub legPassesIn : ℕ → ℕ → State → Moved
 legPassesIn s k b =
     pick (holds b s k) (pick (allOpen b k) (pick (running b k) (still b) (each (legPass k) tableRows b)) (still b)) (still b)
 
--- .. by strategy
+-- "each day order by strategy, then number"
 unfoldable pub legPasses : ℕ → State → Moved
 legPasses s b = each (legPassesIn s) strategySlots b
 
--- "best buy" and "best sell (price, then number)": the slot of the best entry of a side, 32 where there is none
+-- whether the entry at slot i is of strategy k and side, and goes before the best so far: strictly better, or the first
 unfoldable pub ahead : State → ℕ → ℕ → ℕ → ℕ → Bool
 ahead b k side i best =
     let e : Entry = entryAt b i in
-    pick (liveIn k e) (pick (eqb (e .side) side) (pick (eqb best tableRows) true (better (other side) (e .level) (entryAt b best .level))) false) false
+    both (liveIn k e) (both (eqb (e .side) side) (either (eqb best tableRows) (better (other side) (e .level) (entryAt b best .level))))
 
 -- one slot more: the best so far, or this one
 abbrev pub bestStep : State → ℕ → ℕ → ℕ → ℕ → ℕ
 bestStep b k side i best = pick (ahead b k side i best) i best
 
--- the best of the 32 slots: by price, then by slot, which is by number
+-- "best buy", "best sell (price, then number)": its slot by price, then by slot, which is by number; past the table where there is none
 unfoldable pub bestSlot : State → ℕ → ℕ → ℕ
 bestSlot b k side = walk (bestStep b k side) tableRows tableRows
 
 -- whether the best buy and the best sell meet
 unfoldable pub crossed : State → ℕ → ℕ → Bool
-crossed b x y = pick (ltb x tableRows) (pick (ltb y tableRows) (leb (entryAt b y .level) (entryAt b x .level)) false) false
+crossed b x y = both (ltb x tableRows) (both (ltb y tableRows) (leb (entryAt b y .level) (entryAt b x .level)))
 
--- "matches best buy with best sell .. at the lower number's limit, its order active"
+-- "matches best buy with best sell (price, then number) .., at the lower number's limit, its order active"
 unfoldable pub matchOnce : ℕ → ℕ → State → Moved
 matchOnce k i b =
     let x : ℕ = bestSlot b k 0 in
@@ -155,6 +155,6 @@ matchOnce k i b =
 unfoldable pub matchAll : ℕ → State → Moved
 matchAll k b = each (matchOnce k) tableRows b
 
--- "each all-open strategy holding it, by strategy"
+-- "each all-open strategy holding it": strategy k
 unfoldable pub matchIn : ℕ → ℕ → State → Moved
 matchIn s k b = pick (holds b s k) (pick (allOpen b k) (matchAll k b) (still b)) (still b)

@@ -41,7 +41,55 @@ use Rattle.rules.specs.declared.Record.{Record}
 
 -- to unfold these is to unfold every rule
 unfoldable pub performed : State → Event → Step.Outcome
-unfolding Pick.pick Walks.sumN Walks.table Walks.allN Walks.walk Walks.anyN Walks.firstN Walks.joinN Sets.has Sets.setN Sets.minus Sets.sizeOf Sets.lowestOf Gcd.euclid Gcd.gcd Fields.rawOf Fields.presentOf Fields.layout Fields.offset Fields.withinOf Fields.fitN Kinds.kindOf Kinds.lengthOf Rows.layoutIn Rows.fitting Rows.lengthIn Table.layoutOf Bodies.valueAt Bodies.valueBytes Bodies.rowN Bodies.bodyN Frames.kindAt Frames.rowAt Frames.judgeOf Frames.readOf Frames.frameOf Frames.writtenOf Frames.spaceOf Number.number Number.bytes State.fresh State.withEntries State.withOrders State.withStrategies State.withOpened State.withClock State.withLast Moves.and-then Moves.each Sides.other Sides.legSide Sides.meets Sides.better Sides.bestPrice Quotas.inTurnAt Quotas.inTurn Quotas.portion Quotas.oneOf Quotas.holderAt Quotas.sharedAt Quotas.share Nets.stands Nets.priceWith Nets.priceOf Nets.lot Nets.lots Nets.legPrice Nets.prices Nets.known Nets.weight Nets.weighed Nets.netOf Nets.legNet Nets.legUnits Nets.unitsOf Strategies.divisor Strategies.lowestTerms Strategies.placeOf Strategies.bySeries Strategies.padded Strategies.seriesSet Strategies.defined Strategies.twice Strategies.overThreefold Strategies.sameLeg Strategies.sameLegs Strategies.numberOf Strategies.added Strategies.define Strategies.shutSet Fills.partyRecords Fills.cut Fills.cutLeg Fills.wholeFill Fills.legQuotas Fills.orderRow Fills.cutOrders Fills.cutByLegs Fills.takeLegs Fills.legFill Fills.legTrade Fills.cancelEntry Fills.cancelOrder Passes.opposes Passes.limitWith Passes.bestOpposite Passes.groupOf Passes.within Passes.holding Passes.sizes Passes.give Passes.giveInTurn Passes.giveGroup Passes.giveShared Passes.meetLimit Passes.ready Passes.readyNet Passes.opposite Passes.legsFirst Passes.turnAt Passes.turnOf Passes.takeTurn Passes.pass Auctions.liveIn Auctions.putAuction Auctions.begin Auctions.close Auctions.starterSlot Auctions.answer Auctions.lapses Auctions.cancelLapsed Auctions.endUnfilled Auctions.starterPass Auctions.later Auctions.laterPass Auctions.endAuction Auctions.due Auctions.endDue Auctions.endHolding Auctions.dayOrder Auctions.legPass Auctions.legPassesIn Auctions.legPasses Auctions.ahead Auctions.bestSlot Auctions.crossed Auctions.matchOnce Auctions.matchAll Auctions.matchIn Events.live Events.liveOrder Events.keep Events.behind Events.enter Events.enterOrder Events.freeSlot Events.freeOrderSlot Events.restOrCancel Events.mayStart Events.starts Events.waits Events.trades Events.arrive Events.onOrder Events.sameSweep Events.oldSweep Events.enterSweep Events.onSweep Events.meetsOrder Events.aheadOrder Events.bestOrder Events.tradeOnce Events.tradeAll Events.ifRests Events.onLegOrder Events.cancelEntryOf Events.cancelOrderOf Events.cancelNumber Events.onClock Events.shut Events.reopen Events.onSeries Events.closeRunning Events.lowerNumber Events.lowestLive Events.cancelLowest Events.restart Events.onDayEnd Given.strategyGiven Given.orderGiven Given.sweepGiven Given.legOrderGiven Refusals.firstCause Refusals.undefined Refusals.illFormed Refusals.isOrderOf Refusals.isLegOrderOf Refusals.notFound Refusals.isStarter Refusals.unanswerable Refusals.removesNone Refusals.strategiesFull Refusals.isOrder Refusals.isSweep Refusals.isLegOrder Refusals.ordersFull Refusals.sweepsFull Refusals.legOrdersFull Refusals.noRoom Refusals.numbersOut Refusals.sweepNumbersOut Refusals.causes Refusals.readCauses Refusals.tableOf Refusals.refusal Step.valueOf Step.accept Step.refused Step.perform Step.refuseOrPerform Step.step Records.kindNumber Lookups.liveQuantity Lookups.shutLegs Lookups.depthOf Lookups.wellFormed Lookups.rowDepth Count.onesIn Count.trailingZeros
+unfolding
+    Pick.pick
+    Walks.sumN Walks.table Walks.allN Walks.walk Walks.anyN Walks.firstN Walks.joinN
+    Sets.has Sets.setN Sets.minus Sets.sizeOf Sets.lowestOf
+    Gcd.euclid Gcd.gcd
+    Fields.rawOf Fields.presentOf Fields.layout Fields.offset Fields.withinOf Fields.fitN
+    Kinds.kindOf Kinds.lengthOf
+    Rows.layoutIn Rows.fitting Rows.lengthIn
+    Table.layoutOf
+    Bodies.valueAt Bodies.valueBytes Bodies.rowN Bodies.bodyN
+    Frames.kindAt Frames.rowAt Frames.judgeOf Frames.readOf Frames.frameOf Frames.writtenOf Frames.spaceOf
+    Number.number Number.bytes
+    State.fresh State.withEntries State.withOrders State.withStrategies State.withOpened State.withClock
+    State.withLast
+    Moves.and-then Moves.each
+    Sides.other Sides.legSide Sides.meets Sides.better Sides.bestPrice
+    Quotas.inTurnAt Quotas.inTurn Quotas.portion Quotas.oneOf Quotas.holderAt Quotas.sharedAt Quotas.share
+    Nets.stands Nets.priceWith Nets.priceOf Nets.lot Nets.lots Nets.legPrice Nets.prices Nets.known Nets.weight
+    Nets.weighed Nets.netOf Nets.legNet Nets.legUnits Nets.unitsOf
+    Strategies.divisor Strategies.lowestTerms Strategies.placeOf Strategies.bySeries Strategies.padded
+    Strategies.seriesSet Strategies.defined Strategies.twice Strategies.overThreefold Strategies.sameLeg
+    Strategies.sameLegs Strategies.numberOf Strategies.added Strategies.define Strategies.shutSet
+    Fills.partyRecords Fills.cut Fills.cutLeg Fills.wholeFill Fills.legQuotas Fills.orderRow Fills.cutOrders
+    Fills.cutByLegs Fills.takeLegs Fills.legFill Fills.legTrade Fills.cancelEntry Fills.cancelOrder
+    Passes.opposes Passes.limitWith Passes.bestOpposite Passes.groupOf Passes.within Passes.holding Passes.sizes
+    Passes.give Passes.giveInTurn Passes.giveGroup Passes.giveShared Passes.meetLimit Passes.ready Passes.readyNet
+    Passes.opposite Passes.legsFirst Passes.turnAt Passes.turnOf Passes.takeTurn Passes.pass
+    Auctions.liveIn Auctions.putAuction Auctions.begin Auctions.close Auctions.starterSlot Auctions.answer
+    Auctions.lapses Auctions.cancelLapsed Auctions.endUnfilled Auctions.starterPass Auctions.later
+    Auctions.laterPass Auctions.endAuction Auctions.due Auctions.endDue Auctions.endHolding Auctions.dayOrder
+    Auctions.legPass Auctions.legPassesIn Auctions.legPasses Auctions.ahead Auctions.bestSlot Auctions.crossed
+    Auctions.matchOnce Auctions.matchAll Auctions.matchIn
+    Events.live Events.liveOrder Events.keep Events.behind Events.enter Events.enterOrder Events.freeSlot
+    Events.freeOrderSlot Events.restOrCancel Events.mayStart Events.starts Events.waits Events.trades
+    Events.arrive Events.onOrder Events.sameSweep Events.oldSweep Events.enterSweep Events.onSweep
+    Events.meetsOrder Events.aheadOrder Events.bestOrder Events.tradeOnce Events.tradeAll Events.ifRests
+    Events.onLegOrder Events.cancelEntryOf Events.cancelOrderOf Events.cancelNumber Events.onClock Events.shut
+    Events.reopen Events.onSeries Events.closeRunning Events.lowerNumber Events.lowestLive Events.cancelLowest
+    Events.restart Events.onDayEnd
+    Given.strategyGiven Given.orderGiven Given.sweepGiven Given.legOrderGiven
+    Refusals.firstCause Refusals.undefined Refusals.illFormed Refusals.isOrderOf Refusals.isLegOrderOf
+    Refusals.notFound Refusals.isStarter Refusals.unanswerable Refusals.removesNone Refusals.strategiesFull
+    Refusals.isOrder Refusals.isSweep Refusals.isLegOrder Refusals.ordersFull Refusals.sweepsFull
+    Refusals.legOrdersFull Refusals.noRoom Refusals.numbersOut Refusals.sweepNumbersOut Refusals.causes
+    Refusals.readCauses Refusals.tableOf Refusals.refusal
+    Step.valueOf Step.accept Step.refused Step.perform Step.refuseOrPerform Step.step
+    Records.kindNumber
+    Lookups.liveQuantity Lookups.shutLegs Lookups.depthOf Lookups.wellFormed Lookups.rowDepth
+    Count.onesIn Count.trailingZeros
 performed b e = Step.refuseOrPerform b (R.Event e) 15_360
 
 -- the state after a list of events

@@ -35,7 +35,7 @@ legRecordAt e legs q ps i = legRecord e q (slot ps i) (getD legs i noLeg) ∷ []
 unfoldable pub partyRecords : Entry → Strategy → ℕ → ℕ → List ℕ → List Record
 partyRecords e s q level ps = (wholeRecord e q level ∷ []) ++ joinN (legRecordAt e (s .legs) q ps) (s .count)
 
--- q units taken from an entry; q contracts from a leg order
+-- q units taken from an entry
 abbrev pub cutEntry : Entry → ℕ → Entry
 cutEntry e q = record { number = e .number; member = e .member; strategy = e .strategy; side = e .side; class = e .class; life = e .life; units = e .units - q; level = e .level }
 
@@ -65,11 +65,26 @@ wholeFill b a h level q =
       records = partyRecords (entryAt b a) s q level noPrices ++ partyRecords (entryAt b h) s q level noPrices;
     })
 
--- "leg orders at one price go by number": the quotas of a leg, for c contracts at a price
-unfoldable pub legQuotas : List LegOrder → ℕ → ℕ → ℕ → Leg → List ℕ
-legQuotas os side c price l = inTurn c (lots os (l .series) (other (legSide side l)) price)
+-- what a complex party takes on a leg: contracts of a series from leg orders of that side, at that price
+pub record LegTake : Type 0 where
+  pub series : ℕ
+  pub side : ℕ
+  pub contracts : ℕ
+  pub price : ℕ
 
--- a leg order's record of a fill, none of quantity 0
+-- .. a party of that side on leg l: "offers for buy legs, bids for sell legs", or the reverse
+abbrev pub legTake : ℕ → ℕ → ℕ → Leg → LegTake
+legTake side contracts price l = record { series = l .series; side = other (legSide side l); contracts = contracts; price = price }
+
+-- .. q units on the leg at place i: ratio × units
+abbrev pub takesAt : ℕ → ℕ → List Leg → List ℕ → ℕ → LegTake
+takesAt side q legs ps i = legTake side (getD legs i noLeg .ratio * q) (slot ps i) (getD legs i noLeg)
+
+-- "leg orders at one price go by number": what each of them gives
+unfoldable pub legQuotas : List LegOrder → LegTake → List ℕ
+legQuotas os t = inTurn (t .contracts) (lots os (t .series) (t .side) (t .price))
+
+-- a leg order's record of a fill
 abbrev pub orderRecord : LegOrder → ℕ → ℕ → Record
 orderRecord o q price = record { kind = LegOrderFill; number = o .number; place = o .series; side = o .side; quantity = q; level = zeroLevel + price }
 
@@ -89,29 +104,26 @@ cutAt os qs i = cutOrder (getD os i noOrder) (slot qs i)
 unfoldable pub cutOrders : List LegOrder → List ℕ → List LegOrder
 cutOrders os qs = table (cutAt os qs) tableRows
 
--- what q units of a complex party take, leg by leg, from the leg orders as they stood
-abbrev pub quotasAt : List LegOrder → ℕ → ℕ → List Leg → List ℕ → ℕ → List ℕ
-quotasAt os side q legs ps i = legQuotas os side (getD legs i noLeg .ratio * q) (slot ps i) (getD legs i noLeg)
+-- the leg orders' records of a leg, by number
+abbrev pub orderRecordsAt : List LegOrder → (ℕ → LegTake) → ℕ → List Record
+orderRecordsAt os takes i = joinN (orderRows os (legQuotas os (takes i)) (takes i .price)) tableRows
 
--- the leg orders' records of the leg at place i, by number
-abbrev pub orderRecords : List LegOrder → ℕ → ℕ → List Leg → List ℕ → ℕ → List Record
-orderRecords os side q legs ps i = joinN (orderRows os (quotasAt os side q legs ps i) (slot ps i)) tableRows
-
--- the leg orders after the leg at place i
-abbrev pub cutStep : List LegOrder → ℕ → ℕ → List Leg → List ℕ → ℕ → List LegOrder → List LegOrder
-cutStep os side q legs ps i rows = cutOrders rows (quotasAt os side q legs ps i)
+-- the leg orders after one more leg; the quotas are of the leg orders as they stood
+abbrev pub cutStep : List LegOrder → (ℕ → LegTake) → ℕ → List LegOrder → List LegOrder
+cutStep os takes i rows = cutOrders rows (legQuotas os (takes i))
 
 -- .. after each leg
-unfoldable pub cutByLegs : List LegOrder → ℕ → ℕ → List Leg → List ℕ → ℕ → List LegOrder
-cutByLegs os side q legs ps count = walk (cutStep os side q legs ps) os count
+unfoldable pub cutByLegs : List LegOrder → (ℕ → LegTake) → ℕ → List LegOrder
+cutByLegs os takes count = walk (cutStep os takes) os count
 
 -- entry a takes q units from the legs at these prices: its own records, then "leg orders: leg fills only"
 unfoldable pub takeLegs : State → ℕ → Strategy → List ℕ → ℕ → Moved
 takeLegs b a s ps q =
     let e : Entry = entryAt b a in
+    let takes : ℕ → LegTake = takesAt (e .side) q (s .legs) ps in
     record {
-      state = withOrders (cut b a q) (cutByLegs (b .orders) (e .side) q (s .legs) ps (s .count));
-      records = partyRecords e s q (netOf s ps) ps ++ joinN (orderRecords (b .orders) (e .side) q (s .legs) ps) (s .count);
+      state = withOrders (cut b a q) (cutByLegs (b .orders) takes (s .count));
+      records = partyRecords e s q (netOf s ps) ps ++ joinN (orderRecordsAt (b .orders) takes) (s .count);
     }
 
 -- WHOLE AGAINST LEGS: "units = the least of what remains and each best price's contracts divided by ratio, rounded down"

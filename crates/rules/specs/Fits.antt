@@ -1,4 +1,5 @@
--- The ranges of the values of an event that was read.
+-- The ranges that the book's functions ask of an event's values. A frame that reads as an event has them (proofs Ranges.reading-fit); they are
+-- wider than the table of fields where nothing rests on its lower end.
 use Prim.Native.Nat.{ℕ, _≤_, _<_}
 use lib.ListN.{getD}
 use Rattle.base.specs.All.{All}

@@ -20,7 +20,7 @@ use Rattle.rules.specs.Strategies.{shutSet}
 use Rattle.rules.specs.Nets.{priceOf, lots}
 use Rattle.rules.specs.Refusals.{undefined}
 
--- "Live quantity of a number (0 if none)."
+-- the units of the entry at slot i, if it has that number
 abbrev pub unitsOfNumber : State → ℕ → ℕ → ℕ
 unitsOfNumber b n i = pick (eqb (entryAt b i .number) n) (entryAt b i .units) 0
 
@@ -28,7 +28,7 @@ unitsOfNumber b n i = pick (eqb (entryAt b i .number) n) (entryAt b i .units) 0
 abbrev pub contractsOfNumber : State → ℕ → ℕ → ℕ
 contractsOfNumber b n i = pick (eqb (orderAt b i .number) n) (orderAt b i .contracts) 0
 
--- a number stands in one row at most
+-- "Live quantity of a number (0 if none).": it stands in one row at most
 unfoldable pub liveQuantity : State → ℕ → ℕ
 liveQuantity b n = sumN (unitsOfNumber b n) tableRows + sumN (contractsOfNumber b n) tableRows
 
@@ -42,7 +42,7 @@ depthOf os s side =
     let price : ℕ = priceOf os s side in
     pick (eqb price 0) D.Empty (D.Best price (sumN (slot (lots os s side price)) tableRows))
 
--- ".. read from the leg orders lent as a row of order entries"
+-- an empty order entry
 abbrev pub noOrderEntry : OrderEntry
 noOrderEntry = record { series = 0; side = 0; contracts = 0; price = 0 }
 

@@ -4,7 +4,7 @@ use mathlib.Core.List.{List}
 use Prim.Native.Nat.{ℕ, _+_, _-_, _*_, _/_, min}
 use lib.Dec.{eqb, ltb}
 use lib.ListN.{getD}
-use Rattle.base.specs.Pick.{pick}
+use Rattle.base.specs.Pick.{pick, both}
 use Rattle.base.specs.Walks.{sumN, slot, table, allN, walk}
 use Rattle.rules.specs.Sizes.{tableRows, zeroLevel}
 use Rattle.rules.specs.declared.Leg.{Leg}
@@ -16,9 +16,9 @@ use Rattle.rules.specs.Sides.{other, legSide, bestPrice}
 
 -- whether a leg order stands in that series and side
 unfoldable pub stands : ℕ → ℕ → LegOrder → Bool
-stands s side o = pick (eqb (o .contracts) 0) false (pick (eqb (o .series) s) (eqb (o .side) side) false)
+stands s side o = pick (eqb (o .contracts) 0) false (both (eqb (o .series) s) (eqb (o .side) side))
 
--- "best price" of a series and side, 0 where no order stands there
+-- the best price so far and a leg order's, where it stands in that series and side
 unfoldable pub priceWith : ℕ → ℕ → ℕ → LegOrder → ℕ
 priceWith s side p o = pick (stands s side o) (bestPrice side p (o .price)) p
 
@@ -26,11 +26,11 @@ priceWith s side p o = pick (stands s side o) (bestPrice side p (o .price)) p
 abbrev pub priceStep : List LegOrder → ℕ → ℕ → ℕ → ℕ → ℕ
 priceStep os s side i p = priceWith s side p (getD os i noOrder)
 
--- .. over the 32 slots
+-- "best price" of a series and side over the table, 0 where no order stands there
 unfoldable pub priceOf : List LegOrder → ℕ → ℕ → ℕ
 priceOf os s side = walk (priceStep os s side) 0 tableRows
 
--- what each leg order holds of a series and side at a price
+-- what a leg order holds of a series and side at a price
 unfoldable pub lot : ℕ → ℕ → ℕ → LegOrder → ℕ
 lot s side price o = pick (stands s side o) (pick (eqb (o .price) price) (o .contracts) 0) 0
 
@@ -54,11 +54,11 @@ priceAt os side legs i = legPrice os side (getD legs i noLeg)
 unfoldable pub prices : List LegOrder → ℕ → List Leg → List ℕ
 prices os side legs = table (priceAt os side legs) 6
 
--- "unknown if a price is missing"
+-- the leg at place i has a price
 abbrev pub pricedAt : List ℕ → ℕ → Bool
 pricedAt ps i = ltb 0 (slot ps i)
 
--- each of the count legs has a price
+-- "unknown if a price is missing": known where each of the count legs has one
 unfoldable pub known : List ℕ → ℕ → Bool
 known ps count = allN (pricedAt ps) count
 

@@ -4,7 +4,7 @@ use mathlib.Core.List.{List}
 use Prim.Native.Nat.{ℕ}
 use lib.Dec.{eqb}
 use lib.ListN.{getD}
-use Rattle.base.specs.Pick.{pick}
+use Rattle.base.specs.Pick.{pick, both, either}
 use Rattle.base.specs.Walks.{slot, table, walk}
 use Rattle.rules.specs.Sizes.{tableRows}
 use Rattle.rules.specs.declared.Strategy.{Strategy}
@@ -23,9 +23,9 @@ use Rattle.rules.specs.Fills.{wholeFill, legFill}
 
 -- an entry stands opposite another: live, of its strategy, of the other side
 unfoldable pub opposes : Entry → Entry → Bool
-opposes e f = pick (eqb (f .units) 0) false (pick (eqb (f .strategy) (e .strategy)) (eqb (f .side) (other (e .side))) false)
+opposes e f = pick (eqb (f .units) 0) false (both (eqb (f .strategy) (e .strategy)) (eqb (f .side) (other (e .side))))
 
--- "the best opposite limit in the strategy", 0 where none stands
+-- the best limit so far and that of f, where f stands opposite e
 unfoldable pub limitWith : Entry → ℕ → Entry → ℕ
 limitWith e x f = pick (opposes e f) (bestPrice (other (e .side)) x (f .level)) x
 
@@ -33,7 +33,7 @@ limitWith e x f = pick (opposes e f) (bestPrice (other (e .side)) x (f .level)) 
 abbrev pub limitStep : List Entry → Entry → ℕ → ℕ → ℕ
 limitStep es e i x = limitWith e x (getD es i noEntry)
 
--- .. over the 32 slots
+-- "the best opposite limit in the strategy" over the table, 0 where none stands
 unfoldable pub bestOpposite : List Entry → Entry → ℕ
 bestOpposite es e = walk (limitStep es e) 0 tableRows
 
@@ -43,9 +43,9 @@ groupOf f = pick (eqb (f .life) 4) 1 (pick (eqb (f .class) 3) 1 (pick (eqb (f .c
 
 -- group 3 is everyone
 unfoldable pub within : ℕ → Entry → Bool
-within g f = pick (eqb g 3) true (eqb (groupOf f) g)
+within g f = either (eqb g 3) (eqb (groupOf f) g)
 
--- what each entry holds against e at a limit, as one of a group
+-- what an entry holds against e at a limit, as one of a group
 unfoldable pub holding : Entry → ℕ → ℕ → Entry → ℕ
 holding e level g f = pick (opposes e f) (pick (eqb (f .level) level) (pick (within g f) (f .units) 0) 0) 0
 
@@ -57,11 +57,11 @@ sizeAt es e level g i = holding e level g (getD es i noEntry)
 unfoldable pub sizes : List Entry → Entry → ℕ → ℕ → List ℕ
 sizes es e level g = table (sizeAt es e level g) tableRows
 
--- "Each holder met is a fill of its own, by number within a group": the active entry meets slot i for its quota
+-- "Each holder met is a fill of its own": the active entry meets slot i for its quota
 abbrev pub giveAt : ℕ → ℕ → List ℕ → ℕ → State → Moved
 giveAt a level qs i b = wholeFill b a i level (slot qs i)
 
--- .. slot by slot, which is by number
+-- ".. by number within a group": slot by slot, which is by number
 unfoldable pub give : ℕ → ℕ → List ℕ → State → Moved
 give a level qs b = each (giveAt a level qs) tableRows b
 
@@ -105,7 +105,7 @@ opposite Numbered a b = bestOpposite (b .entries) (entryAt b a)
 
 -- "the leg net .. if the legs are ready and it is strictly better for the active order or no opposite limit stands"
 unfoldable pub legsFirst : ℕ → ℕ → ℕ → Bool
-legsFirst side net x = pick (eqb net 0) false (pick (eqb x 0) true (better side net x))
+legsFirst side net x = pick (eqb net 0) false (either (eqb x 0) (better side net x))
 
 -- "Stop when neither meets its limit": what an entry does at the best opposite limit x and the ready leg net
 unfoldable pub turnAt : Entry → ℕ → ℕ → Turn

@@ -3,7 +3,7 @@ use mathlib.Core.Bool.{Bool, true, false, not}
 use mathlib.Core.List.{List, [], _∷_}
 use Prim.Native.Nat.{ℕ}
 use lib.Dec.{eqb, ltb, leb}
-use Rattle.base.specs.Pick.{pick}
+use Rattle.base.specs.Pick.{pick, both, either}
 use Rattle.base.specs.Walks.{sumN, anyN}
 use Rattle.base.specs.Sets.{has}
 use Rattle.events.specs.declared.Event.{Event}
@@ -43,19 +43,19 @@ undefined b k = leb (b .defined) k
 
 -- 5: "series twice, or largest ratio over 3 × smallest"
 unfoldable pub illFormed : GivenStrategy → Bool
-illFormed e = pick (twice (legsGiven e) (e .count)) true (overThreefold (legsGiven e) (e .count))
+illFormed e = either (twice (legsGiven e) (e .count)) (overThreefold (legsGiven e) (e .count))
 
 -- 6: "series of a leg order not open"
 abbrev pub notOpen : State → ℕ → Bool
 notOpen b s = not (has (b .opened) s)
 
--- 7: "no live complex or leg order of that member and number"
+-- whether e is a live complex order of that member and number
 unfoldable pub isOrderOf : ℕ → ℕ → Entry → Bool
-isOrderOf m n e = pick (live e) (pick (eqb (e .life) 4) false (pick (eqb (e .member) m) (eqb (e .number) n) false)) false
+isOrderOf m n e = both (live e) (pick (eqb (e .life) 4) false (both (eqb (e .member) m) (eqb (e .number) n)))
 
 -- the same of a leg order
 unfoldable pub isLegOrderOf : ℕ → ℕ → LegOrder → Bool
-isLegOrderOf m n o = pick (liveOrder o) (pick (eqb (o .member) m) (eqb (o .number) n) false) false
+isLegOrderOf m n o = both (liveOrder o) (both (eqb (o .member) m) (eqb (o .number) n))
 
 -- .. of the entry at slot i
 abbrev pub orderAtIs : State → ℕ → ℕ → ℕ → Bool
@@ -65,31 +65,31 @@ orderAtIs b m n i = isOrderOf m n (entryAt b i)
 abbrev pub legOrderAtIs : State → ℕ → ℕ → ℕ → Bool
 legOrderAtIs b m n i = isLegOrderOf m n (orderAt b i)
 
--- neither table has it
+-- 7: "no live complex or leg order of that member and number": neither table has it
 unfoldable pub notFound : State → ℕ → ℕ → Bool
 notFound b m n = pick (anyN (orderAtIs b m n) tableRows) false (not (anyN (legOrderAtIs b m n) tableRows))
 
--- 8: "cancel of a running auction's starter"
+-- the order of that number started the auction of strategy k
 abbrev pub startedBy : State → ℕ → ℕ → Bool
 startedBy b n k = eqb (strategyAt b k .starter) n
 
--- .. of any of the 16 strategies
+-- 8: "cancel of a running auction's starter": of any of the strategies
 unfoldable pub isStarter : State → ℕ → Bool
 isStarter b n = anyN (startedBy b n) strategySlots
 
--- 9: "sweep or response, no auction in the strategy"
+-- 9: "sweep or response, no auction in the strategy": a response (a sweep has its own line below)
 unfoldable pub unanswerable : State → ℕ → ℕ → Bool
-unanswerable b life k = pick (eqb life 2) (not (running b k)) false
+unanswerable b life k = both (eqb life 2) (not (running b k))
 
--- 10: "sweep of 0 units with none to remove"
+-- the sweep replaces one
 abbrev pub replaces : State → GivenSweep → Bool
 replaces b e = ltb (oldSweep b (sweepGiven b e)) tableRows
 
--- .. 0 units, and none to remove
+-- 10: "sweep of 0 units with none to remove"
 unfoldable pub removesNone : State → GivenSweep → Bool
-removesNone b e = pick (eqb (e .units) 0) (not (replaces b e)) false
+removesNone b e = both (eqb (e .units) 0) (not (replaces b e))
 
--- 12: "the table needed is full": 16 strategies, 16 complex orders, 16 sweeps, 32 leg orders
+-- 12: "the table needed is full": a strategy that is not held needs a slot
 unfoldable pub strategiesFull : State → GivenStrategy → Bool
 strategiesFull b e = pick (held b (strategyGiven e)) false (leb strategySlots (b .defined))
 
@@ -117,19 +117,19 @@ isSweepAt b i = isSweep (entryAt b i)
 abbrev pub isLegOrderAt : State → ℕ → ℕ
 isLegOrderAt b i = isLegOrder (orderAt b i)
 
--- 16 complex orders
+-- 12 of a complex order: as many are live as there are slots
 unfoldable pub ordersFull : State → Bool
 ordersFull b = leb orderSlots (sumN (isOrderAt b) tableRows)
 
--- 16 sweeps
+-- as many sweeps are live as there are slots
 unfoldable pub sweepsFull : State → Bool
 sweepsFull b = leb sweepSlots (sumN (isSweepAt b) tableRows)
 
--- 32 leg orders
+-- 12 of a leg order
 unfoldable pub legOrdersFull : State → Bool
 legOrdersFull b = leb legOrderSlots (sumN (isLegOrderAt b) tableRows)
 
--- ".. a sweep that replaces one takes its slot", and one of 0 units needs none
+-- 12 of a sweep: "a sweep that replaces one takes its slot", and one of 0 units needs none
 unfoldable pub noRoom : State → GivenSweep → Bool
 noRoom b e = pick (eqb (e .units) 0) false (pick (replaces b e) false (sweepsFull b))
 

@@ -17,10 +17,12 @@ legSide side l = pick (eqb side 0) (l .side) (other (l .side))
 unfoldable pub meets : ℕ → ℕ → ℕ → Bool
 meets side limit price = pick (eqb side 0) (leb price limit) (leb limit price)
 
--- whether price x is strictly better than y for that side, which pays or takes it
+-- FOR THE ONE WHO TRADES: whether price x is strictly better than y for a party of that side that pays or takes it: the lower for a buy,
+-- the higher for a sell
 unfoldable pub better : ℕ → ℕ → ℕ → Bool
 better side x y = pick (eqb side 0) (ltb x y) (ltb y x)
 
--- the better of a best price of that side (0: none yet) and one more: the higher bid, the lower offer
+-- IN A BOOK: the best price of the orders of that side (0: none yet) and one more: the higher bid, the lower offer. It is the price that is
+-- worse for that side's own party, since it is the better one for whoever trades against it
 unfoldable pub bestPrice : ℕ → ℕ → ℕ → ℕ
 bestPrice side p q = pick (eqb p 0) q (pick (better side p q) q p)

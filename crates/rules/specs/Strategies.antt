@@ -4,7 +4,7 @@ use mathlib.Core.List.{List, [], _∷_, _++_}
 use Prim.Native.Nat.{ℕ, _+_, _*_, _/_, min, max}
 use lib.Dec.{eqb, ltb}
 use lib.ListN.{getD, set, take, replicate}
-use Rattle.base.specs.Pick.{pick}
+use Rattle.base.specs.Pick.{pick, both}
 use Rattle.base.specs.Walks.{table, walk, allN, anyN, firstN, joinN}
 use Rattle.base.specs.Sets.{has, setN, minus, sizeOf}
 use Rattle.base.specs.Gcd.{gcd}
@@ -13,7 +13,7 @@ use Rattle.rules.specs.declared.Strategy.{Strategy}
 use Rattle.rules.specs.declared.State.{State}
 use Rattle.rules.specs.State.{noLeg, strategyAt, legAt, withStrategies}
 
--- a definition's legs: six rows, the first count in use
+-- the ratio of the leg at place i; a definition has six rows of legs, the first count in use
 abbrev pub ratioOf : List Leg → ℕ → ℕ
 ratioOf legs i = getD legs i noLeg .ratio
 
@@ -21,11 +21,11 @@ ratioOf legs i = getD legs i noLeg .ratio
 abbrev pub seriesOf : List Leg → ℕ → ℕ
 seriesOf legs i = getD legs i noLeg .series
 
--- "Ratios are divided by their greatest common divisor, found by Euclid's step calling itself"
+-- the divisor so far and the ratio of the leg at place i
 abbrev pub divisorStep : List Leg → ℕ → ℕ → ℕ
 divisorStep legs i d = gcd (ratioOf legs i) d
 
--- .. over the count legs
+-- "their greatest common divisor, found by Euclid's step calling itself": of the ratios of the count legs
 unfoldable pub divisor : List Leg → ℕ → ℕ
 divisor legs count = walk (divisorStep legs) 0 count
 
@@ -33,11 +33,11 @@ divisor legs count = walk (divisorStep legs) 0 count
 abbrev pub dividedAt : List Leg → ℕ → ℕ → Leg
 dividedAt legs d i = record { series = seriesOf legs i; side = getD legs i noLeg .side; ratio = ratioOf legs i / d }
 
--- .. all six rows
+-- "Ratios are divided by their greatest common divisor": all six rows
 unfoldable pub lowestTerms : List Leg → ℕ → List Leg
 lowestTerms legs count = table (dividedAt legs (divisor legs count)) 6
 
--- "Legs stand by rising series": those of series 0, of series 1, and on
+-- whether the leg at place i is in series s
 abbrev pub inSeries : List Leg → ℕ → ℕ → Bool
 inSeries legs s i = eqb (seriesOf legs i) s
 
@@ -53,7 +53,7 @@ present legs count s = ltb (placeOf legs count s) count
 abbrev pub legsOf : List Leg → ℕ → ℕ → List Leg
 legsOf legs count s = pick (present legs count s) (getD legs (placeOf legs count s) noLeg ∷ []) []
 
--- .. for the series 0 to 31
+-- "Legs stand by rising series": the leg in series 0, if there is one, then that in series 1, and on to 31
 unfoldable pub bySeries : List Leg → ℕ → List Leg
 bySeries legs count = joinN (legsOf legs count) 32
 
@@ -76,11 +76,11 @@ defined legs count = record {
   answered = false;
 }
 
--- "series twice, or largest ratio over 3 × smallest"
+-- whether the series of the leg at place i is that of a leg before it
 abbrev pub repeats : List Leg → ℕ → Bool
 repeats legs i = ltb (firstN (inSeries legs (seriesOf legs i)) i) i
 
--- .. for any of the count legs
+-- "series twice": any of the count legs repeats one
 unfoldable pub twice : List Leg → ℕ → Bool
 twice legs count = anyN (repeats legs) count
 
@@ -96,23 +96,23 @@ smallestStep legs i m = min (ratioOf legs i) m
 unfoldable pub overThreefold : List Leg → ℕ → Bool
 overThreefold legs count = ltb (3 * walk (smallestStep legs) 12 count) (walk (largestStep legs) 0 count)
 
--- "The comparison with a held strategy leaves at the first leg that differs"
+-- two legs are equal: series, side and ratio
 unfoldable pub sameLeg : Leg → Leg → Bool
-sameLeg x y = pick (eqb (x .series) (y .series)) (pick (eqb (x .side) (y .side)) (eqb (x .ratio) (y .ratio)) false) false
+sameLeg x y = both (eqb (x .series) (y .series)) (both (eqb (x .side) (y .side)) (eqb (x .ratio) (y .ratio)))
 
 -- .. the legs at place i
 abbrev pub sameLegAt : Strategy → Strategy → ℕ → Bool
 sameLegAt s t i = sameLeg (legAt s i) (legAt t i)
 
--- .. all six rows
+-- "The comparison with a held strategy leaves at the first leg that differs": none of the six rows does
 unfoldable pub sameLegs : Strategy → Strategy → Bool
 sameLegs s t = allN (sameLegAt s t) 6
 
--- "an equal one answers its old number and takes no slot, else the next number from 0"
+-- strategy k has the legs of s
 abbrev pub sameAt : State → Strategy → ℕ → Bool
 sameAt b s k = sameLegs (strategyAt b k) s
 
--- the number of the first equal one, else the next
+-- "an equal one answers its old number .., else the next number from 0"
 unfoldable pub numberOf : State → Strategy → ℕ
 numberOf b s = firstN (sameAt b s) (b .defined)
 
@@ -124,11 +124,11 @@ held b s = ltb (numberOf b s) (b .defined)
 unfoldable pub added : Strategy → State → State
 added s b = withStrategies b (set (b .strategies) (b .defined) s) (b .defined + 1)
 
--- the state with the strategy among those held
+-- ".. takes no slot": the state with the strategy among those held
 unfoldable pub define : Strategy → State → State
 define s b = pick (held b s) b (added s b)
 
--- the shut legs of a strategy, whether all are open, and whether it holds a series
+-- the shut legs of strategy k, as a set
 unfoldable pub shutSet : State → ℕ → ℕ
 shutSet b k = minus (strategyAt b k .series) (b .opened)
 

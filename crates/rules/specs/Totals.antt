@@ -242,5 +242,7 @@ pub record Totals (log : List Logged) (end : State) : Type 0 where
       l .kind ≡ 1 → l .number ≡ w .number → NotWorse w l
   pub price : (w : Terms) → Came (leg w) log → (l : Line) → List·Memᴰ l (linesOf log) →
       l .kind ≡ 2 → l .number ≡ w .number → NotWorse w l
+  -- a leg order has no record 1, so its fills are its records 2
+  pub whole : (w : Terms) → Came (leg w) log → (l : Line) → List·Memᴰ l (linesOf log) → l .kind ≡ 1 → l .number ≡ w .number → ⊥
   -- cash paid is cash received
   pub paid : cash log 0 (linesOf log) ≡ cash log 1 (linesOf log)

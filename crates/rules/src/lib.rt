@@ -55,7 +55,7 @@ pub struct State {
 }
 
 // The sizes of the tables, and the numbers of a record space. Complex orders and sweeps stand in one table; a list of sizes
-// or quotas has a number for each row of a table.
+// or quotas has a number for each row of a table; at most all rows of both tables are live.
 impl State {
     pub const STRATEGIES: usize = 16;
 
@@ -66,6 +66,8 @@ impl State {
     pub const LEG_ORDERS: usize = 32;
 
     pub const ROWS: usize = State::ORDERS + State::SWEEPS;
+
+    pub const LIVE: usize = State::ROWS + State::LEG_ORDERS;
 
     pub const RECORD_SPACE: usize = 15360;
 }

@@ -1,0 +1,57 @@
+-- The totals are no empty talk: the worked example of `tape`, as the frames that are sent, brings in two leg orders and a complex order, and
+-- cash moves.
+use mathlib.Core.Path.{_≡_, refl}
+use mathlib.Core.List.{List, [], _∷_, map}
+use Prim.Native.Nat.{ℕ}
+use lib.IntN.{pos}
+use Rattle.rules.specs.State
+use Rattle.rules.specs.Records
+use Rattle.rules.specs.Lookups
+use Rattle.rules.specs.Totals
+use Rattle.rules.specs.Examples
+
+-- a frame, with the record space that document 01 lends
+abbrev sent : List ℕ → Totals.Sent
+sent f = record { frame = f; space = 15_360 }
+
+-- "Opens of 0 and 1; strategy 0 buy 1, 1 sell 1; member 7 sells 5 of 0 at 300, buys 5 of 1 at 100; member 9, market maker, buys 2 immediate at
+-- 200"
+abbrev pub frames : List Totals.Sent
+frames =
+    sent (6 ∷ (0 ∷ (6 ∷ (0 ∷ (0 ∷ (1 ∷ []))))))
+    ∷ (sent (6 ∷ (0 ∷ (6 ∷ (0 ∷ (1 ∷ (1 ∷ []))))))
+    ∷ (sent (11 ∷ (0 ∷ (1 ∷ (0 ∷ (2 ∷ (0 ∷ (0 ∷ (1 ∷ (1 ∷ (1 ∷ (1 ∷ [])))))))))))
+    ∷ (sent (14 ∷ (0 ∷ (4 ∷ (0 ∷ (7 ∷ (0 ∷ (0 ∷ (1 ∷ (5 ∷ (0 ∷ (44 ∷ (1 ∷ (0 ∷ (0 ∷ []))))))))))))))
+    ∷ (sent (14 ∷ (0 ∷ (4 ∷ (0 ∷ (7 ∷ (0 ∷ (1 ∷ (0 ∷ (5 ∷ (0 ∷ (100 ∷ (0 ∷ (0 ∷ (0 ∷ []))))))))))))))
+    ∷ (sent (16 ∷ (0 ∷ (2 ∷ (0 ∷ (9 ∷ (0 ∷ (0 ∷ (0 ∷ (3 ∷ (1 ∷ (2 ∷ (0 ∷ (200 ∷ (0 ∷ (0 ∷ (0 ∷ []))))))))))))))))
+    ∷ [])))))
+
+-- what is logged of them
+abbrev pub day : List Totals.Logged
+day = Totals.run State.first frames
+
+-- what each event brought in
+pub sample-came : map Totals.brought day
+    ≡ Totals.nothing
+    ∷ (Totals.nothing
+    ∷ (Totals.nothing
+    ∷ (Totals.leg (record { number = 1; quantity = 5; side = 1; limit = pos 300 })
+    ∷ (Totals.leg (record { number = 2; quantity = 5; side = 0; limit = pos 100 })
+    ∷ (Totals.complex (record { number = 3; quantity = 2; side = 0; limit = pos 200 }) 0 ∷ [])))))
+unfolding Examples.performed Records.lineOf Records.cents Totals.outcome Totals.run Totals.enters Totals.entersRead Totals.brought
+sample-came = refl
+
+-- the totals of the day that are not 0: 2 units filled of number 3, 2 contracts of series 0 bought, 6.00 paid and received; 3 contracts of
+-- each leg order are live
+pub record Moves : Type 0 where
+  pub filled : Totals.wholeFilled 3 (Totals.linesOf day) ≡ 2
+  pub bought : Totals.bought 0 (Totals.linesOf day) ≡ 2
+  pub paid : Totals.cash day 0 (Totals.linesOf day) ≡ pos 600
+  pub received : Totals.cash day 1 (Totals.linesOf day) ≡ pos 600
+  pub live : Lookups.liveQuantity (Totals.after State.first frames) 1 ≡ 3
+
+pub sample-moves : Moves
+unfolding
+    Examples.performed Records.lineOf Records.cents Totals.outcome Totals.run Totals.after Totals.linesOf Totals.total Totals.wholeFilled
+    Totals.bought Totals.cash Totals.isFill Totals.isLegNumber Totals.enters Totals.entersRead Totals.brought
+sample-moves = record { filled = refl; bought = refl; paid = refl; received = refl; live = refl }
