@@ -7,8 +7,9 @@ use native.Mathlib.Omega.{arith}
 use borrow.Author.Tests.{eqb-true, eqb-false, eq-eqb, ne-eqb, ltb-false}
 use lib.Dec.{eqb, ltb}
 use lib.IntN.{ℤ}
-use lib.ListN.{length, drop}
-use lib.Seq.{sets, sets-eq}
+use lib.ListN.{length, take, drop}
+use lib.Seq.{sets-eq, take-at}
+use Rattle.base.specs.All.{All, all-nil, all-cons}
 use Rattle.base.specs.Pick.{pick, pick-true, pick-false}
 use Rattle.base.specs.Walks.{clash}
 use Rattle.events.specs.declared.Reading.{Reading}
@@ -34,15 +35,15 @@ use Rattle.records.specs.Space.{laid, numbers, length-numbers, wrote-nil}
 use Rattle.book.specs.declared.Book.{Book}
 use Rattle.book.specs.declared.Taken.{Taken}
 use Rattle.book.specs.Books.{First, Stepped}
-use Rattle.book.specs.Calls.{Call, Calls, no-call, a-call, linesIn, seen, Answers, Exact, TotalsHold}
+use Rattle.book.specs.Calls.{Call, Calls, no-call, a-call, linesIn, numbersIn, ReadWhole, seen, Answers, Exact, TotalsHold}
 
 -- THE ANSWER, by the number of the outcome.
 
-answer-none : (o : Outcome) → o .answer ≡ 0 → answerOf o ≡ A.Accepted (o .value) (length (o .moved .records))
+pub answer-none : (o : Outcome) → o .answer ≡ 0 → answerOf o ≡ A.Accepted (o .value) (length (o .moved .records))
 unfolding answerOf
 answer-none o z = pick-true _ _ _ (eq-eqb _ 0 z)
 
-answer-some : (o : Outcome) → (o .answer ≡ 0 → ⊥) → answerOf o ≡ A.Refused (o .answer)
+pub answer-some : (o : Outcome) → (o .answer ≡ 0 → ⊥) → answerOf o ≡ A.Refused (o .answer)
 unfolding answerOf
 answer-some o z = pick-false _ _ _ (ne-eqb _ 0 z)
 
@@ -50,30 +51,19 @@ isRefused : Answer → Bool
 isRefused (A.Accepted v n) = false
 isRefused (A.Refused n) = true
 
-numbered : (o : Outcome) → answerNumber (answerOf o) ≡ o .answer
-unfolding answerNumber
-numbered o = go (eqb (o .answer) 0) refl
-  where
-    go : (t : Bool) → eqb (o .answer) 0 ≡ t → answerNumber (answerOf o) ≡ o .answer
-    go true t = ap answerNumber (answer-none o (eqb-true _ _ t)) ∙ sym (eqb-true _ _ t)
-    go false t = ap answerNumber (answer-some o (eqb-false _ _ t))
-
 -- DEMAND 1
 
 module _ (b : State) (frame : List ℕ) (s t : List ℤ) (x : Taken) (w : Stepped b frame s t x) where
   abbrev came : Outcome
   came = step b frame (length s)
 
-  number-is : came .answer ≡ answerNumber (x .answer)
-  number-is = rw (w .answer) (sym (numbered came))
-
   none-given : (value count : ℕ) → x .answer ≡ A.Accepted value count → came .answer ≡ 0
   unfolding answerNumber
-  none-given value count g = number-is ∙ ap answerNumber g
+  none-given value count g = sym (w .number) ∙ ap answerNumber g
 
   some-given : (n : ℕ) → x .answer ≡ A.Refused n → (came .answer ≡ n) × (came .answer ≡ 0 → ⊥)
   unfolding answerNumber isRefused
-  some-given n g = (number-is ∙ ap answerNumber g, λ z. clash (ap isRefused (sym (w .answer) ∙ g)) (ap isRefused (answer-none came z)))
+  some-given n g = (sym (w .number) ∙ ap answerNumber g, λ z. clash (ap isRefused (sym (w .answer) ∙ g)) (ap isRefused (answer-none came z)))
 
   left-alone : came .moved ≡ still b → (x .book .state ≡ b) × (t ≡ s)
   left-alone m = (w .state ∙ ap (λ (y : Moved). y .state) m, w .space ∙ (ap (λ (y : Moved). laid s 0 (y .records)) m ∙ sym (wrote-nil s 0 .space)))
@@ -108,11 +98,22 @@ unfolding linesIn numbers numbersOf lineOf
 back [] rest = refl
 back (r ∷ rs) rest = ap (λ (ls : List Line). lineOf r ∷ ls) (back rs rest)
 
-lines-back : (s : List ℤ) (rs : List Record) → length rs * 6 ≤ length s → linesIn (length rs) (laid s 0 rs) ≡ map lineOf rs
+-- a space that holds the records: what is laid, and the rest
+laid-first : (s : List ℤ) (rs : List Record) → length rs * 6 ≤ length s → laid s 0 rs ≡ numbers rs ++ drop (0 + length (numbers rs)) s
 unfolding laid
-lines-back s rs h =
-    let e : sets s (0 * 6) (numbers rs) ≡ numbers rs ++ drop (0 + length (numbers rs)) s = sets-eq (numbers rs) s 0 (omega (arith, length-numbers rs)) in
-    ap (linesIn (length rs)) e ∙ back rs (drop (0 + length (numbers rs)) s)
+laid-first s rs h = sets-eq (numbers rs) s 0 (omega (arith, length-numbers rs))
+
+lines-back : (s : List ℤ) (rs : List Record) → length rs * 6 ≤ length s → linesIn (length rs) (laid s 0 rs) ≡ map lineOf rs
+lines-back s rs h = ap (linesIn (length rs)) (laid-first s rs h) ∙ back rs (drop (0 + length (numbers rs)) s)
+
+-- .. and every number of them
+numbers-lines : (rs : List Record) → numbersIn (map lineOf rs) ≡ numbers rs
+unfolding numbersIn numbers
+numbers-lines [] = refl
+numbers-lines (r ∷ rs) = ap (λ (zs : List ℤ). numbersOf (lineOf r) ++ zs) (numbers-lines rs)
+
+numbers-laid : (s : List ℤ) (rs : List Record) → length rs * 6 ≤ length s → take (length rs * 6) (laid s 0 rs) ≡ numbers rs
+numbers-laid s rs h = ap (take (length rs * 6)) (laid-first s rs h) ∙ take-at (numbers rs) (drop (0 + length (numbers rs)) s) (length rs * 6) (length-numbers rs)
 
 -- no cause applies of the space's length: it is long enough
 long-space : (b : State) (r : Reading) (n : ℕ) → applies (tableOf b r n) 1 ≡ false → 15_360 ≤ n
@@ -124,64 +125,64 @@ long-space b r n h = go (ltb n 15_360) refl h
     go false e h = ltb-false _ _ e
 
 -- a refused event has value 0 and no record
-quiet : (b : State) (x : Sent) → (outcome b x .answer ≡ 0 → ⊥) → (outcome b x .value ≡ 0) × (outcome b x .moved .records ≡ [])
-unfolding refused
-quiet b x h = go (went b x)
+pub quiet : (b : State) (frame : List ℕ) (space : ℕ) → (step b frame space .answer ≡ 0 → ⊥) → (step b frame space .value ≡ 0) × (step b frame space .moved .records ≡ [])
+unfolding refused outcome
+quiet b frame space h = go (went b (record { frame = frame; space = space }))
   where
-    go : Went b x → (outcome b x .value ≡ 0) × (outcome b x .moved .records ≡ [])
+    go : Went b (record { frame = frame; space = space }) → (step b frame space .value ≡ 0) × (step b frame space .moved .records ≡ [])
     go (refusedAs n z e) = rw e (refl, refl)
     go (acceptedAs v p c e) = absurd (h (ap (λ (o : Outcome). o .answer) e))
 
--- what the caller sees of a call is what the rules log of it
+-- the records fit the space
+fits : (b : State) → Valid b → (frame : List ℕ) (n : ℕ) → length (step b frame n .moved .records) * 6 ≤ n
+fits b v frame n = go (eqb (step b frame n .answer) 0) refl
+  where
+    go : (u : Bool) → eqb (step b frame n .answer) 0 ≡ u → length (step b frame n .moved .records) * 6 ≤ n
+    go true u = omega (arith, room b (v .sound) frame n, long-space b (readOf frame) n (refusals-exact b frame n .none (eqb-true _ _ u) 1))
+    go false u = rw (quiet b frame n (eqb-false _ _ u) .1) (omega arith)
+
+-- what the caller sees of a call is what the rules log of it, and every number of its records
 module _ (b : State) (v : Valid b) (frame : List ℕ) (s t : List ℤ) (x : Taken) (w : Stepped b frame s t x) where
-  abbrev outcome-is : Outcome
-  outcome-is = step b frame (length s)
+  abbrev rs : List Record
+  rs = step b frame (length s) .moved .records
 
-  quiet-is : (outcome-is .answer ≡ 0 → ⊥) → (outcome-is .value ≡ 0) × (outcome-is .moved .records ≡ [])
-  unfolding outcome
-  quiet-is h = quiet b (record { frame = frame; space = length s }) h
+  lines-are : linesIn (answerCount (x .answer)) t ≡ map lineOf rs
+  lines-are = rw (w .count, w .space) (lines-back s rs (fits b v frame (length s)))
 
-  value-is : answerValue (x .answer) ≡ outcome-is .value
-  unfolding answerValue
-  value-is = go (eqb (outcome-is .answer) 0) refl
-    where
-      go : (u : Bool) → eqb (outcome-is .answer) 0 ≡ u → answerValue (x .answer) ≡ outcome-is .value
-      go true u = ap answerValue (w .answer ∙ answer-none outcome-is (eqb-true _ _ u))
-      go false u = ap answerValue (w .answer ∙ answer-some outcome-is (eqb-false _ _ u)) ∙ sym (quiet-is (eqb-false _ _ u) .0)
-
-  lines-are : linesIn (answerCount (x .answer)) t ≡ map lineOf (outcome-is .moved .records)
-  unfolding answerCount linesIn
-  lines-are = go (eqb (outcome-is .answer) 0) refl
-    where
-      go : (u : Bool) → eqb (outcome-is .answer) 0 ≡ u → linesIn (answerCount (x .answer)) t ≡ map lineOf (outcome-is .moved .records)
-      go true u =
-          let z : outcome-is .answer ≡ 0 = eqb-true _ _ u in
-          let n : answerCount (x .answer) ≡ length (outcome-is .moved .records) = ap answerCount (w .answer ∙ answer-none outcome-is z) in
-          let l : 15_360 ≤ length s = long-space b (readOf frame) (length s) (refusals-exact b frame (length s) .none z 1) in
-          rw (n, w .space) (lines-back s (outcome-is .moved .records) (omega (arith, room b (v .sound) frame (length s))))
-      go false u =
-          let n : answerCount (x .answer) ≡ 0 = ap answerCount (w .answer ∙ answer-some outcome-is (eqb-false _ _ u)) in
-          rw (n, quiet-is (eqb-false _ _ u) .1)
+  whole-is : ReadWhole (record { frame = frame; space = s; left = t; answer = x .answer })
+  whole-is = ap numbersIn lines-are ∙ numbers-lines rs ∙ sym (rw (w .count, w .space) (numbers-laid s rs (fits b v frame (length s))))
 
   seen-is : seen (record { frame = frame; space = s; left = t; answer = x .answer }) ≡ logOf (record { frame = frame; space = length s }) (step b frame (length s))
-  seen-is = rw (← number-is b frame s t x w, value-is, lines-are)
+  seen-is = rw (w .number, w .value, lines-are)
 
 -- the list of calls is the rules' run
 abbrev sentOf : Call → Sent
 sentOf c = record { frame = c .frame; space = length (c .space) }
 
-follows : {b : Book} {cs : List Call} {end : Book} → Valid (b .state) → Calls b cs end → (map seen cs ≡ run (b .state) (map sentOf cs)) × (end .state ≡ after (b .state) (map sentOf cs))
+record Follows (b : Book) (cs : List Call) (end : Book) : Type 0 where
+  log : map seen cs ≡ run (b .state) (map sentOf cs)
+  left : end .state ≡ after (b .state) (map sentOf cs)
+  whole : All ReadWhole cs
+
+follows : {b : Book} {cs : List Call} {end : Book} → Valid (b .state) → Calls b cs end → Follows b cs end
 unfolding run after outcome
-follows v (no-call b) = (refl, refl)
+follows v (no-call b) = record { log = refl; left = refl; whole = all-nil }
 follows v (a-call b frame s t x w cs end r) =
-    let h = rw (w .state) at (follows (w .valid) r) in
-    (rw (seen-is (b .state) v frame s t x w, h .0), h .1)
+    let h : Follows (x .book) cs end = follows (w .valid) r in
+    record {
+      log = rw (seen-is (b .state) v frame s t x w, h .log, w .state);
+      left = rw (← w .state) (h .left);
+      whole = all-cons (whole-is (b .state) v frame s t x w) (h .whole);
+    }
 
 -- every list of calls from a fresh book
 pub totals-after-calls : (timer : ℕ) → 1 ≤ timer → timer ≤ 5000 → (b : Book) → b .state ≡ fresh timer → (cs : List Call) (end : Book) → Calls b cs end → TotalsHold cs end
-totals-after-calls timer low high b g cs end r day =
-    let h = rw g at (follows (rw g (valid-fresh timer low high)) r) in
-    rw (h .0, h .1) (totals timer low high (map sentOf cs) (rw (h .0) at day))
+totals-after-calls timer low high b g cs end r =
+    let h : Follows b cs end = follows (rw g (valid-fresh timer low high)) r in
+    record {
+      whole = h .whole;
+      totals = λ day. rw (h .log, h .left, g) (totals timer low high (map sentOf cs) (rw (h .log, g) at day));
+    }
 
 -- .. from the first book, which the constructor gives
 pub totals-after-first : (b : Book) → First b → (cs : List Call) (end : Book) → Calls b cs end → TotalsHold cs end

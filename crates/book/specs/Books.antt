@@ -9,7 +9,7 @@ use Rattle.events.specs.declared.Reading.the-variants as R
 use Rattle.rules.specs.Sizes.{recordsLent}
 use Rattle.rules.specs.State.{first}
 use Rattle.rules.specs.declared.State.{State}
-use Rattle.rules.specs.Step.{Outcome, refuseOrPerform, step, answerOf, answerCount}
+use Rattle.rules.specs.Step.{Outcome, refuseOrPerform, step, answerOf, answerNumber, answerValue, answerCount}
 use Rattle.rules.specs.Valid.{Valid}
 use Rattle.records.specs.Space.{laid}
 use Rattle.book.specs.declared.Book.{Book}
@@ -24,6 +24,10 @@ pub record First (b : Book) : Type 0 where
 -- A book is valid again, and a space of 15,360 numbers holds the records.
 pub record Handed (o : Outcome) (s t : List ℤ) (x : Taken) : Type 0 where
   pub answer : x .answer ≡ answerOf o
+  -- by the paper's number, value and count of an answer
+  pub number : answerNumber (x .answer) ≡ o .answer
+  pub value : answerValue (x .answer) ≡ o .value
+  pub count : answerCount (x .answer) ≡ length (o .moved .records)
   pub state : x .book .state ≡ o .moved .state
   pub space : t ≡ laid s 0 (o .moved .records)
   pub valid : Valid (x .book .state)

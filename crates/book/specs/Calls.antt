@@ -2,10 +2,11 @@
 use mathlib.Core.Path.{_≡_}
 use mathlib.Core.Bool.{true, false}
 use mathlib.Core.List.{List, [], _∷_, _++_, map}
-use Prim.Native.Nat.{ℕ, zero, suc, _≤_, _<_}
+use Prim.Native.Nat.{ℕ, zero, suc, _*_, _≤_, _<_}
 use lib.IntN.{ℤ, pos}
 use lib.Signed.{mag}
 use lib.ListN.{length, getD, take, drop}
+use Rattle.base.specs.All.{All}
 use Rattle.events.specs.declared.Event.{Event}
 use Rattle.events.specs.declared.Reading.the-variants as R
 use Rattle.frames.specs.Number.{Bytes}
@@ -16,7 +17,7 @@ use Rattle.rules.specs.declared.Answer.{Answer}
 use Rattle.rules.specs.declared.Answer.the-variants as A
 use Rattle.rules.specs.Refusals.{applies, tableOf}
 use Rattle.rules.specs.Step.{step, answerOf, answerNumber, answerValue, answerCount}
-use Rattle.rules.specs.Records.{Line}
+use Rattle.rules.specs.Records.{Line, numbersOf}
 use Rattle.rules.specs.Totals.{Logged, OneDay, Totals}
 use Rattle.records.specs.Space.{laid}
 use Rattle.book.specs.declared.Book.{Book}
@@ -52,6 +53,15 @@ unfoldable pub linesIn : ℕ → List ℤ → List Line
 linesIn zero t = []
 linesIn (suc n) t = lineIn t ∷ linesIn n (drop 6 t)
 
+-- the numbers that lines stand for, six each
+unfoldable pub numbersIn : List Line → List ℤ
+numbersIn [] = []
+numbersIn (l ∷ ls) = numbersOf l ++ numbersIn ls
+
+-- every number of a call's records, as it stands in the space, is the number that was read: none has another sign
+abbrev pub ReadWhole : Call → Type 0
+ReadWhole c = numbersIn (linesIn (answerCount (c .answer)) (c .left)) ≡ take (answerCount (c .answer) * 6) (c .left)
+
 -- what the caller sees of a call: the event that he sent, the answer, its value, and the records in his space
 abbrev pub seen : Call → Logged
 seen c = record {
@@ -71,8 +81,8 @@ pub record Answers (b : State) (frame : List ℕ) (s t : List ℤ) (x : Taken) :
       × (x .book .state ≡ b)
       × (t ≡ s)
 
--- DEMAND 2, of a call: the answer, the book and each number of the space are those that the rules give; and of the codec: "Write-then-read
--- gives the event again, and each frame that reads as an event is the frame written for it", byte for byte.
+-- DEMAND 2, of a call: the answer, the book and each number of the space are those that the rules give; and of the codec, in the demand's
+-- words: "Write-then-read gives the event again, and each frame that reads as an event is the frame written for it", byte for byte.
 pub record Exact (b : State) (frame : List ℕ) (s t : List ℤ) (x : Taken) : Type 0 where
   pub answer : x .answer ≡ answerOf (step b frame (length s))
   pub state : x .book .state ≡ step b frame (length s) .moved .state
@@ -80,6 +90,8 @@ pub record Exact (b : State) (frame : List ℕ) (s t : List ℤ) (x : Taken) : T
   pub written-read : (e : Event) (sp : List ℕ) (n : ℕ) → writtenOf e (length sp) ≡ W.Length n → readOf (take n (spaceOf e sp)) ≡ R.Event e
   pub read-written : (f : List ℕ) → Bytes f → (e : Event) → readOf f ≡ R.Event e → (sp : List ℕ) → length f ≤ length sp → Wrote e sp (f ++ drop (length f) sp) (W.Length (length f))
 
--- DEMAND 3, of a list of calls: "the totals of document 01 hold" of what the caller saw, with nothing after an accepted day end.
-abbrev pub TotalsHold : List Call → Book → Type 0
-TotalsHold cs end = OneDay (map seen cs) → Totals (map seen cs) (end .state)
+-- DEMAND 3, of a list of calls: the totals of document 01 hold of what the caller saw, with nothing after an accepted day end; and what he saw
+-- is every number that his spaces hold of the records.
+pub record TotalsHold (cs : List Call) (end : Book) : Type 0 where
+  pub whole : All ReadWhole cs
+  pub totals : OneDay (map seen cs) → Totals (map seen cs) (end .state)

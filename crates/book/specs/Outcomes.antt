@@ -15,7 +15,7 @@ use Rattle.frames.specs.Frames.{readOf}
 use Rattle.rules.specs.declared.State.{State}
 use Rattle.rules.specs.declared.Answer.the-variants as A
 use Rattle.rules.specs.Refusals.{firstCause, causes, readCauses, tableOf, refusal}
-use Rattle.rules.specs.Step.{Outcome, valueOf, accept, refused, perform, refuseOrPerform, step, answerOf, answerCount}
+use Rattle.rules.specs.Step.{Outcome, valueOf, accept, refused, perform, refuseOrPerform, step, answerOf, answerNumber, answerValue, answerCount}
 use Rattle.rules.specs.Moves.{Moved}
 use Rattle.rules.specs.Fits.{FitReading, FitEvent}
 use Rattle.rules.specs.Valid.{Valid}
@@ -62,12 +62,15 @@ refusal-read b n space h = rw (le-ltb space 15_360 h)
 
 -- refused: the book and the space are as they were
 handed-refused : (b : State) (r : Reading) (s : List ℤ) → Valid b → {n : ℕ} {x : Taken} → n ≡ refusal b r (length s) → (n ≡ 0 → ⊥) → x ≡ refuse b n → Handed (refuseOrPerform b r (length s)) s s x
-unfolding refuseOrPerform refused refuse answerCount
+unfolding refuseOrPerform refused refuse answerNumber answerValue answerCount
 handed-refused b r s v {n} {x} e h g =
     let o : refuseOrPerform b r (length s) ≡ refused n b = rw (← e) (pick-false _ _ _ (ne-eqb n 0 h)) in
     rw (o, g)
     (record {
       answer = sym (refused-answer n b h);
+      number = refl;
+      value = refl;
+      count = refl;
       state = refl;
       space = wrote-nil s 0 .space;
       valid = v;
@@ -85,7 +88,7 @@ module _ (b : State) (e : Event) (s : List ℤ) {n : ℕ} (c : n ≡ firstCause 
   room-event z a = room-of a (record { count = omega (arith, accept-few b e (six-sound b (q .0 .sound))); space = q .2; small = accept-small b e (q .0) (q .1) (sym c ∙ z) })
 
   pub took : n ≡ 0 → {y : Moved} → accept b e ≡ y → {t : List ℤ} {m value : ℕ} {d : State} {x : Taken} → Done s t 0 m d y → value ≡ valueOf b e → x ≡ admit d value m → Took b e s t x
-  unfolding refuseOrPerform perform admit answerCount
+  unfolding refuseOrPerform perform admit answerNumber answerValue answerCount
   took z a {t} {m} {value} {d} {x} w i g =
       let h = done-of a w in
       let r : refusal b (R.Event e) (length s) ≡ 0 = refusal-event b e (length s) (q .2) ∙ (sym c ∙ z) in
@@ -94,6 +97,9 @@ module _ (b : State) (e : Event) (s : List ℤ) {n : ℕ} (c : n ≡ firstCause 
       rw g
       (record {
         answer = rw (o, i, k) (sym (performed-answer b e));
+        number = rw o;
+        value = rw o i;
+        count = rw o k;
         state = rw o (h .state);
         space = rw o (h .wrote .space);
         valid = rw (h .state) (subst (λ (y : Outcome). Valid (y .moved .state)) o (decide-valid b (R.Event e) (length s) (q .0) (q .1)));
