@@ -1,17 +1,16 @@
 -- The rules of auctions by what the code tests, and their records.
 use mathlib.Core.Path.{_≡_, sym}
 use mathlib.Core.Bool.{Bool, true, false}
-use mathlib.Core.Logic.{_⊎_, inl, inr}
 use mathlib.Core.List.{List}
-use Prim.Native.Nat.{ℕ, suc, _+_, _≤_, _<_}
+use Prim.Native.Nat.{ℕ, _≤_}
 use native.Mathlib.Omega.{arith}
 use lib.ListN.{length, getD, List·getD-eq-default}
 use Rattle.base.specs.Pick.{tests}
-use Rattle.base.specs.Walks.{firstN, first-none, first-is, below}
 use Rattle.rules.specs.declared.Entry.{Entry}
 use Rattle.rules.specs.declared.State.{State}
 use Rattle.rules.specs.declared.Record.{Record}
 use Rattle.rules.specs.declared.Kind.the-variants.{AuctionBegun, AuctionEnded}
+use Rattle.rules.specs.Sizes.{zeroLevel}
 use Rattle.rules.specs.State.{noEntry, entryAt, strategyAt}
 use Rattle.rules.specs.Moves.{still}
 use Rattle.rules.specs.Sides.{other}
@@ -22,29 +21,9 @@ abbrev pub begunRecord : Entry → Record
 begunRecord e = record { kind = AuctionBegun; number = e .number; place = e .strategy; side = e .side; quantity = e .units; level = e .level }
 
 abbrev pub endedRecord : ℕ → ℕ → Record
-endedRecord n k = record { kind = AuctionEnded; number = n; place = k; side = 0; quantity = 0; level = 10_000_000 }
-
--- none of the first i slots has f
-pub record Passed (f : ℕ → Bool) (i : ℕ) : Type 0 where
-  pub none : (j : ℕ) → j < i → f j ≡ false
+endedRecord n k = record { kind = AuctionEnded; number = n; place = k; side = 0; quantity = 0; level = zeroLevel }
 
 -- laws
-
-pub passed-first : (f : ℕ → Bool) → Passed f 0
-passed-first f = record { none = λ j h. absurd (omega arith) }
-
-pub passed-next : (f : ℕ → Bool) (i : ℕ) → Passed f i → f i ≡ false → Passed f (i + 1)
-passed-next f i p e = record { none = λ j h. by j (below (let g : j < suc i = omega arith in g)) }
-  where
-    by : (j : ℕ) → (j ≡ i) ⊎ (j < i) → f j ≡ false
-    by j (inl q) = rw q e
-    by j (inr l) = p .none j l
-
-pub passed-here : (f : ℕ → Bool) (i k : ℕ) → Passed f i → i < k → f i ≡ true → i ≡ firstN f k
-passed-here f i k p h e = sym (first-is f k i h e (p .none))
-
-pub passed-all : (f : ℕ → Bool) (i k : ℕ) → Passed f i → i ≡ k → k ≡ firstN f k
-passed-all f i k p h = sym (first-none f k (λ j l. p .none j (omega arith)))
 
 pub side-past : (es : List Entry) (i : ℕ) → length es ≡ 32 → 32 ≤ i → 0 ≡ getD es i noEntry .side
 side-past es i n h = rw (List·getD-eq-default es noEntry {n = i} (omega arith))

@@ -21,17 +21,7 @@ use rules::Record;
 use rules::State;
 use rules::ZERO_LEVEL;
 use sides::other;
-
-// Whether an entry is live and of strategy k.
-pub fn live_in(k: usize, e: Entry) -> bool
-    ensures { λ r. ⌜ r ≡ liveIn k e ⌝ }
-{
-    if e.units == 0 {
-        return false;
-    }
-    let s = e.strategy as usize;
-    s == k
-}
+use states::live_in;
 
 // Whether an entry is live, of strategy k and of number n.
 fn is_number(k: usize, n: u32, e: Entry) -> bool

@@ -279,3 +279,10 @@ trailing-first (suc k) x =
 pub lowest-first : (x : ℕ) → x < 2 ^ 32 → lowestOf x ≡ firstN (has x) 32
 unfolding lowestOf
 lowest-first x h = trailing-first 32 x
+
+-- a one shifted by s
+pub shifted : (s : ℕ) → s < 32 → 1 * 2 ^ s % 2 ^ 32 ≡ 2 ^ s
+shifted s h =
+    let p : 2 ^ suc s ≤ 2 ^ 32 = pow-mono (let l : suc s ≤ 32 = omega arith in l) in
+    let q : 0 < 2 ^ s = pow-pos s in
+    rw one-mul (mod-eq-of-lt (omega arith))

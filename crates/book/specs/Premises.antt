@@ -36,8 +36,8 @@ use Rattle.rules.proofs.Validity.{order-clear, sweep-clear, legOrder-clear}
 use Rattle.ranges.specs.Fit.{Fit, fit-sound}
 use Rattle.records.specs.Space.{Room}
 use Rattle.records.specs.Done.{Done}
-use Rattle.arrivals.specs.Arrivals.{MayEnter}
-use Rattle.arrivals.specs.Slots.{order-slot}
+use Rattle.sweeps.specs.Sweeps.{MayEnter}
+use Rattle.complex_orders.specs.Slots.{order-slot}
 use Rattle.book.specs.declared.Taken.{Taken}
 use Rattle.book.specs.Books.{Took}
 use Rattle.book.specs.Outcomes.{admit, took, room-event}

@@ -40,7 +40,7 @@ use Rattle.ranges.specs.Most.{AtMost, table-most, zeros-most, under-most}
 use Rattle.ranges.specs.Fit.{FitLegs, fit-leg, fit-legs, fit-entry, fit-order}
 use Rattle.nets.specs.Nets.{net-most, prices-most, lot-most}
 use Rattle.auctions.specs.Ranged.{Ranged, ranged-kept, ranged-sound}
-use Rattle.closing.specs.Closing.{ranged-opened}
+use Rattle.series.specs.Series.{ranged-opened}
 
 one-small : (r : Record) → r .number < 2_147_483_648 → r .quantity < 2_147_483_648 → r .level < 2_147_483_648 → All Small (r ∷ [])
 one-small r n q l = all-cons (record { number = n; quantity = q; level = l }) all-nil

@@ -12,14 +12,10 @@ ghost use Prim.Native.Nat.{_≤_, _<_};
 ghost use Rattle.rules.specs.Sizes.{recordSpace};
 ghost use Rattle.book.specs.Books.{First, Took, Stepped};
 ghost use Rattle.book.specs.Outcomes.{refuse, admit};
-use arrivals::on_order;
-use arrivals::on_sweep;
-use closing::cancel_number;
-use closing::fresh;
-use closing::on_clock;
-use closing::on_day_end;
-use closing::on_leg_order;
-use closing::on_series;
+use cancels::cancel_number;
+use clocks::on_clock;
+use complex_orders::on_order;
+use day_ends::on_day_end;
 use events::Event;
 use events::Reading;
 use frames::read;
@@ -28,6 +24,7 @@ use given::leg_order_given;
 use given::order_given;
 use given::strategy_given;
 use given::sweep_given;
+use leg_orders::on_leg_order;
 use refusals::cancel_refusal;
 use refusals::clock_refusal;
 use refusals::leg_order_refusal;
@@ -38,8 +35,11 @@ use rules::Depth;
 use rules::Entry;
 use rules::Shut;
 use rules::State;
+use series::on_series;
 use strategies::add;
 use strategies::number_of;
+use sweeps::on_sweep;
+use tables::fresh;
 
 pub struct Book {
     state: State,

@@ -11,39 +11,13 @@ ghost use Rattle.records.specs.Space.{Room};
 ghost use Rattle.records.specs.Done.{Done};
 ghost use Rattle.ranges.specs.Fit.{Fit};
 use auctions::end_unfilled;
-use auctions::live_in;
 use auctions::starter_slot;
 use passes::pass;
 use records::After;
 use rules::Allocation;
 use rules::Entry;
 use rules::State;
-use rules::Strategy;
-
-// Whether an auction runs in a strategy.
-fn runs(s: Strategy) -> bool
-    ensures { λ r. ⌜ r ≡ not (eqb (s .starter) 0) ⌝ }
-{
-    s.starter != 0
-}
-
-// Whether an auction runs in strategy k.
-pub fn running(b: State, k: usize) -> bool
-    requires { ⌜ k < strategySlots ⌝ }
-    ensures { λ r. ⌜ r ≡ running b k ⌝ }
-{
-    let s = b.strategies[k];
-    runs(s)
-}
-
-// Whether a strategy holds a series.
-pub fn holds(t: Strategy, s: u8) -> bool
-    requires { ⌜ s < 32 ⌝ }
-    ensures { λ r. ⌜ r ≡ has (t .series) s ⌝ }
-{
-    let x = (t.series >> s as u32) % 2;
-    x == 1
-}
+use states::live_in;
 
 // The starter's shared pass, legs barred if an opposite sweep or waiting order was accepted meanwhile.
 fn starter_pass(b: State, k: usize, space: &mut [i32], n: usize) -> After

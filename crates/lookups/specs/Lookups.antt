@@ -98,10 +98,6 @@ module _ (os : List LegOrder) (s side : ℕ) where
     depth-best z = rw (price-is, contracts-is) (search tests)
 
 -- the shut legs by what the code tests
-pub shut-is : (b : State) (k : ℕ) → strategyAt b k .series < 2 ^ 32 → b .opened < 2 ^ 32 → bitAnd (strategyAt b k .series) (4294967295 - b .opened) ≡ shutSet b k
-unfolding shutSet
-shut-is b k h g = minus-and (strategyAt b k .series) (b .opened) h g
-
 pub shut-undefined : (b : State) (k : ℕ) → b .defined ≤ k → S.Refused 4 ≡ shutLegs b k
 unfolding shutLegs undefined
 shut-undefined b k h = search tests

@@ -15,6 +15,7 @@ use rules::Depth;
 use rules::LegOrder;
 use rules::Shut;
 use rules::State;
+use states::shut_set;
 
 // What a row of number x holds under a number.
 fn held_by(x: u32, quantity: u32, number: u32) -> u32
@@ -42,15 +43,6 @@ pub fn live_quantity(b: State, n: u32) -> u32
         i += 1;
     }
     quantity
-}
-
-// The shut legs of a strategy, as a set of series.
-fn shut_set(b: State, k: usize) -> u32
-    requires { ⌜ k < strategySlots ⌝ }
-    ensures { λ r. ⌜ r ≡ shutSet b k ⌝ }
-{
-    let s = b.strategies[k];
-    s.series & (u32::MAX - b.opened)
 }
 
 // How many legs of a strategy are shut, and the lowest series of them; 32 when none is shut.

@@ -5,14 +5,12 @@ use mathlib.Core.List.{List}
 use Prim.Native.Nat.{ℕ, _+_, _-_, _^_, _≤_, _<_, min}
 use native.Mathlib.Omega.{arith}
 use borrow.Author.Tests.{ltb-true, lt-ltb, le-ltb}
-use lib.Bits.{bitAnd}
 use lib.Dec.{eqb, ltb, leb}
 use lib.IntN.{ℤ}
 use lib.ListN.{length, getD, List·getD-eq-default}
-use Rattle.base.specs.Pick.{pick, pick-yes, tests}
+use Rattle.base.specs.Pick.{pick, both, pick-true, pick-false, pick-yes, pick-pair, tests}
 use Rattle.base.specs.Walks.{walk}
 use Rattle.base.specs.Sets.{has, minus}
-use Rattle.base.specs.SetLaws.{minus-and}
 use Rattle.rules.specs.declared.Strategy.{Strategy}
 use Rattle.rules.specs.declared.Entry.{Entry}
 use Rattle.rules.specs.declared.State.{State}
@@ -20,20 +18,24 @@ use Rattle.rules.specs.declared.Allocation.the-variants.{LegsOnly}
 use Rattle.rules.specs.State.{noEntry, entryAt, strategyAt}
 use Rattle.rules.specs.Moves.{Moved, still, each}
 use Rattle.rules.specs.Sides.{other, better}
-use Rattle.rules.specs.Strategies.{shutSet, allOpen, holds}
+use Rattle.rules.specs.Strategies.{shutSet}
 use Rattle.rules.specs.Fills.{wholeFill}
 use Rattle.rules.specs.Passes.{turnAt, pass}
 use Rattle.rules.specs.Auctions.{liveIn, dayOrder, legPass, legPassesIn, ahead, bestSlot, crossed, matchOnce, matchAll, matchIn}
-use Rattle.rules.proofs.Control.{each-kept, legPass-kept, legPassesIn-kept, matchOnce-kept, shrinks-kept}
+use Rattle.rules.proofs.Control.{each-kept, legPass-kept, legPassesIn-kept, matchOnce-kept, matchIn-kept, shrinks-kept}
 use Rattle.rules.proofs.Turns.{idle}
 use Rattle.records.specs.Done.{Done}
 use Rattle.ranges.specs.Fit.{Fit, fit-done}
 use Rattle.nets.specs.Ready.{netReady}
 use Rattle.passes.specs.Passes.{stopsAt, legs-still}
 
--- whether a strategy holds series s, is all open and has no auction
+-- whether a strategy holds series s and is all open
+unfoldable pub openWith : Strategy → ℕ → ℕ → Bool
+openWith t s opened = both (has (t .series) s) (eqb (minus (t .series) opened) 0)
+
+-- .. and has no auction
 unfoldable pub passesLegs : Strategy → ℕ → ℕ → Bool
-passesLegs t s opened = pick (has (t .series) s) (pick (eqb (minus (t .series) opened) 0) (eqb (t .starter) 0) false) false
+passesLegs t s opened = both (openWith t s opened) (eqb (t .starter) 0)
 
 -- whether an entry goes before the best so far of a side, which is at that slot and level
 unfoldable pub aheadOf : ℕ → ℕ → Entry → ℕ → ℕ → Bool
@@ -61,14 +63,14 @@ matched b x y =
 -- laws
 
 -- three tests, the last one turned, and the choice by them
-all-three : (t u v : Bool) (x y : Moved) → pick t (pick u v false) false ≡ true → pick t (pick u (pick (not v) x y) x) x ≡ y
+all-three : (t u v : Bool) (x y : Moved) → pick (pick t u false) v false ≡ true → pick t (pick u (pick (not v) x y) x) x ≡ y
 unfolding pick
 all-three true true true x y e = refl
 all-three true true false x y e = absurd (let z : _≡_ {A = ℕ} 0 1 = cc in omega arith)
 all-three true false v x y e = absurd (let z : _≡_ {A = ℕ} 0 1 = cc in omega arith)
 all-three false u v x y e = absurd (let z : _≡_ {A = ℕ} 0 1 = cc in omega arith)
 
-not-three : (t u v : Bool) (x y : Moved) → pick t (pick u v false) false ≡ false → pick t (pick u (pick (not v) x y) x) x ≡ x
+not-three : (t u v : Bool) (x y : Moved) → pick (pick t u false) v false ≡ false → pick t (pick u (pick (not v) x y) x) x ≡ x
 unfolding pick
 not-three true true true x y e = absurd (let z : _≡_ {A = ℕ} 0 1 = cc in omega arith)
 not-three true true false x y e = refl
@@ -86,32 +88,20 @@ module _ (k i : ℕ) (b : State) where
 
 module _ (s k : ℕ) (b : State) where
   pub in-yes : passesLegs (strategyAt b k) s (b .opened) ≡ true → legPassesIn s k b ≡ each (legPass k) 32 b
-  unfolding passesLegs legPassesIn shutSet
+  unfolding passesLegs openWith legPassesIn shutSet
   in-yes e = all-three _ _ _ _ _ e
 
   pub in-not : passesLegs (strategyAt b k) s (b .opened) ≡ false → legPassesIn s k b ≡ still b
-  unfolding passesLegs legPassesIn shutSet
+  unfolding passesLegs openWith legPassesIn shutSet
   in-not e = not-three _ _ _ _ _ e
 
-  pub match-without : holds b s k ≡ false → matchIn s k b ≡ still b
-  unfolding matchIn
-  match-without h = search tests
+  pub match-yes : openWith (strategyAt b k) s (b .opened) ≡ true → matchIn s k b ≡ matchAll k b
+  unfolding openWith matchIn shutSet
+  match-yes e = pick-pair _ _ _ _ ∙ pick-true _ _ _ e
 
-  pub match-shut : holds b s k ≡ true → eqb (minus (strategyAt b k .series) (b .opened)) 0 ≡ false → matchIn s k b ≡ still b
-  unfolding matchIn shutSet
-  match-shut h o = search tests
-
-  pub match-open : holds b s k ≡ true → eqb (minus (strategyAt b k .series) (b .opened)) 0 ≡ true → matchIn s k b ≡ matchAll k b
-  unfolding matchIn shutSet
-  match-open h o = search tests
-
--- what the code computes of the shut legs
-pub shut-is : (x y : ℕ) → x < 2 ^ 32 → y < 2 ^ 32 → eqb (bitAnd x (4294967295 - y)) 0 ≡ eqb (minus x y) 0
-shut-is x y h g = ap (λ (z : ℕ). eqb z 0) (minus-and x y h g)
-
-pub open-is : (b : State) (k : ℕ) {r : Bool} → r ≡ eqb (minus (strategyAt b k .series) (b .opened)) 0 → r ≡ allOpen b k
-unfolding shutSet
-open-is b k e = e
+  pub match-not : openWith (strategyAt b k) s (b .opened) ≡ false → matchIn s k b ≡ still b
+  unfolding openWith matchIn shutSet
+  match-not e = pick-pair _ _ _ _ ∙ pick-false _ _ _ e
 
 -- the level of the best so far: none yet, or an entry's
 pub level-none : (es : List Entry) → length es ≡ 32 → 0 ≡ getD es 32 noEntry .level
@@ -162,6 +152,10 @@ match-stops k i b c h e s =
     let g : matchOnce k i (each (matchOnce k) i b .state) ≡ still (each (matchOnce k) i b .state) = rw e at s in
     let q : _≡_ {A = ℕ} 32 (32 - i + i) = omega arith in
     ap (λ (j : ℕ). each (matchOnce k) j b) q ∙ idle (matchOnce k) b i (λ j. match-turn k j i (each (matchOnce k) i b .state) ∙ g) (32 - i)
+
+-- the ranges after the matches of some strategies
+pub fit-series : (s i : ℕ) (b : State) {c : State} {sp sq : List ℤ} {n m : ℕ} → Fit b → Done sp sq n m c (each (matchIn s) i b) → Fit c
+fit-series s i b f d = fit-done d (each-kept shrinks-kept (matchIn s) (matchIn-kept shrinks-kept s) i b (f .orderRows)) f
 
 -- the ranges after some passes, and after some matches
 pub fit-passes : (k i : ℕ) (b : State) {c : State} {sp sq : List ℤ} {n m : ℕ} → Fit b → Done sp sq n m c (each (legPass k) i b) → Fit c

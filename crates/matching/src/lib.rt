@@ -1,18 +1,13 @@
 // Where a series opens or its leg orders change: the match of the resting orders, and the passes by legs only.
 ghost use mathlib.Core.Path.{_≡_};
 ghost use Prim.Native.Nat.{_+_, _-_, _<_};
-ghost use lib.Dec.{eqb};
-ghost use Rattle.base.specs.Sets.{minus};
 ghost use Rattle.rules.specs.Sizes.{strategySlots, tableRows};
 ghost use Rattle.rules.specs.Moves.{each};
-ghost use Rattle.rules.specs.Strategies.{allOpen};
 ghost use Rattle.rules.specs.Auctions.{dayOrder, legPass, legPasses, matchAll, matchIn};
 ghost use Rattle.records.specs.Space.{Room};
 ghost use Rattle.records.specs.Done.{Done};
 ghost use Rattle.ranges.specs.Fit.{Fit};
-ghost use Rattle.matching.specs.Matching.{passesLegs, aheadOf, bestEntry, meet, matched};
-use auctions::live_in;
-use endings::holds;
+ghost use Rattle.matching.specs.Matching.{openWith, passesLegs, aheadOf, bestEntry, meet, matched};
 use fills::whole_fill;
 use nets::net_ready;
 use passes::legs_idle;
@@ -25,34 +20,26 @@ use rules::State;
 use rules::Strategy;
 use sides::better;
 use sides::other;
+use states::holds;
+use states::live_in;
+use states::none_shut;
 
-// Whether no leg of a strategy is shut.
-fn none_shut(t: Strategy, opened: u32) -> bool
-    ensures { λ r. ⌜ r ≡ eqb (minus (t .series) opened) 0 ⌝ }
+// Whether a strategy holds series s and no leg of it is shut.
+fn open_with(t: Strategy, s: u8, opened: u32) -> bool
+    ensures { λ r. ⌜ r ≡ openWith t s opened ⌝ }
 {
-    let shut = t.series & (u32::MAX - opened);
-    shut == 0
-}
-
-// Whether no leg of strategy k is shut.
-pub fn all_open(b: State, k: usize) -> bool
-    requires { ⌜ k < strategySlots ⌝ }
-    ensures { λ r. ⌜ r ≡ allOpen b k ⌝ }
-{
-    let t = b.strategies[k];
-    none_shut(t, b.opened)
+    if holds(t, s) {
+        return none_shut(t, opened);
+    }
+    false
 }
 
 // Whether a strategy holds series s, is all open and has no auction.
 fn passes_legs(t: Strategy, s: u8, opened: u32) -> bool
-    requires { ⌜ s < 32 ⌝ }
     ensures { λ r. ⌜ r ≡ passesLegs t s opened ⌝ }
 {
-    if holds(t, s) {
-        if none_shut(t, opened) {
-            return t.starter == 0;
-        }
-        return false;
+    if open_with(t, s, opened) {
+        return t.starter == 0;
     }
     false
 }
@@ -95,7 +82,7 @@ fn leg_passes_of(b: State, k: usize, space: &mut [i32], n: usize) -> After
 
 // The passes by legs only of a series, by strategy.
 pub fn leg_passes(b: State, s: u8, space: &mut [i32], n: usize) -> After
-    requires { ⌜ (s < 32) × Fit b ⌝ }
+    requires { ⌜ Fit b ⌝ }
     requires { ⌜ Room (now space) n (legPasses s b .records) ⌝ }
     ensures { λ t. ⌜ Done (now (space .entry)) (now (space .exit)) n (t .count) (t .state) (legPasses s b) ⌝ }
 {
@@ -205,18 +192,23 @@ fn match_all(b: State, k: usize, space: &mut [i32], n: usize) -> After
     After { state: c, count: m }
 }
 
-// The resting orders of strategy k, where it holds series s and is all open.
-pub fn match_in(b: State, s: u8, k: usize, space: &mut [i32], n: usize) -> After
-    requires { ⌜ (s < 32) × (k < strategySlots) × Fit b ⌝ }
-    requires { ⌜ Room (now space) n (matchIn s k b .records) ⌝ }
-    ensures { λ t. ⌜ Done (now (space .entry)) (now (space .exit)) n (t .count) (t .state) (matchIn s k b) ⌝ }
+// The resting orders of each all-open strategy that holds a series, by strategy.
+pub fn match_series(b: State, s: u8, space: &mut [i32], n: usize) -> After
+    requires { ⌜ Fit b ⌝ }
+    requires { ⌜ Room (now space) n (each (matchIn s) strategySlots b .records) ⌝ }
+    ensures { λ t. ⌜ Done (now (space .entry)) (now (space .exit)) n (t .count) (t .state) (each (matchIn s) strategySlots b) ⌝ }
 {
-    let t = b.strategies[k];
-    if holds(t, s) {
-        if none_shut(t, b.opened) {
-            return match_all(b, k, space, n);
+    let mut c = b;
+    let mut m = n;
+    let mut k: usize = 0;
+    while k < State::STRATEGIES {
+        let h = c.strategies[k];
+        if open_with(h, s, c.opened) {
+            let t = match_all(c, k, space, m);
+            c = t.state;
+            m = t.count;
         }
-        return After { state: b, count: n };
+        k += 1;
     }
-    After { state: b, count: n }
+    After { state: c, count: m }
 }

@@ -16,7 +16,7 @@ use Rattle.rules.specs.State.{noOrder}
 use Rattle.rules.specs.Events.{live, liveOrder, freeOrderSlot}
 use Rattle.rules.specs.Refusals.{Cause, _if_, firstCause, isOrderOf, orderAtIs, legOrderAtIs, notFound, isLegOrder, legOrdersFull}
 use Rattle.rules.proofs.Tables.{keep-length, sum-tally}
-use Rattle.auctions.specs.Auctions.{Passed}
+use Rattle.base.specs.Walks.{Passed}
 
 -- the first cause by what the calls answer: one that applies, one that does not, and the last of those that do not
 module _ (n : ℕ) {r t : Bool} where

@@ -9,8 +9,6 @@ ghost use Rattle.rules.specs.Sizes.{strategySlots};
 ghost use Rattle.rules.specs.Auctions.{running};
 ghost use Rattle.rules.specs.Refusals.{firstCause, causes, undefined, notOpen, isOrderOf, isLegOrderOf, notFound, isStarter, unanswerable, ordersFull, sweepsFull, legOrdersFull, replaces, removesNone, noRoom, numbersOut, sweepNumbersOut};
 ghost use Rattle.rules.specs.Fits.{FitOrderGiven, FitSweepGiven, FitLegOrderGiven};
-use closing::is_open;
-use endings::running;
 use entries::count_of;
 use entries::old_sweep;
 use given::sweep_given;
@@ -18,6 +16,8 @@ use legs::free_order_slot;
 use rules::Entry;
 use rules::LegOrder;
 use rules::State;
+use states::is_open;
+use states::running;
 
 fn undefined(b: State, k: u32) -> bool
     ensures { λ r. ⌜ r ≡ undefined b k ⌝ }

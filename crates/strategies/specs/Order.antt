@@ -210,13 +210,6 @@ set-next legs i {x} e g =
     ∙ ap (λ (t : Bool). pick t true (eqb (seriesOf legs i) s)) (ap (λ (z : ℕ). has z s) e ∙ set-has (present legs i) 32 s h)
     ∙ sym (present-more legs i s) ∙ sym (set-has (present legs (suc i)) 32 s h)))
 
--- a one shifted by s
-pub shifted : (s : ℕ) → s < 32 → 1 * 2 ^ s % 2 ^ 32 ≡ 2 ^ s
-shifted s h =
-    let p : 2 ^ suc s ≤ 2 ^ 32 = pow-mono (let l : suc s ≤ 32 = omega arith in l) in
-    let q : 0 < 2 ^ s = pow-pos s in
-    rw one-mul (mod-eq-of-lt (omega arith))
-
 -- THE STRATEGY
 
 module _ (legs : List Leg) (n : ℕ) (six : length legs ≡ 6) where

@@ -8,6 +8,7 @@ ghost use Rattle.strategies.specs.Order.{putLeg, putSeries, addSeries};
 use rules::Leg;
 use rules::State;
 use rules::Strategy;
+use states::has;
 use tables::NO_LEG;
 use terms::leg_at;
 use terms::lowest_terms;
@@ -30,17 +31,6 @@ fn put_leg(o: Ordered, l: Leg) -> Ordered
     p.legs[at] = l;
     p.count = at + 1;
     p
-}
-
-// Whether a set of series has a series.
-pub fn has(x: u32, s: u8) -> bool
-    ensures { λ r. ⌜ r ≡ has x s ⌝ }
-{
-    if 31 < s {
-        return false;
-    }
-    let y = (x >> s as u32) % 2;
-    y == 1
 }
 
 fn add_series(x: u32, s: u8) -> u32

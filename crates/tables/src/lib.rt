@@ -1,7 +1,11 @@
-// Empty rows of the tables; laws of tables stand in specs/.
+// Empty rows of the tables, and the state of a fresh book; laws of tables stand in specs/.
+ghost use mathlib.Core.Path.{_≡_};
+ghost use Rattle.rules.specs.State.{fresh, freeStrategy};
 use rules::Entry;
 use rules::Leg;
 use rules::LegOrder;
+use rules::State;
+use rules::Strategy;
 
 pub const NO_LEG: Leg = Leg {
     series: 0,
@@ -28,3 +32,33 @@ pub const NO_ORDER: LegOrder = LegOrder {
     contracts: 0,
     price: 0,
 };
+
+// A free row of the table of strategies.
+fn free_strategy() -> Strategy
+    ensures { λ s. ⌜ s ≡ freeStrategy ⌝ }
+{
+    Strategy {
+        legs: [NO_LEG; 6],
+        count: 0,
+        series: 0,
+        starter: 0,
+        begun: 0,
+        answered: false,
+    }
+}
+
+// The state of a fresh book.
+pub fn fresh(timer: u32) -> State
+    ensures { λ b. ⌜ b ≡ fresh timer ⌝ }
+{
+    State {
+        strategies: [free_strategy(); State::STRATEGIES],
+        entries: [NO_ENTRY; State::ROWS],
+        orders: [NO_ORDER; State::LEG_ORDERS],
+        defined: 0,
+        opened: 0,
+        clock: 0,
+        timer: timer,
+        last: 0,
+    }
+}

@@ -1,4 +1,4 @@
-use Rattle.auctions.specs.Auctions.{Passed, passed-first, passed-next, passed-here, passed-all}
+use Rattle.base.specs.Walks.{Passed, passed-first, passed-next, passed-here, passed-all}
 use Rattle.rules.specs.Auctions.{isNumber, starterSlot}
 use Rattle.base.specs.Pick.{told}
 use Prim.Native.Nat.{_≤_, _-_}

@@ -1,6 +1,6 @@
 use native.Mathlib.Omega.{arith}
 use borrow.Author.Needs.{needs}
-use Rattle.auctions.specs.Auctions.{Passed, passed-first, passed-next, passed-here, passed-all}
+use Rattle.base.specs.Walks.{Passed, passed-first, passed-next, passed-here, passed-all}
 use Rattle.rules.specs.Events.{oldSweep, sameSweepAt}
 use Rattle.base.specs.Pick.{told}
 use Prim.Native.Nat.{_≤_, _-_}

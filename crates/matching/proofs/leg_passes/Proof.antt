@@ -25,13 +25,13 @@ element-copy-out-t : tie.Need-element-copy-out-t Inv-loop μ-loop
 element-copy-out-t c = c .loop-test .taken
 
 passes-legs-requires : tie.Need-passes-legs-requires Inv-loop μ-loop
-passes-legs-requires c κs = c .before .before .before .pre .0 .0
+passes-legs-requires c κs = search needs
 
 leg-passes-of-requires : tie.Need-leg-passes-of-requires Inv-loop μ-loop
 unfolding legPasses
 leg-passes-of-requires c κs = let l = c .before .before .before .before in
     let p = l .before .before .pre in
-    (fit-strategies _ _ _ (p .0 .1) (l .before .loop .inv .done), visit-room (l .before .loop .inv) (l .loop-test .taken) (in-yes _ _ _ (told (c .before .before .passes-legs .ensures) (c .before .if1 .taken))) (p .1))
+    (fit-strategies _ _ _ (p .0) (l .before .loop .inv .done), visit-room (l .before .loop .inv) (l .loop-test .taken) (in-yes _ _ _ (told (c .before .before .passes-legs .ensures) (c .before .if1 .taken))) (p .1))
 
 add-k : tie.Need-add-k Inv-loop μ-loop
 add-k c = omega arith

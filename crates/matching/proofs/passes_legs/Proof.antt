@@ -10,7 +10,5 @@ passes-legs-spec =
     tie.close
     (tie.spec
     (λ c κs. search needs)
-    (λ c κs. search needs)
-    (λ c. search (tests, told (c .before .before .before .before .holds .ensures) (c .before .before .before .if1 .taken), told (c .before .before .none-shut .ensures) (c .before .if2 .taken)))
-    (λ c. search (tests, told (c .before .before .before .holds .ensures) (c .before .before .if1 .taken), told (c .before .none-shut .ensures) (c .if2 .left)))
-    (λ c. search (tests, told (c .before .holds .ensures) (c .if1 .left))))
+    (λ c. search (tests, told (c .before .open-with .ensures) (c .if1 .taken)))
+    (λ c. search (tests, told (c .before .open-with .ensures) (c .if1 .left))))

@@ -1,4 +1,4 @@
-use Rattle.closing.specs.Closing.{some-not, some-yes}
+use Rattle.base.specs.Pick.{some-not, some-yes}
 use Rattle.base.specs.Pick.{pick-true, pick-false}
 use borrow.Author.Tests.{eq-eqb, ne-eqb}
 use mathlib.Core.Path.{sym, _∙_}

@@ -1,5 +1,5 @@
 use Rattle.refusals.specs.Refusing.{found, found-none}
-use Rattle.auctions.specs.Auctions.{Passed, passed-first, passed-next}
+use Rattle.base.specs.Walks.{Passed, passed-first, passed-next}
 use Rattle.rules.specs.Refusals.{startedBy, isStarter}
 use borrow.Author.Tests.{eq-eqb, ne-eqb}
 use Prim.Native.Nat.{_≤_, _-_}

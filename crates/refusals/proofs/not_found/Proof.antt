@@ -1,5 +1,5 @@
 use Rattle.refusals.specs.Refusing.{order-found, leg-order-found, neither-found}
-use Rattle.auctions.specs.Auctions.{Passed, passed-first, passed-next}
+use Rattle.base.specs.Walks.{Passed, passed-first, passed-next}
 use Rattle.rules.specs.Refusals.{orderAtIs, legOrderAtIs}
 use Rattle.base.specs.Pick.{told}
 use Prim.Native.Nat.{_≤_, _-_}

@@ -1,5 +1,6 @@
 use Rattle.base.specs.Pick.{told}
-use Rattle.strategies.specs.Order.{shifted, add-past, add-held, add-new, add-fits}
+use Rattle.strategies.specs.Order.{add-past, add-held, add-new, add-fits}
+use Rattle.base.specs.SetLaws.{shifted}
 use borrow.Author.Needs.{needs}
 use Rattle.strategies.proofs.add_series.Statement.{statement}
 use Rattle.strategies.proofs.add_series.Tie as tie

@@ -1,6 +1,7 @@
 use mathlib.Core.Path.{refl}
 use Rattle.base.specs.Sets.{lowestOf}
-use Rattle.strategies.specs.Order.{Walking, lowest-in, walking-first, walking-next, walking-last, left-fits, shifted}
+use Rattle.strategies.specs.Order.{Walking, lowest-in, walking-first, walking-next, walking-last, left-fits}
+use Rattle.base.specs.SetLaws.{shifted}
 use borrow.Author.Needs.{needs}
 use native.Mathlib.Omega.{arith}
 use Rattle.strategies.proofs.by_series.Statement.{statement}

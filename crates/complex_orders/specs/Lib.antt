@@ -1,0 +1,2 @@
+pub mod ComplexOrders
+pub mod Slots
