@@ -3,7 +3,7 @@ use mathlib.Core.Path.{_≡_, refl, sym, _∙_, ap}
 use mathlib.Core.Bool.{Bool, true, false}
 use mathlib.Core.Logic.{⊎-elim}
 use Prim.Native.Nat.{ℕ, zero, suc, _+_, _-_, _*_, _/_, _%_, _^_, _≤_, _<_, min}
-use native.Mathlib.Nat.{add-zero, lt-of-le-of-lt, sub-add-cancel, le-trans, mod-lt, mod-eq-of-lt, div-eq-of-lt, add-div-right, add-mul-div-right, div-lt-iff-lt-mul, zero-lt-suc}
+use native.Mathlib.Nat.{one-mul, add-zero, lt-of-le-of-lt, sub-add-cancel, le-trans, mod-lt, mod-eq-of-lt, div-eq-of-lt, add-div-right, add-mul-div-right, div-lt-iff-lt-mul, zero-lt-suc}
 use native.Mathlib.Numerals.{one-add, add-one}
 use native.Mathlib.Omega.{arith}
 use borrow.Author.Tests.{eqb-true, eqb-false, eq-eqb, ne-eqb}
