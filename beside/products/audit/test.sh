@@ -3,7 +3,7 @@
 # stored text, then tapes that are wrong and bad uses. The last line is
 # 'audit: N passed, M failed'.
 set -u
-cd "$(dirname "$0")/../.." || exit 2
+cd "$(dirname "$0")/../../.." || exit 2
 out=target/audit
 passed=0
 failed=0

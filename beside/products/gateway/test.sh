@@ -1,10 +1,11 @@
 #!/bin/bash
 # Builds the gateway over the proved library and runs its tests. LIBRARY is the
-# static library that has `judge`, ASSEMBLE the program of beside/assemble; both
-# must be built before. The last line is 'gateway: N passed, M failed'.
+# static library that has `judge`, ASSEMBLE the program of
+# beside/products/assemble; both must be built before. The last line is
+# 'gateway: N passed, M failed'.
 set -u
 cd "$(dirname "$0")" || exit 2
-root=$(cd ../.. && pwd)
+root=$(cd ../../.. && pwd)
 library=${LIBRARY:-$root/target/staticlib/libframes.a}
 assemble=${ASSEMBLE:-$root/target/cargo/release/assemble}
 out=$root/target/gateway
@@ -52,7 +53,7 @@ prints() {
 }
 
 # Each stored case, its input whole and then one byte at a time.
-for text in tests/*.txt ../../days/worked-example.txt; do
+for text in tests/*.txt ../../../days/worked-example.txt; do
     case=$(basename "${text%.*}")
     if "$assemble" "$text" >"$out/$case.in"; then
         check "$case" prints "$case" cat

@@ -6,8 +6,8 @@
 use assemble::assemble;
 use audit::audit;
 
-const DAY: &str = include_str!("../../../days/worked-example.txt");
-const LINES: &str = include_str!("../../../days/worked-example.out");
+const DAY: &str = include_str!("../../../../days/worked-example.txt");
+const LINES: &str = include_str!("../../../../days/worked-example.out");
 /// What `tape` prints for a day end after the worked example.
 const END: &str = "E 6 0 0 2\nR 3 1 0 1 3 0\nR 3 2 0 0 3 0\n";
 

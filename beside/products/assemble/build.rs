@@ -9,7 +9,7 @@ fn main() {
     let here = PathBuf::from(env::var_os("CARGO_MANIFEST_DIR").expect("cargo sets it"));
     let folder = match env::var_os("CODEC_LIBRARIES") {
         Some(named) => PathBuf::from(named),
-        None => here.join("../../target/staticlib"),
+        None => here.join("../../../target/staticlib"),
     };
     println!("cargo:rerun-if-env-changed=CODEC_LIBRARIES");
     println!("cargo:rustc-link-search=native={}", folder.display());
