@@ -1,10 +1,11 @@
 #!/bin/bash
 # Plays every day of days/ with ./play and compares what is printed with the
-# stored lines, then a changed day and bad uses. The last line is
-# 'play: N passed, M failed'.
+# stored lines, and those with what the reckoning's tape prints; then a changed
+# day and bad uses. The last line is 'play: N passed, M failed'.
 set -u
 cd "$(dirname "$0")/../.." || exit 2
 out=target/play
+export CARGO_TARGET_DIR=$PWD/target/cargo
 passed=0
 failed=0
 
@@ -31,10 +32,23 @@ prints() {
 }
 several() { [ "$(find days -name '*.txt' | wc -l)" -ge 5 ]; }
 has_text() { [ -f "${1%.out}.txt" ]; }
+has_stored() { [ -f "${1%.txt}.out" ] && [ -f "${1%.txt}.audit" ]; }
+# reckoned DAY: the reckoning's tape prints the stored lines for its frames.
+reckoned() {
+    "$CARGO_TARGET_DIR/release/assemble" "$1" >"$out/frames" &&
+        "$CARGO_TARGET_DIR/release/tape" <"$out/frames" >"$out/reckoned" &&
+        diff "${1%.txt}.out" "$out/reckoned"
+}
 
 check "five days or more" several
 for day in days/*.txt; do
     check "$day" prints "${day%.txt}.out" "$day"
+done
+check "the reckoning's tape is built" \
+    cargo build --quiet --offline --release --bin tape --manifest-path beside/reckoning/Cargo.toml
+for day in days/*.txt; do
+    check "$day has .out and .audit" has_stored "$day"
+    check "$day by the reckoning" reckoned "$day"
 done
 for stored in days/*.out; do
     check "$stored has its day" has_text "$stored"
