@@ -72,6 +72,10 @@ check "it is seen in the table" in_table
 check "others: a number that did not enter" fails opening 's/^R 3 8 0 0 2 0$/R 3 10 0 0 2 0/' \
     'day 1, number 8: entered 4, but filled 2 + cancelled 0 + live 0 = 2' \
     'day 1, number 10: did not enter, and has records 1 to 3: 1'
+check "fills: records 1 of leg orders" fails worked-example \
+    's/^E 5 0 3 5$/E 5 0 3 7\nR 1 2 0 0 4 150\nR 1 1 0 1 4 150/' \
+    'day 1, number 1: a leg order, and has records 1: 1' \
+    'day 1, number 2: a leg order, and has records 1: 1'
 check "strategy: one that no event answered" fails halt 's/^E 6 0 2 0$/E 6 0 1 0/' \
     'day 2, number 9: no accepted event of the day defines strategy 2'
 check "ratio: contracts on a leg" fails opening 's/^R 2 2 0 0 3 300$/R 2 2 0 0 4 300/' \

@@ -157,7 +157,11 @@ pub fn check(
             }
             _ => sum.records_3 += quantity,
         }
-        // "A fill is a record 1, or a leg order's record 2".
+        // "A fill is a record 1, or a leg order's record 2": a leg order has no
+        // record 1.
+        if record.kind == WHOLE_FILL && order.strategy.is_none() {
+            return Err(format!("number {number}: a leg order with a record 1"));
+        }
         let fill =
             record.kind == WHOLE_FILL || (record.kind == LEG_FILL && order.strategy.is_none());
         if fill {

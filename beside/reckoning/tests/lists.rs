@@ -3,12 +3,12 @@
 #![forbid(unsafe_code)]
 #![deny(warnings)]
 
-use reckoning::book::{Book, RECORDS};
+use reckoning::book::{Book, BUY, RECORDS, SELL};
 use reckoning::coverage::{self, SITUATIONS};
 use reckoning::events::Answer;
 use reckoning::frames::{read, Event};
 use reckoning::generate::{list, long_list, stream, tail, Input, Options};
-use reckoning::records::{CANCELLED, LEG_FILL, WHOLE_FILL};
+use reckoning::records::{Record, CANCELLED, LEG_FILL, WHOLE_FILL};
 use reckoning::tape::tape;
 use reckoning::totals::check;
 use std::collections::BTreeMap;
@@ -358,6 +358,43 @@ fn the_checker_finds_fills_worse_than_the_limit() {
         worse += 1;
     }
     assert!(worse > 10);
+}
+
+#[test]
+fn the_checker_finds_records_1_of_leg_orders() {
+    // A leg buy and a leg sell at one price that both allow, for the same
+    // quantity: every sum stays as it was.
+    let good = sample();
+    let (mut buys, mut sells) = (Vec::new(), Vec::new());
+    for (at, input) in good.inputs.iter().enumerate() {
+        if let (0, Ok(Event::LegOrder { side, price, .. })) =
+            (good.answers[at].answer, read(&input.frame))
+        {
+            let number = good.answers[at].value;
+            if side == BUY {
+                buys.push((at, number, price));
+            } else {
+                sells.push((at, number, price));
+            }
+        }
+    }
+    let mut tried = 0;
+    for buy in &buys {
+        for sell in sells.iter().filter(|sell| sell.2 <= buy.2).take(20) {
+            for price in [sell.2, buy.2] {
+                let mut day = good.clone();
+                let records = &mut day.answers[buy.0.max(sell.0)].records;
+                for (number, side) in [(buy.1, BUY), (sell.1, SELL)] {
+                    let price = i64::from(price);
+                    records.push(Record::new(WHOLE_FILL, number, 0, side, 3, price));
+                }
+                let claim = holds(&day).expect_err("a leg order with a record 1");
+                assert!(claim.contains("a leg order with a record 1"), "{claim}");
+                tried += 1;
+            }
+        }
+    }
+    assert!(tried > 100, "{tried}");
 }
 
 #[test]

@@ -23,6 +23,8 @@ pub struct Entry {
     /// The price of its worst fill: "A fill is a record 1, or a leg order's
     /// record 2".
     pub worst: Option<i128>,
+    /// How many records 1 a leg order has: its fills are its records 2.
+    pub whole_fills: usize,
     pub legs: Vec<OnLeg>,
     /// Its strategy was answered by an accepted event of the day.
     pub defined: bool,
@@ -150,6 +152,11 @@ impl Own<'_> {
         own.map(|record| record.quantity).sum()
     }
 
+    fn count(&self, kind: i128) -> usize {
+        let own = self.records.iter().filter(|record| record.kind == kind);
+        own.count()
+    }
+
     /// Its records 2 by series.
     fn contracts(&self) -> BTreeMap<i128, i128> {
         let mut sums = BTreeMap::new();
@@ -184,6 +191,10 @@ impl Totals {
             let prices = (own.records.iter())
                 .filter(|record| record.kind == fills)
                 .map(|record| record.price);
+            let whole_fills = match terms.what {
+                What::LegOrder { .. } => own.count(WHOLE_FILL),
+                _ => 0,
+            };
             let mut entry = Entry {
                 number,
                 terms,
@@ -194,6 +205,7 @@ impl Totals {
                     0 => prices.max(),
                     _ => prices.min(),
                 },
+                whole_fills,
                 legs: Vec::new(),
                 defined: true,
             };
@@ -264,6 +276,12 @@ impl Totals {
             if let (Some(strategy), false) = (entry.strategy(), entry.defined) {
                 list.push(format!(
                     "number {number}: no accepted event of the day defines strategy {strategy}"
+                ));
+            }
+            if entry.whole_fills > 0 {
+                list.push(format!(
+                    "number {number}: a leg order, and has records 1: {}",
+                    entry.whole_fills
                 ));
             }
         }

@@ -141,6 +141,32 @@ fn other_numbers() {
     ]);
 }
 
+/// Two records 1 with the numbers of leg orders, a buy and a sell for the same
+/// quantity at one price: every sum stays as it was.
+#[test]
+fn whole_fills_of_leg_orders() {
+    let said: &[&str] = &[
+        "day 1, number 1: a leg order, and has records 1: 1",
+        "day 1, number 2: a leg order, and has records 1: 1",
+    ];
+    for price in ["150", "0", "-7", "100", "300", "99999"] {
+        let to = format!("E 5 0 3 7\nR 1 2 0 0 4 {price}\nR 1 1 0 1 4 {price}\n");
+        assert_eq!(failures("E 5 0 3 5\n", &to), said, "{price}");
+    }
+    reported(&[
+        (
+            "E 4 0 2 0\n",
+            "E 4 0 2 2\nR 1 1 0 1 1 300\nR 1 1 0 0 1 300\n",
+            &["day 1, number 1: a leg order, and has records 1: 2"],
+        ),
+        (
+            "E 5 0 3 5\n",
+            "E 5 0 3 6\nR 1 2 1 0 0 100\n",
+            &["day 1, number 2: a leg order, and has records 1: 1"],
+        ),
+    ]);
+}
+
 #[test]
 fn strategies() {
     let said: &[&str] = &["day 1, number 3: no accepted event of the day defines strategy 0"];
