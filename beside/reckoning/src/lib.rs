@@ -6,6 +6,7 @@
 
 pub mod auctions;
 pub mod book;
+pub mod calls;
 pub mod coverage;
 pub mod events;
 pub mod frames;

@@ -1,6 +1,7 @@
 //! The program `tape` of document 01 as a function.
 
 use crate::book::{Book, SPACE};
+use crate::events::Answer;
 use std::io::{self, Write};
 
 /// "reads frames from standard input, prints `E` index answer value count, the
@@ -22,23 +23,30 @@ pub fn tape(input: &[u8], output: &mut impl Write) -> io::Result<()> {
             return Ok(());
         }
         let answer = book.step(&rest[..length], SPACE);
-        writeln!(
-            output,
-            "E {} {} {} {}",
-            index,
-            answer.answer,
-            answer.value,
-            answer.records.len()
-        )?;
-        for record in &answer.records {
-            let [kind, number, place, side, quantity, price] = record.numbers();
-            writeln!(
-                output,
-                "R {kind} {number} {place} {side} {quantity} {price}"
-            )?;
-        }
+        put_answer(index, &answer, output)?;
         rest = &rest[length..];
         index += 1;
+    }
+    Ok(())
+}
+
+/// "`E` index answer value count, the index from 0, then `R` lines, one a
+/// record."
+pub fn put_answer(index: usize, answer: &Answer, output: &mut impl Write) -> io::Result<()> {
+    writeln!(
+        output,
+        "E {} {} {} {}",
+        index,
+        answer.answer,
+        answer.value,
+        answer.records.len()
+    )?;
+    for record in &answer.records {
+        let [kind, number, place, side, quantity, price] = record.numbers();
+        writeln!(
+            output,
+            "R {kind} {number} {place} {side} {quantity} {price}"
+        )?;
     }
     Ok(())
 }

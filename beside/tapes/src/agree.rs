@@ -27,7 +27,7 @@ fn shown(line: Option<&[u8]>) -> String {
 }
 
 /// The bytes of a frame in hex, the first 32 of a longer one.
-fn hex(frame: &[u8]) -> String {
+pub fn hex(frame: &[u8]) -> String {
     let mut words: Vec<String> = (frame.iter().take(32))
         .map(|byte| format!("{byte:02x}"))
         .collect();
@@ -37,17 +37,25 @@ fn hex(frame: &[u8]) -> String {
     words.join(" ")
 }
 
-/// The first line that differs, with its event; nothing if all are the same.
-pub fn difference(input: &[u8], printed: &[u8], reckoned: &[u8]) -> Option<String> {
+/// The first line that differs: its number, its event, and both lines.
+pub struct Place {
+    pub line: usize,
+    pub event: usize,
+    pub printed: String,
+    pub reckoned: String,
+}
+
+/// Where two texts differ first; nothing if they are the same.
+pub fn place(printed: &[u8], reckoned: &[u8]) -> Option<Place> {
     if printed == reckoned {
         return None;
     }
     let mut left = printed.split_inclusive(|byte| *byte == b'\n');
     let mut right = reckoned.split_inclusive(|byte| *byte == b'\n');
-    let mut events = 0;
-    let mut number = 0;
+    let mut events: usize = 0;
+    let mut line = 0;
     loop {
-        number += 1;
+        line += 1;
         let (own, other) = (left.next(), right.next());
         if other.is_some_and(|line| line.starts_with(b"E")) {
             events += 1;
@@ -58,19 +66,29 @@ pub fn difference(input: &[u8], printed: &[u8], reckoned: &[u8]) -> Option<Strin
         // Where the reckoning has no line left, the event is the one after its
         // last.
         let event = match other {
-            Some(_) => events - 1,
+            Some(_) => events.saturating_sub(1),
             None => events,
         };
-        let frame = match frames(input).get(event) {
-            Some(frame) => hex(frame),
-            None => "none".to_string(),
-        };
-        return Some(format!(
-            "event {event}, line {number}\n  frame:     {frame}\n  tape:      {}\n  reckoning: {}",
-            shown(own),
-            shown(other)
-        ));
+        return Some(Place {
+            line,
+            event,
+            printed: shown(own),
+            reckoned: shown(other),
+        });
     }
+}
+
+/// The first line that differs, with its event; nothing if all are the same.
+pub fn difference(input: &[u8], printed: &[u8], reckoned: &[u8]) -> Option<String> {
+    let place = place(printed, reckoned)?;
+    let frame = match frames(input).get(place.event) {
+        Some(frame) => hex(frame),
+        None => "none".to_string(),
+    };
+    Some(format!(
+        "event {}, line {}\n  frame:     {frame}\n  tape:      {}\n  reckoning: {}",
+        place.event, place.line, place.printed, place.reckoned
+    ))
 }
 
 /// A day for which the program does not print the reckoning's lines.
@@ -95,45 +113,67 @@ fn day_agrees(program: &Program, input: &[u8]) -> Result<Vec<u8>, String> {
     }
 }
 
-/// The program prints the reckoning's lines for each day; else the first of the
-/// days found for which it does not.
-pub fn agrees(program: &Program, days: &[Day]) -> Result<Tally, Different> {
+/// Works through the entries on several threads, each with a tally of its own:
+/// the tallies, or the first entry found that fails, with what is said of it.
+pub fn each<Entry: Sync, Part: Default + Send>(
+    entries: &[Entry],
+    work: impl Fn(&Entry, &mut Part) -> Result<(), String> + Sync,
+) -> Result<Vec<Part>, (usize, String)> {
     let next = AtomicUsize::new(0);
     let stop = AtomicBool::new(false);
-    let work = || {
-        let mut tally = Tally::default();
+    let worker = || {
+        let mut part = Part::default();
         while !stop.load(Ordering::SeqCst) {
             let index = next.fetch_add(1, Ordering::SeqCst);
-            let Some(day) = days.get(index) else { break };
-            let input = day.bytes();
-            match day_agrees(program, &input) {
-                Ok(printed) => tally.add(&input, &printed),
-                Err(said) => {
-                    stop.store(true, Ordering::SeqCst);
-                    return Err((index, said));
-                }
+            let Some(entry) = entries.get(index) else {
+                break;
+            };
+            if let Err(said) = work(entry, &mut part) {
+                stop.store(true, Ordering::SeqCst);
+                return Err((index, said));
             }
         }
-        Ok(tally)
+        Ok(part)
     };
-    let results: Vec<Result<Tally, (usize, String)>> = thread::scope(|scope| {
-        let workers: Vec<_> = (0..AT_ONCE).map(|_| scope.spawn(work)).collect();
+    let results: Vec<Result<Part, (usize, String)>> = thread::scope(|scope| {
+        let workers: Vec<_> = (0..AT_ONCE).map(|_| scope.spawn(worker)).collect();
         let joined = workers.into_iter().map(|worker| worker.join());
         joined
             .map(|result| result.expect("a worker ends"))
             .collect()
     });
-    let mut tally = Tally::default();
+    let mut parts = Vec::new();
     let mut found = Vec::new();
     for result in results {
         match result {
-            Ok(part) => tally.join(part),
-            Err(different) => found.push(different),
+            Ok(part) => parts.push(part),
+            Err(said) => found.push(said),
         }
     }
     match found.into_iter().min() {
-        None => Ok(tally),
-        Some((index, said)) => Err(Different {
+        None => Ok(parts),
+        Some(first) => Err(first),
+    }
+}
+
+/// The program prints the reckoning's lines for each day; else the first of the
+/// days found for which it does not.
+pub fn agrees(program: &Program, days: &[Day]) -> Result<Tally, Different> {
+    let parts = each(days, |day: &Day, tally: &mut Tally| {
+        let input = day.bytes();
+        let printed = day_agrees(program, &input)?;
+        tally.add(&input, &printed);
+        Ok(())
+    });
+    match parts {
+        Ok(parts) => {
+            let mut tally = Tally::default();
+            for part in parts {
+                tally.join(part);
+            }
+            Ok(tally)
+        }
+        Err((index, said)) => Err(Different {
             day: days[index].clone(),
             said,
         }),

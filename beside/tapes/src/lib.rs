@@ -9,4 +9,5 @@ pub mod days;
 pub mod faults;
 pub mod hand;
 pub mod program;
+pub mod slips;
 pub mod tally;

@@ -6,17 +6,13 @@
 #![deny(warnings)]
 
 use std::fs;
-use std::path::{Path, PathBuf};
-use std::process::Command;
+use std::path::Path;
 use std::time::Duration;
 use tapes::agree::agrees;
 use tapes::days::{any_frames, every_number, generated, several_days, Day};
 use tapes::hand::{ends, extremes, full_tables};
 use tapes::program::Program;
-
-/// An edit of the reckoning: what it does, the file, and its text before and
-/// after, where the text stands once.
-type Slip = (&'static str, &'static str, &'static str, &'static str);
+use tapes::slips::{built, Slip};
 
 const SLIPS: &[Slip] = &[
     // "Which slips tempt?"
@@ -345,65 +341,19 @@ fn days() -> Vec<Day> {
     days
 }
 
-/// Copies the sources of the reckoning to the folder, with the edit.
-fn edited(folder: &Path, slip: &Slip) {
-    let (name, file, before, after) = slip;
-    let from = Path::new(env!("CARGO_MANIFEST_DIR")).join("../reckoning");
-    fs::create_dir_all(folder.join("src/bin")).expect("a folder is made");
-    let copy = |path: &str| {
-        let text = fs::read_to_string(from.join(path)).expect("a source is read");
-        let text = if path == format!("src/{file}") {
-            let times = text.matches(before).count();
-            assert_eq!(times, 1, "the text of '{name}' in {file}");
-            text.replacen(before, after, 1)
-        } else {
-            text
-        };
-        // An edit may leave a name unused.
-        let text = text.replace("#![deny(warnings)]", "");
-        fs::write(folder.join(path), text).expect("a source is written");
-    };
-    copy("Cargo.toml");
-    copy("Cargo.lock");
-    copy("src/bin/tape.rs");
-    for entry in fs::read_dir(from.join("src")).expect("the sources are listed") {
-        let entry = entry.expect("a source is listed");
-        let name = entry.file_name().into_string().expect("a plain name");
-        if name.ends_with(".rs") {
-            copy(&format!("src/{name}"));
-        }
-    }
-}
-
-/// The tape of the edited reckoning.
-fn built(folder: &Path, slip: &Slip) -> PathBuf {
-    edited(folder, slip);
-    let output = Command::new(env!("CARGO"))
-        .args(["build", "--quiet", "--offline", "--bin", "tape"])
-        .current_dir(folder)
-        .env("CARGO_TARGET_DIR", folder.join("target"))
-        .env("CARGO_PROFILE_DEV_DEBUG", "false")
-        .env_remove("RUSTFLAGS")
-        .output()
-        .expect("cargo runs");
-    let said = String::from_utf8_lossy(&output.stderr);
-    assert!(output.status.success(), "{}: {said}", slip.0);
-    folder.join("target/debug/tape")
-}
-
 #[test]
 fn slips_in_the_book_are_found() {
     let days = days();
     let folder = Path::new(env!("CARGO_TARGET_TMPDIR")).join("slips");
     fs::remove_dir_all(&folder).ok();
     let unchanged = ("none", "lib.rs", "pub mod tape;\n", "pub mod tape;\n");
-    let program = Program::new(built(&folder, &unchanged), &[]);
+    let program = Program::new(built(&folder, "tape", &unchanged), &[]);
     if let Err(different) = agrees(&program, &days) {
         panic!("without an edit: {different}");
     }
     let mut missed = Vec::new();
     for slip in SLIPS {
-        let mut program = Program::new(built(&folder, slip), &[]);
+        let mut program = Program::new(built(&folder, "tape", slip), &[]);
         program.limit = Duration::from_secs(20);
         match agrees(&program, &days) {
             Ok(_) => missed.push(slip.0),

@@ -1,0 +1,189 @@
+//! Lists made by hand: spaces of every sort, ends of the input, long frames, and
+//! the days of `tapes` with full tables and numbers at the ends of their ranges.
+
+use crate::lists::List;
+use reckoning::book::{Book, SPACE};
+use reckoning::calls::item;
+use reckoning::lists::Input;
+use tapes::days::Day;
+use tapes::hand::{example, extremes, full_tables};
+use tapes::tally::frames;
+
+fn made(name: impl Into<String>, bytes: Vec<u8>) -> List {
+    List::Made {
+        name: name.into(),
+        bytes,
+    }
+}
+
+fn call(frame: &[u8], space: usize) -> Vec<u8> {
+    let frame = frame.to_vec();
+    item(&Input { frame, space })
+}
+
+/// The frames of a day as calls, each with a whole space.
+fn whole(frames: &[&[u8]]) -> Vec<u8> {
+    frames.iter().flat_map(|frame| call(frame, SPACE)).collect()
+}
+
+/// Each call of the worked example with a space of this length, then again with
+/// a whole one.
+fn space(length: usize) -> List {
+    let example = example();
+    let mut bytes = Vec::new();
+    for frame in frames(&example) {
+        bytes.extend(call(frame, length));
+        bytes.extend(call(frame, SPACE));
+        bytes.extend(call(&frame[1..], length));
+    }
+    made(format!("the worked example, spaces of {length}"), bytes)
+}
+
+/// Spaces of few numbers, around 15,360, at powers of two, and the longest.
+pub fn spaces() -> Vec<List> {
+    let mut lengths: Vec<usize> = (0..=12).collect();
+    lengths.extend(SPACE - 12..=SPACE + 12);
+    for power in 4..16 {
+        lengths.extend([(1 << power) - 1, 1 << power, (1 << power) + 1]);
+    }
+    // The low or high byte alone would be long enough, or too short.
+    lengths.extend([0x3b00, 0x3bff, 0x3c00, 0x3cff, 0x3d00, 0x003c, 0x013c]);
+    lengths.extend([2_560, 65_534, 65_535]);
+    lengths.into_iter().map(space).collect()
+}
+
+/// A short list that leaves orders, sweeps and leg orders live, a shut leg, an
+/// auction and depth at two prices, with empty frames, short spaces and a frame
+/// of 300 bytes in it.
+fn short_list() -> Vec<u8> {
+    let frames: &[&[u8]] = &[
+        &[6, 0, 6, 0, 0, 1],
+        &[6, 0, 6, 0, 1, 1],
+        &[11, 0, 1, 0, 2, 0, 0, 1, 1, 1, 1],
+        &[14, 0, 1, 0, 3, 9, 0, 1, 3, 1, 1, 0, 1, 1],
+        &[14, 0, 4, 0, 7, 0, 0, 0, 5, 0, 44, 1, 0, 0],
+        &[14, 0, 4, 0, 7, 0, 0, 0, 5, 0, 43, 1, 0, 0],
+        &[14, 0, 4, 0, 7, 0, 1, 1, 5, 0, 100, 0, 0, 0],
+        &[16, 0, 2, 0, 9, 0, 0, 0, 1, 0, 2, 0, 250, 0, 0, 0],
+        &[14, 0, 3, 0, 3, 0, 0, 1, 1, 0, 240, 0, 0, 0],
+    ];
+    let mut bytes = call(&[], SPACE);
+    for (index, frame) in frames.iter().enumerate() {
+        bytes.extend(call(frame, SPACE + index % 2));
+        if index % 4 == 0 {
+            bytes.extend(call(&[], 0));
+            bytes.extend(call(frame, SPACE - 1));
+        }
+    }
+    bytes.extend(call(&[6; 300], SPACE));
+    bytes
+}
+
+/// The short list cut after each of its bytes, and with one to three bytes after
+/// it; and inputs of few bytes.
+pub fn ends() -> Vec<List> {
+    let list = short_list();
+    let mut lists: Vec<List> = (0..=list.len())
+        .map(|length| {
+            let name = format!("the short list cut to {length} bytes");
+            made(name, list[..length].to_vec())
+        })
+        .collect();
+    for byte in [0, 1, 6, 60, 255] {
+        for length in 1..=5 {
+            let end = vec![byte; length];
+            let name = format!("the bytes {end:?}");
+            let after = [&list[..], &end].concat();
+            lists.push(made(format!("the short list and {name}"), after));
+            lists.push(made(name, end));
+        }
+    }
+    lists
+}
+
+/// Frames of up to 65,535 bytes, their length field right or wrong, each with a
+/// valid call after it; then one that is cut.
+pub fn long_frames() -> Vec<List> {
+    let open = [6, 0, 6, 0, 3, 1];
+    let mut lists = Vec::new();
+    for length in [
+        255u16, 256, 257, 1_000, 4_096, 32_767, 32_768, 65_534, 65_535,
+    ] {
+        for field in [length, length.wrapping_add(1), 6] {
+            for kind in 0..=9 {
+                let mut frame = vec![1; usize::from(length)];
+                frame[..2].copy_from_slice(&field.to_le_bytes());
+                frame[2..4].copy_from_slice(&[kind, 0]);
+                let mut bytes = Vec::new();
+                for space in [SPACE, 0, 65_535] {
+                    bytes.extend(call(&frame, space));
+                    bytes.extend(call(&open, SPACE));
+                }
+                let last = call(&frame, SPACE);
+                bytes.extend(&last[..last.len() - usize::from(kind)]);
+                let name = format!("frames of {length} bytes, kind {kind}, length field {field}");
+                lists.push(made(name, bytes));
+            }
+        }
+    }
+    lists
+}
+
+/// Lists after which number 100,000 is live: a complex order, a sweep, a leg
+/// order. The numbers before it go to immediate orders in a strategy whose series
+/// are shut, which are cancelled at once.
+pub fn last_numbers() -> Vec<List> {
+    let order: &[u8] = &[16, 0, 2, 0, 9, 0, 1, 0, 3, 0, 2, 0, 250, 0, 0, 0];
+    let sweep: &[u8] = &[14, 0, 3, 0, 3, 0, 0, 1, 1, 0, 240, 0, 0, 0];
+    let leg_order: &[u8] = &[14, 0, 4, 0, 7, 0, 0, 0, 5, 0, 43, 1, 0, 0];
+    let mut immediate = order.to_vec();
+    immediate[9] = 1;
+    let mut before = whole(&[
+        &[6, 0, 6, 0, 0, 1],
+        &[6, 0, 6, 0, 1, 1],
+        &[11, 0, 1, 0, 2, 0, 0, 1, 1, 1, 1],
+        &[11, 0, 1, 0, 2, 2, 0, 1, 3, 1, 1],
+        leg_order,
+        &[14, 0, 4, 0, 7, 0, 1, 1, 5, 0, 100, 0, 0, 0],
+        // The starter of an auction in strategy 0.
+        &[16, 0, 2, 0, 9, 0, 0, 0, 1, 0, 2, 0, 250, 0, 0, 0],
+    ]);
+    for _ in 4..100_000 {
+        before.extend(call(&immediate, SPACE));
+    }
+    [
+        ("a complex order", order),
+        ("a sweep", sweep),
+        ("a leg order", leg_order),
+    ]
+    .into_iter()
+    .map(|(what, last)| {
+        let after = whole(&[last, order, sweep, leg_order, &immediate]);
+        let name = format!("number 100,000 is {what}");
+        made(name, [&before[..], &after].concat())
+    })
+    .collect()
+}
+
+/// A day as calls, whole and up to the call after which the most is live.
+fn of_day(day: &Day) -> Vec<List> {
+    let bytes = day.bytes();
+    let frames = frames(&bytes);
+    let mut book = Book::first();
+    let mut fullest = (0, 0);
+    for (index, frame) in frames.iter().enumerate() {
+        book.step(frame, SPACE);
+        fullest = fullest.max((book.live_numbers().len(), index + 1));
+    }
+    let cut = &frames[..fullest.1];
+    vec![
+        made(format!("{day}"), whole(&frames)),
+        made(format!("{day}, up to its fullest state"), whole(cut)),
+    ]
+}
+
+pub fn days() -> Vec<List> {
+    let mut days = full_tables();
+    days.extend(extremes());
+    days.iter().flat_map(of_day).collect()
+}

@@ -1,0 +1,367 @@
+//! The comparison finds slips in `calls`: the reckoning's sources with one edit
+//! each are built anew, and their `calls` has to differ from the reckoning's.
+
+#![forbid(unsafe_code)]
+#![deny(warnings)]
+
+use calls::agree::{agrees, difference, reckoned};
+use calls::hand::{days, ends, last_numbers, spaces};
+use calls::lists::{generated, several_days, List};
+use std::fs;
+use std::path::Path;
+use std::time::Duration;
+use tapes::program::Program;
+use tapes::slips::{built, Slip};
+
+const SLIPS: &[Slip] = &[
+    // Live quantity.
+    (
+        "live quantity without sweeps",
+        "calls.rs",
+        "    for number in book.live_numbers() {\n",
+        "    let sweeps = || book.sweeps.iter().map(|sweep| sweep.number);\n    for number in book.live_numbers().into_iter().filter(|number| sweeps().all(|sweep| sweep != *number)) {\n",
+    ),
+    (
+        "live quantity without leg orders",
+        "calls.rs",
+        "    for number in book.live_numbers() {\n",
+        "    let legs = || book.leg_orders.iter().map(|order| order.number);\n    for number in book.live_numbers().into_iter().filter(|number| legs().all(|leg| leg != *number)) {\n",
+    ),
+    (
+        "live quantity without the starters of auctions",
+        "calls.rs",
+        "    for number in book.live_numbers() {\n",
+        "    let starters = || book.auctions.iter().flatten().map(|auction| auction.starter);\n    for number in book.live_numbers().into_iter().filter(|number| starters().all(|starter| starter != *number)) {\n",
+    ),
+    (
+        "live numbers by table",
+        "book.rs",
+        "        numbers.sort_unstable();\n        numbers\n",
+        "        numbers\n",
+    ),
+    (
+        "numbers with nothing live",
+        "calls.rs",
+        "    for number in book.live_numbers() {\n",
+        "    for number in 1..=book.given {\n",
+    ),
+    (
+        "live numbers up to 99,999",
+        "calls.rs",
+        "    for number in book.live_numbers() {\n",
+        "    for number in book.live_numbers().into_iter().filter(|number| *number < 100_000) {\n",
+    ),
+    // Shut legs.
+    (
+        "the highest shut series",
+        "book.rs",
+        "Ok((shut.count_ones(), shut.trailing_zeros()))",
+        "Ok((shut.count_ones(), if shut == 0 { 32 } else { 31 - shut.leading_zeros() }))",
+    ),
+    (
+        "open legs counted",
+        "book.rs",
+        "let shut = held.series_set() & !self.open;",
+        "let shut = held.series_set() & self.open;",
+    ),
+    (
+        "the lowest shut series of all",
+        "book.rs",
+        "Ok((shut.count_ones(), shut.trailing_zeros()))",
+        "Ok((shut.count_ones(), if shut == 0 { 32 } else { (!self.open).trailing_zeros() }))",
+    ),
+    (
+        "0 when none is shut",
+        "book.rs",
+        "Ok((shut.count_ones(), shut.trailing_zeros()))",
+        "Ok((shut.count_ones(), shut.trailing_zeros() % 32))",
+    ),
+    (
+        "one shut leg for several",
+        "book.rs",
+        "Ok((shut.count_ones(), shut.trailing_zeros()))",
+        "Ok((shut.count_ones().min(1), shut.trailing_zeros()))",
+    ),
+    (
+        "strategies with a shut leg only",
+        "calls.rs",
+        "            writeln!(output, \"S {strategy} {count} {lowest}\")?;\n",
+        "            if count > 0 { writeln!(output, \"S {strategy} {count} {lowest}\")?; }\n",
+    ),
+    (
+        "strategies that are not defined",
+        "book.rs",
+        "            None => Err(4),\n",
+        "            None if strategy > 14 => Ok((0, 32)),\n            None => Err(4),\n",
+    ),
+    (
+        "strategy 15 left out",
+        "calls.rs",
+        "for strategy in 0..STRATEGIES as u32 {",
+        "for strategy in 0..STRATEGIES as u32 - 1 {",
+    ),
+    // Depth.
+    (
+        "the worse price",
+        "book.rs",
+        "    let best = if side == u32::from(BUY) {",
+        "    let best = if side != u32::from(BUY) {",
+    ),
+    (
+        "contracts at all prices",
+        "book.rs",
+        "            .filter(|entry| entry.price == price)\n",
+        "            .filter(|entry| entry.price == price || price > 0)\n",
+    ),
+    (
+        "contracts of the first order",
+        "book.rs",
+        "            .filter(|entry| entry.price == price)\n",
+        "            .filter(|entry| entry.price == price)\n            .take(1)\n",
+    ),
+    (
+        "open series only",
+        "calls.rs",
+        "            if let Some((price, contracts)) = found {",
+        "            if let Some((price, contracts)) = found.filter(|_| book.is_open(series as u8)) {",
+    ),
+    (
+        "offers before bids",
+        "calls.rs",
+        "        for side in 0..2 {\n",
+        "        for side in [1, 0] {\n",
+    ),
+    (
+        "series 31 left out",
+        "calls.rs",
+        "for series in 0..u32::from(SERIES) {",
+        "for series in 0..u32::from(SERIES) - 1 {",
+    ),
+    (
+        "depth before shut legs",
+        "calls.rs",
+        "    for strategy in 0..STRATEGIES as u32 {\n        if let Ok((count, lowest)) = book.shut_legs(strategy) {\n            writeln!(output, \"S {strategy} {count} {lowest}\")?;\n        }\n    }\n    let row = book.row();\n    for series in 0..u32::from(SERIES) {\n        for side in 0..2 {\n            let found = depth(&row, series, side).expect(\"the book's own row has its ranges\");\n            if let Some((price, contracts)) = found {\n                writeln!(output, \"D {series} {side} {price} {contracts}\")?;\n            }\n        }\n    }\n",
+        "    let row = book.row();\n    for series in 0..u32::from(SERIES) {\n        for side in 0..2 {\n            let found = depth(&row, series, side).expect(\"the book's own row has its ranges\");\n            if let Some((price, contracts)) = found {\n                writeln!(output, \"D {series} {side} {price} {contracts}\")?;\n            }\n        }\n    }\n    for strategy in 0..STRATEGIES as u32 {\n        if let Ok((count, lowest)) = book.shut_legs(strategy) {\n            writeln!(output, \"S {strategy} {count} {lowest}\")?;\n        }\n    }\n",
+    ),
+    // Refusal 1 and the spaces.
+    (
+        "refusal 1 after 2",
+        "events.rs",
+        "match (causes.iter().min(), event) {",
+        "match (causes.iter().min_by_key(|cause| if **cause == 1 { 5 } else { 2 * **cause }), event) {",
+    ),
+    (
+        "refusal 1 after 3",
+        "events.rs",
+        "match (causes.iter().min(), event) {",
+        "match (causes.iter().min_by_key(|cause| if **cause == 1 { 7 } else { 2 * **cause }), event) {",
+    ),
+    (
+        "refusal 1 after all others",
+        "events.rs",
+        "match (causes.iter().min(), event) {",
+        "match (causes.iter().min_by_key(|cause| if **cause == 1 { 14 } else { **cause }), event) {",
+    ),
+    (
+        "a space of 15,359 accepted",
+        "events.rs",
+        "        if space < SPACE {\n",
+        "        if space + 1 < SPACE {\n",
+    ),
+    (
+        "a space of 15,360 refused",
+        "events.rs",
+        "        if space < SPACE {\n",
+        "        if space <= SPACE {\n",
+    ),
+    (
+        "only the records needed have to fit",
+        "events.rs",
+        "        if space < SPACE {\n",
+        "        if space < 6 {\n",
+    ),
+    (
+        "a longer space refused",
+        "calls.rs",
+        "let lent = call.space.min(SPACE);",
+        "let lent = if call.space > SPACE { 0 } else { call.space };",
+    ),
+    (
+        "a space with its bytes exchanged",
+        "calls.rs",
+        "let space = usize::from(u16::from_le_bytes([*m0, *m1]));",
+        "let space = usize::from(u16::from_be_bytes([*m0, *m1]));",
+    ),
+    (
+        "a signed space",
+        "calls.rs",
+        "let lent = call.space.min(SPACE);",
+        "let lent = if call.space > 32_767 { 0 } else { call.space.min(SPACE) };",
+    ),
+    (
+        "a call refused 1 that changes the book",
+        "events.rs",
+        "        let event = read(frame);\n",
+        "        let event = read(frame);\n        if let (true, Ok(event)) = (space < SPACE, &event) {\n            if self.causes(event).is_empty() {\n                self.accept(event, &mut Vec::new());\n            }\n        }\n",
+    ),
+    (
+        "a number taken by a refused call",
+        "events.rs",
+        "            (smallest, _) => Answer {\n                answer: *smallest.expect(\"a refused frame has a cause\"),\n                value: 0,\n                records: Vec::new(),\n            },\n",
+        "            (smallest, event) => {\n                if let Ok(Event::LegOrder { .. }) = event {\n                    self.given = (self.given + 1).min(LAST_NUMBER);\n                }\n                Answer {\n                    answer: *smallest.expect(\"a refused frame has a cause\"),\n                    value: 0,\n                    records: Vec::new(),\n                }\n            }\n",
+    ),
+    // Items, the end of the input, the day end.
+    (
+        "cut not printed",
+        "calls.rs",
+        "    if cut {\n",
+        "    if cut && items.len() > usize::MAX - 1 {\n",
+    ),
+    (
+        "cut printed at every end",
+        "calls.rs",
+        "    if cut {\n",
+        "    if cut || !items.is_empty() {\n",
+    ),
+    (
+        "no cut inside the lengths",
+        "calls.rs",
+        "(items, !rest.is_empty())",
+        "(items, rest.len() >= 4)",
+    ),
+    (
+        "no cut inside a frame",
+        "calls.rs",
+        "(items, !rest.is_empty())",
+        "(items, (1..4).contains(&rest.len()))",
+    ),
+    (
+        "no lookups after a cut",
+        "calls.rs",
+        "    put_lookups(&book, output)?;\n    Ok(book)\n",
+        "    if !cut {\n        put_lookups(&book, output)?;\n    }\n    Ok(book)\n",
+    ),
+    (
+        "lookups after a cut only",
+        "calls.rs",
+        "    put_lookups(&book, output)?;\n    Ok(book)\n",
+        "    if cut {\n        put_lookups(&book, output)?;\n    }\n    Ok(book)\n",
+    ),
+    (
+        "lookups of the first book",
+        "calls.rs",
+        "    put_lookups(&book, output)?;\n    Ok(book)\n",
+        "    put_lookups(&Book::first(), output)?;\n    Ok(book)\n",
+    ),
+    (
+        "a frame that is cut, played",
+        "calls.rs",
+        "        if length > after.len() {\n            break;\n        }\n        let (frame, next) = after.split_at(length);\n",
+        "        let (frame, next) = after.split_at(length.min(after.len()));\n",
+    ),
+    (
+        "an empty frame ends the list",
+        "calls.rs",
+        "        if length > after.len() {\n",
+        "        if length == 0 || length > after.len() {\n",
+    ),
+    (
+        "the frame's own length taken",
+        "calls.rs",
+        "        let frame = frame.to_vec();\n        items.push",
+        "        let own = if length < 2 { length } else { usize::from(u16::from_le_bytes([frame[0], frame[1]])) };\n        let frame = frame[..own.min(length)].to_vec();\n        items.push",
+    ),
+    (
+        "lengths of one byte",
+        "calls.rs",
+        "let length = usize::from(u16::from_le_bytes([*n0, *n1]));",
+        "let length = usize::from(*n0) + 0 * usize::from(*n1);",
+    ),
+    (
+        "the list stops at a day end",
+        "calls.rs",
+        "        put_answer(index, &answer, output)?;\n",
+        "        put_answer(index, &answer, output)?;\n        if answer.answer == 0 && call.frame[2] == 8 {\n            break;\n        }\n",
+    ),
+    (
+        "the index from 0 after a refusal 1",
+        "calls.rs",
+        "        put_answer(index, &answer, output)?;\n",
+        "        put_answer(if answer.answer == 1 { 0 } else { index }, &answer, output)?;\n",
+    ),
+];
+
+/// A part of the lists that the proved program is compared on.
+fn lists() -> Vec<List> {
+    let mut lists: Vec<List> = spaces().into_iter().step_by(5).collect();
+    lists.extend(ends().into_iter().step_by(20));
+    lists.extend(generated(35));
+    lists.extend(several_days(7));
+    lists.extend(days());
+    lists.extend(last_numbers());
+    lists
+}
+
+#[test]
+fn slips_in_calls_are_found() {
+    let lists = lists();
+    let folder = Path::new(env!("CARGO_TARGET_TMPDIR")).join("slips");
+    fs::remove_dir_all(&folder).ok();
+    let unchanged = ("none", "lib.rs", "pub mod calls;\n", "pub mod calls;\n");
+    let program = Program::new(built(&folder, "calls", &unchanged), &[]);
+    if let Err(different) = agrees(&program, &lists) {
+        panic!("without an edit: {different}");
+    }
+    let mut missed = Vec::new();
+    for slip in SLIPS {
+        let mut program = Program::new(built(&folder, "calls", slip), &[]);
+        program.limit = Duration::from_secs(60);
+        match agrees(&program, &lists) {
+            Ok(_) => missed.push(slip.0),
+            Err(different) => println!("{}: {different}", slip.0),
+        }
+    }
+    assert!(missed.is_empty(), "slips not found: {missed:#?}");
+    println!("slips found: {}", SLIPS.len());
+    assert!(SLIPS.len() >= 40);
+}
+
+#[test]
+fn a_program_that_is_missing_is_a_failure() {
+    let program = Program::new("/no/such/calls", &[]);
+    let said = match agrees(&program, &generated(1)) {
+        Ok(_) => String::new(),
+        Err(different) => different.to_string(),
+    };
+    assert!(said.contains("/no/such/calls cannot be run"), "{said}");
+}
+
+#[test]
+fn the_first_line_that_differs_is_shown_with_its_call() {
+    let input = [6, 0, 0, 60, 6, 0, 6, 0, 0, 1, 0, 0, 1, 0];
+    let (right, _) = reckoned(&input);
+    assert_eq!(right, b"E 0 0 0 0\nE 1 1 0 0\n");
+    let said = |printed: &str| difference(&input, printed.as_bytes(), &right).unwrap_or_default();
+    assert_eq!(said("E 0 0 0 0\nE 1 1 0 0\n"), "");
+    assert_eq!(
+        said("E 0 0 0 0\nE 1 2 0 0\n"),
+        "call 1 of 2, line 2
+  call:      space 1, frame 
+  calls:     E 1 2 0 0
+  reckoning: E 1 1 0 0"
+    );
+    assert_eq!(
+        said("E 0 0 0 0\nE 1 1 0 0\ncut\n"),
+        "call 2 of 2, line 3
+  call:      none
+  calls:     cut
+  reckoning: no line"
+    );
+    assert_eq!(
+        said("E 0 2 0 0\n"),
+        "call 0 of 2, line 1
+  call:      space 15360, frame 06 00 06 00 00 01
+  calls:     E 0 2 0 0
+  reckoning: E 0 0 0 0"
+    );
+}
