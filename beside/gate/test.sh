@@ -37,7 +37,7 @@ says_and_fails() {
 # on standard input; it ends with the status, the last line LAST, and one line
 # of the summary is the words ('' where there are none to be).
 gate() {
-    local status=$1 last=$2 words=$3
+    local ends=$1 last=$2 words=$3
     cat >"$out/counts.txt"
     (
         counts=$out/counts.txt
@@ -46,7 +46,7 @@ gate() {
         "$4"
         finish
     ) >"$out/printed"
-    [ $? -eq "$status" ] && [ "$(tail -n 1 "$out/printed")" = "$last" ] || return 1
+    [ $? -eq "$ends" ] && [ "$(tail -n 1 "$out/printed")" = "$last" ] || return 1
     if [ -n "$words" ]; then
         sed '1,/^== summary$/d' "$out/printed" | grep -qxF -- "$words"
     else

@@ -40,8 +40,8 @@ pub enum End {
     Shut,
     /// A strategy has two shut legs or more, and leg orders are live.
     ShutLegs,
-    /// A side of a series has leg orders at three prices or more, two of them at
-    /// the best.
+    /// A side of a series has leg orders at three prices or more, and several of
+    /// them at the best.
     Depth,
     /// The table of complex orders or of leg orders is full.
     Full,

@@ -305,7 +305,7 @@ fn lists() -> Vec<List> {
 #[test]
 fn slips_in_calls_are_found() {
     let lists = lists();
-    let folder = Path::new(env!("CARGO_TARGET_TMPDIR")).join("slips");
+    let folder = Path::new(env!("CARGO_TARGET_TMPDIR")).join("slips-of-calls");
     fs::remove_dir_all(&folder).ok();
     let unchanged = ("none", "lib.rs", "pub mod calls;\n", "pub mod calls;\n");
     let program = Program::new(built(&folder, "calls", &unchanged), &[]);
