@@ -10,5 +10,5 @@ passes-legs-spec =
     tie.close
     (tie.spec
     (λ c κs. search needs)
-    (λ c. search (tests, told (c .before .open-with .ensures) (c .if1 .taken)))
+    (λ c. search (tests, told (c .before .before .open-with .ensures) (c .before .if1 .taken)))
     (λ c. search (tests, told (c .before .open-with .ensures) (c .if1 .left))))
