@@ -169,9 +169,10 @@ unfolding run after outcome
 follows v (no-call b) = record { log = refl; left = refl; whole = all-nil }
 follows v (a-call b frame s t x w cs end r) =
     let h : Follows (x .book) cs end = follows (w .valid) r in
+    let e = h .log ∙ ap (λ (y : State). run y (map sentOf cs)) (w .state) in
     record {
-      log = rw (seen-is (b .state) v frame s t x w, h .log, w .state);
-      left = rw (← w .state) (h .left);
+      log = rw (seen-is (b .state) v frame s t x w, e);
+      left = h .left ∙ ap (λ (y : State). after y (map sentOf cs)) (w .state);
       whole = all-cons (whole-is (b .state) v frame s t x w) (h .whole);
     }
 

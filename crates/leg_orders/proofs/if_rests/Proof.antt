@@ -14,7 +14,7 @@ returns : tie.Need-returns
 returns c = done-of (rests-not _ _ _ (c .if1 .taken)) (done-still _ _ _)
 
 leg-passes-requires : tie.Need-leg-passes-requires
-leg-passes-requires c κs = ((c .before .before .before .before .pre .0 .0, c .before .before .before .before .pre .0 .2), room-of (rests-yes _ _ _ (c .before .if1 .left)) (c .before .before .before .before .pre .1))
+leg-passes-requires c κs = (c .before .before .before .before .pre .0 .1, room-of (rests-yes _ _ _ (c .before .if1 .left)) (c .before .before .before .before .pre .1))
 
 same-length : tie.Need-same-length
 same-length c = search needs
