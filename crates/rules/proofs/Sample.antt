@@ -41,6 +41,17 @@ pub sample-came : map Totals.brought day
 unfolding Examples.performed Records.lineOf Records.cents Totals.outcome Totals.run Totals.enters Totals.entersRead Totals.brought
 sample-came = refl
 
+-- the records of the day, which are those that document 01 prints: "R 1 3 0 0 2 200", "R 2 3 0 0 2 300", "R 2 3 1 1 2 100",
+-- "R 2 1 0 1 2 300", "R 2 2 1 0 2 100"
+pub sample-lines : Totals.linesOf day
+    ≡ record { kind = 1; number = 3; place = 0; side = 0; quantity = 2; price = pos 200 }
+    ∷ (record { kind = 2; number = 3; place = 0; side = 0; quantity = 2; price = pos 300 }
+    ∷ (record { kind = 2; number = 3; place = 1; side = 1; quantity = 2; price = pos 100 }
+    ∷ (record { kind = 2; number = 1; place = 0; side = 1; quantity = 2; price = pos 300 }
+    ∷ (record { kind = 2; number = 2; place = 1; side = 0; quantity = 2; price = pos 100 } ∷ []))))
+unfolding Examples.performed Records.lineOf Records.cents Totals.outcome Totals.run Totals.linesOf
+sample-lines = refl
+
 -- the totals of the day that are not 0: 2 units filled of number 3, 2 contracts of series 0 bought, 6.00 paid and received; 3 contracts of
 -- each leg order are live
 pub record Moves : Type 0 where
