@@ -1,13 +1,14 @@
 -- Laws of the table.
-use mathlib.Core.Path.{_≡_, refl, _∙_}
+use mathlib.Core.Path.{_≡_, refl, sym, _∙_, ap}
 use mathlib.Core.Bool.{Bool, true, false}
 use mathlib.Core.List.{List, [], _∷_}
 use Prim.Native.Nat.{ℕ, zero, suc, _+_, _*_, _-_, _%_, _^_, _≤_, _<_}
 use native.Mathlib.Nat.{pow-le-pow-right}
 use native.Mathlib.Omega.{arith}
-use borrow.Author.Tests.{ltb-true, leb-true, eqb-true, lt-ltb, le-ltb}
+use borrow.Author.Tests.{ltb-true, ltb-false, leb-true, eqb-true, lt-ltb, le-ltb}
 use lib.Dec.{ltb, leb, eqb}
-use lib.ListN.{getD}
+use lib.ListN.{getD, drop, replicate}
+use lib.Seq.{getD-drop}
 use Rattle.base.specs.Pick.{pick, pick-all, pick-by, pick-yes, pick-true, pick-false}
 use Rattle.events.specs.Fields.{width, high, bias, none, rawOf, layout, presentOf, offset, fitN, fit-at, Narrow}
 use Rattle.events.specs.Kinds.{lengthOf}
@@ -243,3 +244,42 @@ module _ (e : Event) (t : fitting e ≡ true) where
       let v : getD (rowOf e) i 0 ≤ high (layoutOf (kindIn e) (getD (rowOf e) 0 0) i) = fit-at (layoutIn e) (rowOf e) 19 i l t .1 in
       let u : getD (rowOf e) i 0 ≤ 0 = rw z at v in
       omega arith
+
+-- WHICH FIELDS A FRAME HAS, by its kind.
+
+none-all : (r i : ℕ) → getD (replicate r none) i none ≡ none
+none-all zero i = refl
+none-all (suc r) zero = refl
+none-all (suc r) (suc i) = none-all r i
+
+-- what stands past the fields of a table
+past-none : (fs : List Field) (m r : ℕ) → drop m fs ≡ replicate r none → (i : ℕ) → m ≤ i → getD fs i none ≡ none
+past-none fs m r h i l =
+    let e : i ≡ m + (i - m) = omega arith in
+    rw e (sym (getD-drop m fs (i - m) none) ∙ ap (λ (gs : List Field). getD gs (i - m) none) h ∙ none-all r (i - m))
+
+-- a field is there, or it is none
+present-all : (fs : List Field) (m r : ℕ) → drop m fs ≡ replicate r none → (i : ℕ) → layout fs m i ≡ getD fs i none
+unfolding layout presentOf
+present-all fs m r h i =
+    pick-by (λ (x : Field). x ≡ getD fs i none) (ltb i m) (λ t. refl) (λ t. sym (past-none fs m r h i (ltb-false i m t)))
+
+-- "leg count (1) 2–6; per leg series (1) 0–31, side (1), ratio (1) 1–12": a strategy's count, and three fields for each of its n legs
+pub strategy-fields : (n i : ℕ) → layoutOf K.Strategy n i ≡ pick (ltb i (1 + 3 * n)) (getD (fieldsOf K.Strategy) i none) none
+unfolding layoutOf layout presentOf lengthOf pick
+strategy-fields n i =
+    let e : 5 + 3 * n - 4 ≡ 1 + 3 * n = omega arith in
+    rw e
+
+-- a frame of another kind has all the fields of its table
+pub fixed-fields : (k : Kind) → (k ≡ K.Strategy → ⊥) → (k ≡ K.Unknown → ⊥) → (n i : ℕ) → layoutOf k n i ≡ getD (fieldsOf k) i none
+unfolding layoutOf lengthOf pick
+fixed-fields K.Strategy s u n i = absurd (s refl)
+fixed-fields K.Order s u n i = present-all _ 12 7 refl i
+fixed-fields K.Sweep s u n i = present-all _ 10 9 refl i
+fixed-fields K.LegOrder s u n i = present-all _ 10 9 refl i
+fixed-fields K.Cancel s u n i = present-all _ 6 13 refl i
+fixed-fields K.Series s u n i = present-all _ 2 17 refl i
+fixed-fields K.Clock s u n i = present-all _ 4 15 refl i
+fixed-fields K.DayEnd s u n i = present-all _ 2 17 refl i
+fixed-fields K.Unknown s u n i = absurd (u refl)

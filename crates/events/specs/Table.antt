@@ -100,6 +100,7 @@ fieldsOf K.Clock = time ∷ replicate 18 none
 fieldsOf K.DayEnd = timer ∷ replicate 18 none
 fieldsOf K.Unknown = replicate 19 none
 
--- the fields of a frame of a kind whose first field is n: each has at least a byte, so no more than the bytes past the fourth are there
+-- the fields of a frame of a kind whose first field is n: of its table those that the bytes past the fourth can hold, one byte each at least.
+-- So a strategy has its count and three for each leg (Laws.strategy-fields), another kind all of its table (Laws.fixed-fields)
 unfoldable pub layoutOf : Kind → ℕ → ℕ → Field
 layoutOf k n = layout (fieldsOf k) (lengthOf k n - 4)

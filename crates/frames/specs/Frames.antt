@@ -12,6 +12,7 @@ use Rattle.events.specs.Rows.{kindIn, rowOf, eventOf, layoutIn, fitting, length
 use Rattle.frames.specs.Number.{number, bytes}
 use Rattle.frames.specs.Bodies.{rowN, bodyN}
 use Rattle.events.specs.declared.Kind.{Kind}
+use Rattle.events.specs.declared.Field.{Field}
 use Rattle.events.specs.declared.Event.{Event}
 use Rattle.events.specs.declared.Reading.{Reading}
 use Rattle.events.specs.declared.Reading.the-variants as R
@@ -26,17 +27,25 @@ kindAt f = kindOf (number 2 f 2)
 abbrev pub countAt : List ℕ → ℕ
 countAt f = getD f 4 0
 
+-- the length that a frame of its kind and count has
+abbrev pub lengthAt : List ℕ → ℕ
+lengthAt f = lengthOf (kindAt f) (countAt f)
+
+-- its fields: a strategy's count and three for each leg, those of its table for another kind
+abbrev pub fieldsAt : List ℕ → ℕ → Field
+fieldsAt f = layoutOf (kindAt f) (countAt f)
+
 -- the values of a frame's fields
 unfoldable pub rowAt : List ℕ → List ℕ
-rowAt f = rowN (layoutOf (kindAt f) (countAt f)) f 19
+rowAt f = rowN (fieldsAt f) f 19
 
 -- "under 4 bytes, length not the frame's, unknown kind, wrong length for kind: 2", then "a field outside its range: 3"; else 0
 unfoldable pub judgeOf : List ℕ → ℕ
 judgeOf f =
     pick (ltb (length f) 4) 2
     (pick (eqb (number 2 f 0) (length f))
-    (pick (eqb (lengthOf (kindAt f) (countAt f)) (length f))
-    (pick (fitN (layoutOf (kindAt f) (countAt f)) (rowAt f) 19) 0 3)
+    (pick (eqb (lengthAt f) (length f))
+    (pick (fitN (fieldsAt f) (rowAt f) 19) 0 3)
     2)
     2)
 
