@@ -52,7 +52,7 @@ row-slot vs i = rw (add-comm i 1) (sym (getD-drop 1 vs i 0))
 pub row-last : (vs : List ℕ) {row : List ℕ} → 19 ≤ length (drop 1 vs) → row ≡ table (slot (drop 1 vs)) 19 → row ≡ take 19 (drop 1 vs)
 row-last vs h q = q ∙ table-take (drop 1 vs) 19 h
 
--- "always above 3": the lengths that are answered
+-- the lengths that are answered are above 3, so that they are told from refusals
 pub length-small : (e : Event) (room n : ℕ) → writtenOf e room ≡ W.Length n → (4 ≤ n) × (n ≤ 23)
 length-small e room n r =
     let a = accepted e room n r in

@@ -39,7 +39,7 @@ fieldsAt f = layoutOf (kindAt f) (countAt f)
 unfoldable pub rowAt : List ℕ → List ℕ
 rowAt f = rowN (fieldsAt f) f 19
 
--- "under 4 bytes, length not the frame's, unknown kind, wrong length for kind: 2", then "a field outside its range: 3"; else 0
+-- 2: "under 4 bytes, length not the frame's, unknown kind, wrong length for kind"; then 3: "a field outside its range"; else 0
 unfoldable pub judgeOf : List ℕ → ℕ
 judgeOf f =
     pick (ltb (length f) 4) 2

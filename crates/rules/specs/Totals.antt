@@ -215,7 +215,7 @@ isDayEnd (R.Event (E.DayEnd e)) = true
 unfoldable pub endsDay : Logged → Bool
 endsDay x = pick (eqb (x .answer) 0) (isDayEnd (x .reading)) false
 
--- "with nothing after an accepted day end": it may be the last
+-- in the words of demand 3, "with nothing after an accepted day end": it may be the last
 abbrev pub OneDay : List Logged → Type 0
 OneDay [] = Unit {0}
 OneDay (x ∷ []) = Unit {0}
