@@ -11,7 +11,7 @@ use rules::Leg;
 use tables::NO_LEG;
 
 // The greatest common divisor by Euclid's step.
-pub fn gcd(a: u8, b: u8) -> u8
+fn gcd(a: u8, b: u8) -> u8
     ensures { λ r. ⌜ r ≡ gcd a b ⌝ }
 {
     if b == 0 {
