@@ -52,7 +52,7 @@ refusal-event : (b : State) (e : Event) (space : ℕ) → 15_360 ≤ space → r
 unfolding refusal tableOf readCauses firstCause
 refusal-event b e space h = pick-false _ _ _ (le-ltb space 15_360 h)
 
-refusal-short : (b : State) (r : Reading) (space : ℕ) → space < 15_360 → refusal b r space ≡ 1
+pub refusal-short : (b : State) (r : Reading) (space : ℕ) → space < 15_360 → refusal b r space ≡ 1
 unfolding refusal tableOf firstCause
 refusal-short b r space h = pick-true _ _ _ (lt-ltb space 15_360 h)
 

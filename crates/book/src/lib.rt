@@ -2,7 +2,7 @@
 ghost use mathlib.Core.Path.{_≡_};
 ghost use Rattle.rules.specs.Lookups.{liveQuantity, shutLegs};
 ghost use Rattle.rules.specs.Valid.{Valid};
-ghost use Rattle.lookups.specs.Lookups.{bookDepth};
+ghost use Rattle.lookups.specs.Lookups.{bookDepth, rowOf};
 ghost use Rattle.events.specs.declared.Event.the-variants as E;
 ghost use Rattle.rules.specs.Fits.{FitGiven, FitOrderGiven, FitSweepGiven, FitLegOrderGiven};
 ghost use Rattle.base.specs.Pick.{pick};
@@ -33,6 +33,7 @@ use refusals::sweep_refusal;
 use rules::Answer;
 use rules::Depth;
 use rules::Entry;
+use rules::OrderEntry;
 use rules::Shut;
 use rules::State;
 use series::on_series;
@@ -278,5 +279,14 @@ impl Book {
         let state = self.state;
         let orders = state.orders;
         lookups::depth(orders, series, side)
+    }
+
+    // The leg orders, as a row of order entries to be lent.
+    pub fn order_row(self) -> [OrderEntry; Book::LEG_ORDERS]
+        ensures { λ r. ⌜ r ≡ rowOf (self .state .orders) ⌝ }
+    {
+        let state = self.state;
+        let orders = state.orders;
+        lookups::row_of(orders)
     }
 }

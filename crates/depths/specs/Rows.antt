@@ -1,18 +1,18 @@
 -- The leg orders of a lent row, read entry by entry, and the depth that they give.
 use mathlib.Core.Path.{_≡_, refl, sym, _∙_, ap, fun-ext}
-use mathlib.Core.Bool.{true, false, _&&_, and-true, and-false}
+use mathlib.Core.Bool.{Bool, true, false, _&&_, and-true, and-false}
 use mathlib.Core.Logic.{⊎-elim}
 use mathlib.Core.List.{List, map}
 use Prim.Native.Nat.{ℕ, zero, suc, _+_, _≤_, _<_}
 use native.Mathlib.Numerals.{add-one}
 use native.Mathlib.Omega.{arith}
-use borrow.Author.Tests.{eqb-true, eqb-false, eq-eqb, ltb-false, leb-true, le-ltb, lt-ltb}
+use borrow.Author.Tests.{eqb-true, eqb-false, eq-eqb, ne-eqb, ltb-false, leb-true, le-ltb, lt-ltb, le-leb}
 use lib.Dec.{eqb, ltb}
 use lib.ListN.{length, getD, set, replicate, length-set, List·getD-map, List·getD-eq-default}
 use lib.Seq.{getD-set-same, getD-set-other}
 use Rattle.base.specs.Pick.{pick, pick-all, pick-by, pick-true, pick-false, pick-no, tests}
 use Rattle.base.specs.All.{All, all-at, all-set, all-replicate, all-map}
-use Rattle.base.specs.Walks.{walk, table, sumN, slot, allN, below, lt-or-le, all-holds, all-every}
+use Rattle.base.specs.Walks.{walk, table, sumN, slot, allN, below, lt-or-le, all-holds, all-every, length-table, table-slot}
 use Rattle.rules.specs.declared.LegOrder.{LegOrder}
 use Rattle.rules.specs.declared.OrderEntry.{OrderEntry}
 use Rattle.rules.specs.declared.Depth.{Depth}
@@ -22,7 +22,7 @@ use Rattle.rules.specs.Nets.{stands, priceWith, priceStep, priceOf, lot, lotAt,
 use Rattle.rules.specs.Lookups.{depthOf, noOrderEntry, asOrder, wellFormed, wellFormedAt, rowDepth}
 use Rattle.rules.specs.Valid.{FitOrder}
 use Rattle.nets.specs.Best.{Priced}
-use Rattle.lookups.specs.Lookups.{bookDepth}
+use Rattle.lookups.specs.Lookups.{bookDepth, entryOf, rowAt, rowOf}
 use Rattle.depths.specs.declared.RowOrders.{RowOrders}
 
 -- an order entry as a leg order; an empty one, whatever its other fields, as the empty leg order
@@ -176,20 +176,27 @@ orders-placed row (suc k) l a =
 -- two leg orders that the depth does not tell apart
 data Alike (o p : LegOrder) : Type 0 where
   same : o ≡ p → Alike o p
+  fields : o .series ≡ p .series → o .side ≡ p .side → o .contracts ≡ p .contracts → o .price ≡ p .price → Alike o p
   empty : o .contracts ≡ 0 → p .contracts ≡ 0 → Alike o p
 
 stands-none : (s side : ℕ) (o : LegOrder) → o .contracts ≡ 0 → stands s side o ≡ false
 unfolding stands
 stands-none s side o z = pick-true _ _ _ (eq-eqb _ _ z)
 
+stands-like : (s side : ℕ) (a b : LegOrder) → a .series ≡ b .series → a .side ≡ b .side → a .contracts ≡ b .contracts → stands s side a ≡ stands s side b
+unfolding stands
+stands-like s side a b x y z = rw (x, y, z) refl
+
 price-alike : (s side p : ℕ) (a b : LegOrder) → Alike a b → priceWith s side p a ≡ priceWith s side p b
 unfolding priceWith
 price-alike s side p a b (same e) = ap (priceWith s side p) e
+price-alike s side p a b (fields x y z w) = rw (stands-like s side a b x y z, w) refl
 price-alike s side p a b (empty y z) = pick-false _ _ _ (stands-none s side a y) ∙ sym (pick-false _ _ _ (stands-none s side b z))
 
 lot-alike : (s side p : ℕ) (a b : LegOrder) → Alike a b → lot s side p a ≡ lot s side p b
 unfolding lot
 lot-alike s side p a b (same e) = ap (lot s side p) e
+lot-alike s side p a b (fields x y z w) = rw (stands-like s side a b x y z, w, z) refl
 lot-alike s side p a b (empty y z) = pick-false _ _ _ (stands-none s side a y) ∙ sym (pick-false _ _ _ (stands-none s side b z))
 
 depth-alike : (os ps : List LegOrder) (s side : ℕ) → ((i : ℕ) → Alike (getD os i noOrder) (getD ps i noOrder)) → depthOf os s side ≡ depthOf ps s side
@@ -233,3 +240,36 @@ row-depth row s side l =
     let e = orders-depth row s side l a in
     ap (λ (x : Depth). pick (ltb 31 s) (D.Refused 3) (pick (ltb 1 side) (D.Refused 3) x)) (e ∙ sym (pick-true _ _ _ a) ∙ sym (pick-false _ _ _ short)))
     (λ f. pick-all P _ refl (pick-all P _ refl (pick-all P _ refl (sym (pick-false _ _ _ (sym (orders-fine row (length row)) ∙ f))))))
+
+-- the row of a table of leg orders in their ranges: each entry is well formed, and the leg orders are told by their entries
+entry-formed : (o : LegOrder) → FitOrder o → (0 < o .contracts → 1 ≤ o .price) → wellFormed (entryOf o) ≡ true
+unfolding wellFormed entryOf
+entry-formed o f p =
+    pick-by (λ (t : Bool). t ≡ true) (eqb (o .contracts) 0) (λ z. refl)
+    (λ n. let some = eqb-false (o .contracts) 0 n in
+    let live = p (omega arith) in
+    pick-false _ _ _ (le-ltb 31 (o .series) (omega (arith, f .series)))
+    ∙ pick-false _ _ _ (le-ltb 1 (o .side) (f .side))
+    ∙ pick-false _ _ _ (le-ltb 9999 (o .contracts) (f .contracts))
+    ∙ pick-false _ _ _ (ne-eqb (o .price) 0 (λ z. omega arith))
+    ∙ le-leb (o .price) 99_999 (f .price))
+
+row-like : (os : List LegOrder) → length os ≡ 32 → (i : ℕ) → Alike (getD (map asOrder (rowOf os)) i noOrder) (getD os i noOrder)
+unfolding rowOf entryOf
+row-like os l i =
+    rw (List·getD-map asOrder (table (rowAt os) 32) i noOrderEntry)
+    (⊎-elim (λ h. rw (table-slot (rowAt os) noOrderEntry 32 i h) (fields refl refl refl refl))
+    (λ h. let m : length (table (rowAt os) 32) ≤ i = omega (arith, length-table (rowAt os) 32) in
+    let k : length os ≤ i = omega arith in
+    rw (List·getD-eq-default (table (rowAt os) 32) noOrderEntry m, List·getD-eq-default os noOrder k) (same refl))
+    (lt-or-le i 32))
+
+-- the depth of the table's row is the table's
+pub row-agrees : (os : List LegOrder) (s side : ℕ) → length os ≡ 32 → All FitOrder os → Priced os → rowDepth (rowOf os) s side ≡ bookDepth os s side
+unfolding rowDepth bookDepth rowOf
+row-agrees os s side l f p =
+    let n : length (table (rowAt os) 32) ≡ 32 = length-table (rowAt os) 32 in
+    let fine : allN (wellFormedAt (table (rowAt os) 32)) (length (table (rowAt os) 32)) ≡ true =
+    all-every _ _ (λ i h. ap wellFormed (table-slot (rowAt os) noOrderEntry 32 i (omega arith)) ∙ entry-formed (getD os i noOrder) (all-at noOrder (no-order-sound .fit) f i) (p .at i)) in
+    ap (λ (x : Depth). pick (ltb 31 s) (D.Refused 3) (pick (ltb 1 side) (D.Refused 3) x))
+    (pick-false _ _ _ (le-ltb 32 (length (table (rowAt os) 32)) (omega arith)) ∙ pick-true _ _ _ fine ∙ depth-alike _ _ s side (row-like os l))

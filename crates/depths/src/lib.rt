@@ -121,3 +121,10 @@ pub fn row_depth(row: &[OrderEntry], series: u32, side: u32) -> Depth
     let r = orders_of(row);
     orders_depth(r, series, side)
 }
+
+// The same of a row of 32 entries that comes by value: it is lent here.
+pub fn depth_in(row: [OrderEntry; State::LEG_ORDERS], series: u32, side: u32) -> Depth
+    ensures { λ r. ⌜ r ≡ rowDepth row series side ⌝ }
+{
+    row_depth(&row, series, side)
+}

@@ -8,21 +8,24 @@ use native.Mathlib.Omega.{arith}
 use lib.Bits.{bitAnd}
 use lib.Count.{ones, trailingZeros}
 use lib.Dec.{ltb}
+use lib.ListN.{getD, set, replicate}
 use Rattle.base.specs.Pick.{pick, pick-all, tests}
 use Rattle.base.specs.All.{All}
-use Rattle.base.specs.Walks.{sumN, slot, sum-le, sum-more}
+use Rattle.base.specs.Walks.{sumN, slot, table, seam, sum-le, sum-more, seam-first, seam-next, seam-last}
 use Rattle.base.specs.Sets.{lowestOf}
 use Rattle.base.specs.SetLaws.{minus-and, minus-lt, size-ones}
 use Rattle.rules.specs.declared.LegOrder.{LegOrder}
+use Rattle.rules.specs.declared.OrderEntry.{OrderEntry}
 use Rattle.rules.specs.declared.State.{State}
 use Rattle.rules.specs.declared.Depth.{Depth}
 use Rattle.rules.specs.declared.Depth.the-variants as D
 use Rattle.rules.specs.declared.Shut.the-variants as S
-use Rattle.rules.specs.State.{strategyAt}
+use Rattle.rules.specs.Sizes.{tableRows}
+use Rattle.rules.specs.State.{noOrder}
 use Rattle.rules.specs.Strategies.{shutSet}
 use Rattle.rules.specs.Nets.{priceOf, lots}
 use Rattle.rules.specs.Refusals.{undefined}
-use Rattle.rules.specs.Lookups.{unitsOfNumber, contractsOfNumber, liveQuantity, depthOf, shutLegs}
+use Rattle.rules.specs.Lookups.{noOrderEntry, unitsOfNumber, contractsOfNumber, liveQuantity, depthOf, shutLegs}
 use Rattle.rules.specs.Valid.{FitEntry, FitOrder}
 use Rattle.nets.specs.declared.Best.{Best}
 use Rattle.ranges.specs.Fit.{fit-entry, fit-order}
@@ -32,6 +35,18 @@ use Rattle.nets.specs.Best.{bestOf}
 -- "3 if series or side is out of range"
 unfoldable pub bookDepth : List LegOrder → ℕ → ℕ → Depth
 bookDepth os s side = pick (ltb 31 s) (D.Refused 3) (pick (ltb 1 side) (D.Refused 3) (depthOf os s side))
+
+-- a leg order as an order entry
+unfoldable pub entryOf : LegOrder → OrderEntry
+entryOf o = record { series = o .series; side = o .side; contracts = o .contracts; price = o .price }
+
+-- .. that at slot i
+abbrev pub rowAt : List LegOrder → ℕ → OrderEntry
+rowAt os i = entryOf (getD os i noOrder)
+
+-- the leg orders as a row of order entries
+unfoldable pub rowOf : List LegOrder → List OrderEntry
+rowOf os = table (rowAt os) tableRows
 
 -- laws
 
@@ -105,3 +120,19 @@ shut-undefined b k h = search tests
 pub shut-legs : (b : State) (k x : ℕ) → k < b .defined → x ≡ shutSet b k → S.Legs (ones x) (trailingZeros 32 x) ≡ shutLegs b k
 unfolding shutLegs undefined lowestOf shutSet
 shut-legs b k x h e = rw (e, ← size-ones (shutSet b k) (minus-lt _ _)) (search tests)
+
+-- the row by the slots that are stored
+unfoldable pub rowN : List LegOrder → ℕ → List OrderEntry
+rowN os i = seam (rowAt os) (replicate 32 noOrderEntry) i
+
+pub row-first : (os : List LegOrder) → replicate 32 noOrderEntry ≡ rowN os 0
+unfolding rowN
+row-first os = sym (seam-first (rowAt os) (replicate 32 noOrderEntry))
+
+pub row-next : (os : List LegOrder) {i : ℕ} {row : List OrderEntry} {e : OrderEntry} → i < 32 → e ≡ rowAt os i → row ≡ rowN os i → set row i e ≡ rowN os (i + 1)
+unfolding rowN
+row-next os {i} h e g = rw (e, g) (seam-next (rowAt os) (replicate 32 noOrderEntry) noOrderEntry i h)
+
+pub row-last : (os : List LegOrder) {i : ℕ} {row : List OrderEntry} → i ≡ 32 → row ≡ rowN os i → row ≡ rowOf os
+unfolding rowN rowOf
+row-last os {i} h g = rw (g, h) (seam-last (rowAt os) (replicate 32 noOrderEntry) 32 (omega arith))

@@ -9,10 +9,11 @@ ghost use Rattle.rules.specs.Strategies.{shutSet};
 ghost use Rattle.rules.specs.Lookups.{liveQuantity, shutLegs};
 ghost use Rattle.rules.specs.Valid.{FitOrder, Valid};
 ghost use Rattle.nets.specs.Best.{Priced};
-ghost use Rattle.lookups.specs.Lookups.{bookDepth};
+ghost use Rattle.lookups.specs.Lookups.{bookDepth, entryOf, rowOf};
 use nets::best_of;
 use rules::Depth;
 use rules::LegOrder;
+use rules::OrderEntry;
 use rules::Shut;
 use rules::State;
 use states::shut_set;
@@ -74,4 +75,36 @@ pub fn depth(os: [LegOrder; State::LEG_ORDERS], s: u32, side: u32) -> Depth
         return Depth::Empty;
     }
     Depth::Best(b.price, b.contracts)
+}
+
+// A leg order as an order entry.
+fn entry_of(o: LegOrder) -> OrderEntry
+    ensures { λ r. ⌜ r ≡ entryOf o ⌝ }
+{
+    OrderEntry {
+        series: o.series as u32,
+        side: o.side as u32,
+        contracts: o.contracts,
+        price: o.price,
+    }
+}
+
+const NO_ENTRY: OrderEntry = OrderEntry {
+    series: 0,
+    side: 0,
+    contracts: 0,
+    price: 0,
+};
+
+// The leg orders as a row of order entries.
+pub fn row_of(os: [LegOrder; State::LEG_ORDERS]) -> [OrderEntry; State::LEG_ORDERS]
+    ensures { λ r. ⌜ r ≡ rowOf os ⌝ }
+{
+    let mut row = [NO_ENTRY; State::LEG_ORDERS];
+    let mut i: usize = 0;
+    while i < State::LEG_ORDERS {
+        row[i] = entry_of(os[i]);
+        i += 1;
+    }
+    row
 }
