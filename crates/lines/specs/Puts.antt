@@ -119,23 +119,32 @@ unfolding signed
 put-above (pos v) h l p x = record { put = put-then p x; few = omega (arith, p .next, x .next, signed-length v l) }
 put-above (negsuc v) h l p x = absurd (let z : _≡_ {A = ℕ} 0 1 = cc in omega arith)
 
--- the line of an event, piece by piece
-pub put-event-line :
-    {s q r u v w x : List ℕ} {a b c d e f g : ℕ} (i j k n : ℕ) →
-    Put s q a b (69 ∷ []) → Within 21 q r b c (32 ∷ signed (pos i)) → Within 21 r u c d (32 ∷ signed (pos j)) →
-    Within 21 u v d e (32 ∷ signed (pos k)) → Within 21 v w e f (32 ∷ signed (pos n)) → Put w x f g (10 ∷ []) →
-    Within 86 s x a g (textLine 69 (pos i ∷ (pos j ∷ (pos k ∷ (pos n ∷ [])))))
-unfolding textLine spaced
-put-event-line i j k n p q r t u v =
-    record {
-      put = put-then p (put-then (put-then (q .put) (put-then (r .put) (put-then (t .put) (put-then (u .put) (put-nil _ _))))) v);
-      few = omega (arith, p .next, q .few, r .few, t .few, u .few, v .next);
-    }
-
 spaced-append : (ys zs : List ℤ) → spaced (ys ++ zs) ≡ spaced ys ++ spaced zs
 unfolding spaced
 spaced-append [] zs = refl
 spaced-append (y ∷ ys) zs = rw (spaced-append ys zs) (sym (append-assoc (32 ∷ signed y) (spaced ys) (spaced zs)))
+
+-- a line, piece by piece: a letter and its numbers, one number more, and the end
+pub put-pair :
+    {s q r u : List ℕ} {a b c d : ℕ} (letter i j : ℕ) →
+    Put s q a b (letter ∷ []) → Within 21 q r b c (32 ∷ signed (pos i)) → Within 21 r u c d (32 ∷ signed (pos j)) →
+    Within 43 s u a d (letter ∷ spaced (pos i ∷ (pos j ∷ [])))
+unfolding spaced
+put-pair letter i j p q r =
+    record { put = put-then p (put-then (q .put) (put-then (r .put) (put-nil _ _))); few = omega (arith, p .next, q .few, r .few) }
+
+pub put-more-numbers :
+    {s q r : List ℕ} {a b c k : ℕ} (letter : ℕ) (zs : List ℤ) (z : ℤ) →
+    Within k s q a b (letter ∷ spaced zs) → Within 21 q r b c (32 ∷ signed z) → Within (k + 21) s r a c (letter ∷ spaced (zs ++ (z ∷ [])))
+unfolding spaced
+put-more-numbers letter zs z p q =
+    record { put = rw (spaced-append) (put-then (p .put) (put-then (q .put) (put-nil _ _))); few = omega (arith, p .few, q .few) }
+
+pub put-end :
+    {s q r : List ℕ} {a b c k : ℕ} (letter : ℕ) (zs : List ℤ) →
+    Within k s q a b (letter ∷ spaced zs) → Put q r b c (10 ∷ []) → Within (k + 1) s r a c (textLine letter zs)
+unfolding textLine
+put-end letter zs p q = record { put = put-then (p .put) q; few = omega (arith, p .few, q .next) }
 
 -- the first j numbers of zs
 pub record Writing (zs : List ℤ) (s q : List ℕ) (a m j : ℕ) : Type 0 where

@@ -1,9 +1,10 @@
-// The pure parts of the program `tape`: frames cut from the input, and the lines of events and records put into a space of bytes.
+// The pure parts of the programs: frames cut from the input, and lines put into a space of bytes.
 ghost use Prim.Native.Nat.{_+_, _*_, _≤_, _<_};
 ghost use mathlib.Core.Path.{_≡_};
 ghost use mathlib.Core.List.{[], _∷_};
 ghost use lib.IntN.{pos, natAbs};
 ghost use lib.ListN.{length, take, drop};
+ghost use Rattle.frames.specs.Number.{number};
 ghost use Rattle.rules.specs.Step.{answerCount};
 ghost use Rattle.lines.specs.Lines.{decimal, signed, spaced, textLine, recordLines, eventText};
 ghost use Rattle.lines.specs.Cuts.{toldLength, neededOf, cutOf};
@@ -16,12 +17,20 @@ fn wide(byte: u8) -> usize
     byte as usize
 }
 
+// The number of two bytes at a place.
+pub fn two_bytes(bytes: &[u8], at: usize) -> usize
+    requires { ⌜ at + 2 ≤ length (now bytes) ⌝ }
+    ensures { λ r. ⌜ (r ≡ number 2 (now (bytes .entry)) at) × (r < 65536) ⌝ }
+{
+    wide(bytes[at]) + 256 * wide(bytes[at + 1])
+}
+
 // The length that the first two bytes tell.
 fn told_length(rest: &[u8]) -> usize
     requires { ⌜ 2 ≤ length (now rest) ⌝ }
     ensures { λ r. ⌜ r ≡ toldLength (now (rest .entry)) ⌝ }
 {
-    wide(rest[0]) + 256 * wide(rest[1])
+    two_bytes(rest, 0)
 }
 
 // How many bytes of the rest of the input must be there to judge its first frame: the two of the length, then the frame.
@@ -52,7 +61,7 @@ pub fn cut(rest: &[u8]) -> usize
 }
 
 // One byte.
-fn put_byte(out: &mut [u8], at: usize, byte: u8) -> usize
+pub fn put_byte(out: &mut [u8], at: usize, byte: u8) -> usize
     requires { ⌜ at + 1 ≤ length (now out) ⌝ }
     ensures { λ m. ⌜ Put (now (out .entry)) (now (out .exit)) at m (byte ∷ []) ⌝ }
 {
@@ -106,24 +115,44 @@ fn put_signed(out: &mut [u8], at: usize, x: i32) -> usize
     put_decimal(out, m, n)
 }
 
-// The line of an event.
-fn put_event_line(
-    out: &mut [u8],
-    at: usize,
-    index: u64,
-    answer: u32,
-    value: u32,
-    count: usize,
-) -> usize
-    requires { ⌜ at + 86 ≤ length (now out) ⌝ }
-    ensures { λ m. ⌜ Within 86 (now (out .entry)) (now (out .exit)) at m (textLine 69 (pos index ∷ (pos answer ∷ (pos value ∷ (pos count ∷ []))))) ⌝ }
+// A letter and two numbers.
+fn put_pair(out: &mut [u8], at: usize, letter: u8, i: u64, j: u64) -> usize
+    requires { ⌜ at + 43 ≤ length (now out) ⌝ }
+    ensures { λ m. ⌜ Within 43 (now (out .entry)) (now (out .exit)) at m (letter ∷ spaced (pos i ∷ (pos j ∷ []))) ⌝ }
 {
-    let a = put_byte(out, at, b'E');
-    let b = put_number(out, a, index);
-    let c = put_number(out, b, answer as u64);
-    let d = put_number(out, c, value as u64);
-    let e = put_number(out, d, count as u64);
-    put_byte(out, e, 10)
+    let a = put_byte(out, at, letter);
+    let b = put_number(out, a, i);
+    put_number(out, b, j)
+}
+
+// The line of a letter and two numbers.
+pub fn put_two(out: &mut [u8], at: usize, letter: u8, i: u64, j: u64) -> usize
+    requires { ⌜ at + 44 ≤ length (now out) ⌝ }
+    ensures { λ m. ⌜ Within 44 (now (out .entry)) (now (out .exit)) at m (textLine letter (pos i ∷ (pos j ∷ []))) ⌝ }
+{
+    let a = put_pair(out, at, letter, i, j);
+    put_byte(out, a, 10)
+}
+
+// The line of a letter and three numbers.
+pub fn put_three(out: &mut [u8], at: usize, letter: u8, i: u64, j: u64, k: u64) -> usize
+    requires { ⌜ at + 65 ≤ length (now out) ⌝ }
+    ensures { λ m. ⌜ Within 65 (now (out .entry)) (now (out .exit)) at m (textLine letter (pos i ∷ (pos j ∷ (pos k ∷ [])))) ⌝ }
+{
+    let a = put_pair(out, at, letter, i, j);
+    let b = put_number(out, a, k);
+    put_byte(out, b, 10)
+}
+
+// The line of a letter and four numbers.
+pub fn put_four(out: &mut [u8], at: usize, letter: u8, i: u64, j: u64, k: u64, n: u64) -> usize
+    requires { ⌜ at + 86 ≤ length (now out) ⌝ }
+    ensures { λ m. ⌜ Within 86 (now (out .entry)) (now (out .exit)) at m (textLine letter (pos i ∷ (pos j ∷ (pos k ∷ (pos n ∷ []))))) ⌝ }
+{
+    let a = put_pair(out, at, letter, i, j);
+    let b = put_number(out, a, k);
+    let c = put_number(out, b, n);
+    put_byte(out, c, 10)
 }
 
 // The six numbers of the record at place i of a space, each after a space.
@@ -175,9 +204,9 @@ pub fn put_event(out: &mut [u8], at: usize, index: u64, answer: Answer, space: &
 {
     match answer {
         Answer::Accepted(value, count) => {
-            let m = put_event_line(out, at, index, 0, value, count);
+            let m = put_four(out, at, b'E', index, 0, value as u64, count as u64);
             put_records(out, m, space, count)
         }
-        Answer::Refused(number) => put_event_line(out, at, index, number, 0, 0),
+        Answer::Refused(number) => put_four(out, at, b'E', index, number as u64, 0, 0),
     }
 }
