@@ -1,4 +1,4 @@
-use Rattle.tape.specs.Rests.{more-then}
+use Rattle.streams.specs.Rests.{more-then}
 use borrow.Author.Needs.{needs}
 use Rattle.tape.proofs.fill_frame.Statement.{statement}
 use Rattle.tape.proofs.fill_frame.Tie as tie

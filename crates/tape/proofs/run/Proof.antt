@@ -1,4 +1,5 @@
-use Rattle.tape.specs.Tapes.{Running, running-first, running-next, ready-filled, event-fits}
+use Rattle.tape.specs.Tapes.{Turned, running-event, event-fits}
+use Rattle.turns.specs.Turns.{Running, running-first, ready-filled}
 use native.Mathlib.Omega.{arith}
 use lib.Seq.{length-take-le}
 use Prim.Native.Nat.{_-_}
@@ -8,7 +9,7 @@ use Rattle.tape.proofs.run.Statement.{statement}
 use Rattle.tape.proofs.run.Tie as tie
 
 abbrev Inv-loop : tie.InvT-loop
-Inv-loop block₀ space₀ out₀ book₀ rest₀ used₀ on₀ index₀ block space out book rest used on index = Running block₀ space₀ out₀ (record { book = book; rest = rest; used = used; on = on }) index block space out
+Inv-loop block₀ space₀ out₀ book₀ rest₀ used₀ on₀ index₀ block space out book rest used on index = Running Turned block₀ space₀ out₀ (record { book = book; rest = rest; used = used; on = on }) index block space out
 
 abbrev μ-loop : tie.MeasureT-loop
 μ-loop block₀ space₀ out₀ book₀ rest₀ used₀ on₀ index₀ block space out book rest used on index = 18446744073709551615 - index
@@ -17,7 +18,7 @@ first-requires : tie.Need-first-requires Inv-loop μ-loop
 first-requires c κs = tt
 
 loop-holds : tie.Need-loop-holds Inv-loop μ-loop
-loop-holds c = running-first _ _ _ _ (c .first .ensures) (omega arith) (omega arith)
+loop-holds c = running-first _ _ _ _ _ (c .first .ensures) (omega arith) (omega arith)
 
 fill-frame-requires : tie.Need-fill-frame-requires Inv-loop μ-loop
 fill-frame-requires c κs = c .before .before .before .loop .inv .ready .lies
@@ -71,7 +72,7 @@ part-tell-end : tie.Need-part-tell-end Inv-loop μ-loop
 part-tell-end c = omega (arith, event-fits (ready-filled (c .before .before .before .before .before .before .before .before .before .before .before .loop .inv .ready) (c .before .before .before .before .before .before .before .fill-frame .ensures)) (c .before .before .cut .ensures), c .before .before .before .before .before .before .before .fill-frame .ensures .lies .inside)
 
 tell-requires : tie.Need-tell-requires Inv-loop μ-loop
-tell-requires c κs = (c .before .before .before .before .before .before .before .before .before .before .before .before .before .before .loop .inv .ready .valid, (c .before .before .before .before .before .before .before .before .before .before .before .before .before .before .loop .inv .ready .size, c .before .before .before .before .before .before .before .before .before .before .before .before .before .before .loop .inv .ready .room))
+tell-requires c κs = (c .before .before .before .before .before .before .before .before .before .before .before .before .before .before .loop .inv .ready .valid, c .before .before .before .before .before .before .before .before .before .before .before .before .before .before .loop .inv .ready .room)
 
 drain-requires : tie.Need-drain-requires Inv-loop μ-loop
 drain-requires c κs = (omega (arith, c .before .before .before .before .before .tell .ensures .text .few, c .before .before .before .before .before .before .before .before .before .before .before .before .before .before .before .before .before .before .before .before .loop .inv .ready .room, c .before .before .before .before .before .tell .kept .1 .1 .1 .1 .0), omega (arith, c .before .before .before .before .before .before .before .before .before .before .before .before .before .before .before .before .before .before .before .before .loop .inv .ready .room, c .before .before .before .before .before .tell .kept .1 .1 .1 .1 .0))
@@ -83,7 +84,7 @@ loop-less : tie.Need-loop-less Inv-loop μ-loop
 loop-less c = omega (arith, ltb-true (c .before .before .before .before .before .before .before .before .before .before .before .before .before .before .before .before .before .before .before .before .before .loop .index) 18446744073709551615 (c .before .before .before .before .before .before .before .before .before .before .before .before .before .before .before .before .before .before .before .if1 .taken))
 
 loop-again : tie.Need-loop-again Inv-loop μ-loop
-loop-again c = running-next (c .before .before .before .before .before .before .before .before .before .before .before .before .before .before .before .before .before .before .before .before .before .loop .inv) (c .before .before .before .before .before .before .before .before .before .before .before .before .before .before .before .before .before .fill-frame .ensures) (c .before .before .before .before .before .before .before .before .before .before .before .before .cut .ensures) (c .before .before .before .before .before .before .before .before .before .before .before .if2 .left) (c .before .before .before .before .before .before .tell .ensures) (c .drain .ensures) (c .before .before .before .before .before .before .tell .kept .1 .1 .1 .0) (c .before .before .before .before .before .before .tell .kept .1 .1 .1 .1 .0)
+loop-again c = running-event (c .before .before .before .before .before .before .before .before .before .before .before .before .before .before .before .before .before .before .before .before .before .loop .inv) (c .before .before .before .before .before .before .before .before .before .before .before .before .before .before .before .before .before .fill-frame .ensures) (c .before .before .before .before .before .before .before .before .before .before .before .before .cut .ensures) (c .before .before .before .before .before .before .before .before .before .before .before .if2 .left) (c .before .before .before .before .before .before .tell .ensures) (c .drain .ensures .room) (c .before .before .before .before .before .before .tell .kept .1 .1 .1 .0) (c .before .before .before .before .before .before .tell .kept .1 .1 .1 .1 .0)
 
 slice-reshare-prefix-write-all-2 : tie.Need-slice-reshare-prefix-write-all-2 Inv-loop μ-loop
 slice-reshare-prefix-write-all-2 c = omega (arith, c .before .loop .inv .ready .room)

@@ -1,9 +1,9 @@
 use Prim.Native.Nat.{_-_}
 use borrow.Author.Needs.{needs}
 use native.Mathlib.Omega.{arith}
-use Rattle.tape.specs.Rests.{Sliding, sliding-first, sliding-next, sliding-done}
-use Rattle.tape.proofs.slide.Statement.{statement}
-use Rattle.tape.proofs.slide.Tie as tie
+use Rattle.streams.specs.Rests.{Sliding, sliding-first, sliding-next, sliding-done}
+use Rattle.streams.proofs.slide.Statement.{statement}
+use Rattle.streams.proofs.slide.Tie as tie
 
 abbrev Inv-loop : tie.InvT-loop
 Inv-loop block₀ at n i₀ block i = Sliding block₀ block at n i

@@ -1,9 +1,9 @@
 use mathlib.Core.Path.{refl}
 use native.Mathlib.Omega.{arith}
-use Rattle.tape.specs.Rests.{added-part}
+use Rattle.streams.specs.Rests.{added-part}
 use borrow.Author.Needs.{needs}
-use Rattle.tape.proofs.read_on.Statement.{statement}
-use Rattle.tape.proofs.read_on.Tie as tie
+use Rattle.streams.proofs.read_on.Statement.{statement}
+use Rattle.streams.proofs.read_on.Tie as tie
 
 sub-part : tie.Need-sub-part
 sub-part c = search needs

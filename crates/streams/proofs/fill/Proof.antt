@@ -1,7 +1,7 @@
-use Rattle.tape.specs.Rests.{more-none, more-slid}
+use Rattle.streams.specs.Rests.{more-none, more-slid}
 use borrow.Author.Needs.{needs}
-use Rattle.tape.proofs.fill.Statement.{statement}
-use Rattle.tape.proofs.fill.Tie as tie
+use Rattle.streams.proofs.fill.Statement.{statement}
+use Rattle.streams.proofs.fill.Tie as tie
 
 sub-n : tie.Need-sub-n
 sub-n c = search needs

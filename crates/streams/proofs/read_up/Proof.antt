@@ -3,9 +3,9 @@ use Prim.Native.Nat.{_-_}
 use lib.ListN.{length}
 use borrow.Author.Needs.{needs}
 use native.Mathlib.Omega.{arith}
-use Rattle.tape.specs.Rests.{Added, added-none, added-then}
-use Rattle.tape.proofs.read_up.Statement.{statement}
-use Rattle.tape.proofs.read_up.Tie as tie
+use Rattle.streams.specs.Rests.{Added, added-none, added-then}
+use Rattle.streams.proofs.read_up.Statement.{statement}
+use Rattle.streams.proofs.read_up.Tie as tie
 
 abbrev Inv-loop : tie.InvT-loop
 Inv-loop block₀ n need m₀ block m = Added block₀ block n m

@@ -7,7 +7,7 @@ use native.Mathlib.Numerals.{add-one}
 use native.Mathlib.Omega.{arith}
 use lib.ListN.{length, take, drop, getD, set, length-set, length-drop}
 use lib.Seq.{take-take, take-at, length-take-le, getD-drop, take-suc, take-suc-set, drop-set-lt, drop-drop, take-nil}
-use Rattle.tape.specs.declared.Rest.{Rest}
+use Rattle.streams.specs.declared.Rest.{Rest}
 
 -- the place and the end lie in the block
 pub record Lies (r : Rest) (block : List ℕ) : Type 0 where

@@ -1,14 +1,15 @@
 use lib.Seq.{length-take-le}
-use mathlib.Core.Path.{sym}
+use mathlib.Core.Path.{refl, sym}
+use Rattle.streams.specs.Texts.{drains-none, drains-all}
 use borrow.Author.Needs.{needs}
-use Rattle.tape.proofs.drain.Statement.{statement}
-use Rattle.tape.proofs.drain.Tie as tie
+use Rattle.streams.proofs.drain.Statement.{statement}
+use Rattle.streams.proofs.drain.Tie as tie
 
 sub-if1 : tie.Need-sub-if1
 sub-if1 c = search needs
 
 returns : tie.Need-returns
-returns c = search needs
+returns c = drains-none _ _ _ refl (c .before .before .pre .0) (c .if1 .taken)
 
 slice-aggregate-write-all : tie.Need-slice-aggregate-write-all
 slice-aggregate-write-all c = sym (length-take-le _ _ (c .before .before .before .pre .0))
@@ -17,7 +18,7 @@ write-all-requires : tie.Need-write-all-requires
 write-all-requires c κs = search needs
 
 returns-2 : tie.Need-returns-2
-returns-2 c = search needs
+returns-2 c = drains-all _ _ _ refl (c .before .before .before .before .pre .1) (c .before .before .if1 .left)
 
 pub drain-spec : {M : Type 1} → statement M
 drain-spec =
