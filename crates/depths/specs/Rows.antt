@@ -15,12 +15,13 @@ use Rattle.base.specs.All.{All, all-at, all-set, all-replicate, all-map}
 use Rattle.base.specs.Walks.{walk, table, sumN, slot, allN, below, lt-or-le, all-holds, all-every, length-table, table-slot}
 use Rattle.rules.specs.declared.LegOrder.{LegOrder}
 use Rattle.rules.specs.declared.OrderEntry.{OrderEntry}
+use Rattle.rules.specs.declared.State.{State}
 use Rattle.rules.specs.declared.Depth.{Depth}
 use Rattle.rules.specs.declared.Depth.the-variants as D
 use Rattle.rules.specs.State.{noOrder}
 use Rattle.rules.specs.Nets.{stands, priceWith, priceStep, priceOf, lot, lotAt, lots}
 use Rattle.rules.specs.Lookups.{depthOf, noOrderEntry, asOrder, wellFormed, wellFormedAt, rowDepth}
-use Rattle.rules.specs.Valid.{FitOrder}
+use Rattle.rules.specs.Valid.{FitOrder, Valid}
 use Rattle.nets.specs.Best.{Priced}
 use Rattle.lookups.specs.Lookups.{bookDepth, entryOf, rowAt, rowOf}
 use Rattle.depths.specs.declared.RowOrders.{RowOrders}
@@ -265,7 +266,7 @@ row-like os l i =
     (lt-or-le i 32))
 
 -- the depth of the table's row is the table's
-pub row-agrees : (os : List LegOrder) (s side : ℕ) → length os ≡ 32 → All FitOrder os → Priced os → rowDepth (rowOf os) s side ≡ bookDepth os s side
+row-agrees : (os : List LegOrder) (s side : ℕ) → length os ≡ 32 → All FitOrder os → Priced os → rowDepth (rowOf os) s side ≡ bookDepth os s side
 unfolding rowDepth bookDepth rowOf
 row-agrees os s side l f p =
     let n : length (table (rowAt os) 32) ≡ 32 = length-table (rowAt os) 32 in
@@ -273,3 +274,9 @@ row-agrees os s side l f p =
     all-every _ _ (λ i h. ap wellFormed (table-slot (rowAt os) noOrderEntry 32 i (omega arith)) ∙ entry-formed (getD os i noOrder) (all-at noOrder (no-order-sound .fit) f i) (p .at i)) in
     ap (λ (x : Depth). pick (ltb 31 s) (D.Refused 3) (pick (ltb 1 side) (D.Refused 3) x))
     (pick-false _ _ _ (le-ltb 32 (length (table (rowAt os) 32)) (omega arith)) ∙ pick-true _ _ _ fine ∙ depth-alike _ _ s side (row-like os l))
+
+-- the row that a valid book hands out: the depth that is read from it is the book's own
+pub row-depth-book : (b : State) (s side : ℕ) → Valid b → rowDepth (rowOf (b .orders)) s side ≡ bookDepth (b .orders) s side
+row-depth-book b s side v =
+    let w = v .sound in
+    row-agrees (b .orders) s side (w .orderRows) (w .orders) (record { at = λ i l. w .liveOrder i l .price })

@@ -4,15 +4,12 @@ use borrow.Author.Needs.{needs}
 use Rattle.lookups.proofs.entry_of.Statement.{statement}
 use Rattle.lookups.proofs.entry_of.Tie as tie
 
--- src/lib.rt:92:17
 cast-t2 : tie.Need-cast-t2
 cast-t2 c = search needs
 
--- src/lib.rt:93:15
 cast-t3 : tie.Need-cast-t3
 cast-t3 c = search needs
 
--- src/lib.rt:88:1
 returns : tie.Need-returns
 unfolding entryOf
 returns c = refl
