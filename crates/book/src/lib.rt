@@ -1,6 +1,6 @@
 // The book of complex orders. Its state is private, so that no other crate can make a book.
 ghost use mathlib.Core.Path.{_≡_};
-ghost use Rattle.rules.specs.Lookups.{liveQuantity, shutLegs};
+ghost use Rattle.rules.specs.Lookups.{liveQuantity, shutLegs, depthTells, shutTells};
 ghost use Rattle.rules.specs.Valid.{Valid};
 ghost use Rattle.lookups.specs.Lookups.{bookDepth, rowOf};
 ghost use Rattle.events.specs.declared.Event.the-variants as E;
@@ -265,7 +265,7 @@ impl Book {
     // The shut legs of a strategy: how many, and the lowest series.
     pub fn shut_legs(self, strategy: u32) -> Shut
         requires { ⌜ Valid (self .state) ⌝ }
-        ensures { λ r. ⌜ r ≡ shutLegs (self .state) strategy ⌝ }
+        ensures { λ r. ⌜ shutTells r ≡ shutLegs (self .state) strategy ⌝ }
     {
         let state = self.state;
         lookups::shut_legs(state, strategy)
@@ -274,7 +274,7 @@ impl Book {
     // The best price of a series and side, and its contracts.
     pub fn depth(self, series: u32, side: u32) -> Depth
         requires { ⌜ Valid (self .state) ⌝ }
-        ensures { λ r. ⌜ r ≡ bookDepth (self .state .orders) series side ⌝ }
+        ensures { λ r. ⌜ depthTells r ≡ bookDepth (self .state .orders) series side ⌝ }
     {
         let state = self.state;
         let orders = state.orders;

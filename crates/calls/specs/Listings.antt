@@ -1,11 +1,12 @@
 -- What the lookups say of a book, as lines: each line, or nothing, by the rules' lookup.
 use mathlib.Core.Path.{_≡_, refl, sym, _∙_, ap}
 use mathlib.Core.Bool.{Bool, true, false}
-use mathlib.Core.List.{List, [], _∷_, _++_}
+use mathlib.Core.List.{List, [], _∷_, _++_, map}
 use Prim.Native.Nat.{ℕ, _+_, _/_, _%_, _≤_}
 use native.Mathlib.Omega.{arith}
 use lib.Dec.{eqb}
 use lib.IntN.{pos}
+use lib.ListN.{getD}
 use Rattle.base.specs.Pick.{pick, pick-true, pick-false, tests}
 use Rattle.base.specs.Walks.{joinN, clash}
 use borrow.Author.Tests.{eq-eqb, ne-eqb}
@@ -16,7 +17,7 @@ use Rattle.rules.specs.declared.Depth.the-variants as D
 use Rattle.rules.specs.declared.OrderEntry.{OrderEntry}
 use Rattle.rules.specs.declared.Shut.{Shut}
 use Rattle.rules.specs.declared.Shut.the-variants as S
-use Rattle.rules.specs.Lookups.{liveQuantity, shutLegs, rowDepth}
+use Rattle.rules.specs.Lookups.{LookedUp, values, refusedBy, liveQuantity, shutLegs, rowDepth, depthTells, shutTells}
 use Rattle.rules.specs.Valid.{Valid}
 use Rattle.lookups.specs.Lookups.{bookDepth, rowOf}
 use Rattle.depths.specs.Rows.{row-depth-book}
@@ -28,19 +29,19 @@ unfoldable pub liveLine : State → ℕ → List ℕ
 liveLine b n = pick (eqb (liveQuantity b n) 0) [] (textLine 76 (pos n ∷ (pos (liveQuantity b n) ∷ [])))
 
 -- `S` strategy count lowest, of a lookup that is not refused
-unfoldable pub shutText : ℕ → Shut → List ℕ
-shutText k (S.Legs count lowest) = textLine 83 (pos k ∷ (pos count ∷ (pos lowest ∷ [])))
-shutText k (S.Refused n) = []
+unfoldable pub shutText : ℕ → LookedUp → List ℕ
+shutText k (values ns) = textLine 83 (pos k ∷ map pos ns)
+shutText k (refusedBy n) = []
 
 -- .. of a strategy
 unfoldable pub shutLine : State → ℕ → List ℕ
 shutLine b k = shutText k (shutLegs b k)
 
 -- `D` series side price contracts, of a depth that is not empty
-unfoldable pub depthText : ℕ → ℕ → Depth → List ℕ
-depthText s side (D.Best price contracts) = textLine 68 (pos s ∷ (pos side ∷ (pos price ∷ (pos contracts ∷ []))))
-depthText s side D.Empty = []
-depthText s side (D.Refused n) = []
+unfoldable pub depthText : ℕ → ℕ → LookedUp → List ℕ
+depthText s side (values []) = []
+depthText s side (values (n ∷ ns)) = textLine 68 (pos s ∷ (pos side ∷ map pos (n ∷ ns)))
+depthText s side (refusedBy n) = []
 
 -- .. of a series and side
 unfoldable pub depthLine : State → ℕ → ℕ → List ℕ
@@ -99,13 +100,13 @@ live-some b n e h w =
     (within-more (omega arith) (rw e at w))
 
 pub shut-some :
-    (b : State) (k : ℕ) {x : Shut} {count lowest : ℕ} → x ≡ shutLegs b k → x ≡ S.Legs count lowest → {s q : List ℕ} {a m : ℕ} →
+    (b : State) (k : ℕ) {x : Shut} {count lowest : ℕ} → shutTells x ≡ shutLegs b k → x ≡ S.Legs count lowest → {s q : List ℕ} {a m : ℕ} →
     Within 65 s q a m (textLine 83 (pos k ∷ (pos count ∷ (pos lowest ∷ [])))) → Within 86 s q a m (shutLine b k)
-unfolding shutLine shutText
+unfolding shutLine shutText shutTells
 shut-some b k e g w = rw (← e, g) (within-more (omega arith) w)
 
-pub shut-none : (b : State) (k : ℕ) {x : Shut} {n : ℕ} → x ≡ shutLegs b k → x ≡ S.Refused n → (s : List ℕ) (a : ℕ) → Within 86 s s a a (shutLine b k)
-unfolding shutLine shutText
+pub shut-none : (b : State) (k : ℕ) {x : Shut} {n : ℕ} → shutTells x ≡ shutLegs b k → x ≡ S.Refused n → (s : List ℕ) (a : ℕ) → Within 86 s s a a (shutLine b k)
+unfolding shutLine shutText shutTells
 shut-none b k e g s a = rw (← e, g) (within-none s a)
 
 pub best-is : {d : Depth} {p c : ℕ} (price contracts : ℕ) → d ≡ D.Best p c → p ≡ price → eqb c contracts ≡ isBest d price contracts
@@ -124,39 +125,50 @@ pub best-refused : {d : Depth} {n : ℕ} (price contracts : ℕ) → d ≡ D.Ref
 unfolding isBest
 best-refused price contracts e = rw e
 
--- a depth is its own price and contracts
-best-same : (price contracts : ℕ) → isBest (D.Best price contracts) price contracts ≡ true
-unfolding isBest
-best-same price contracts = pick-true _ _ _ (eq-eqb price price refl) ∙ eq-eqb contracts contracts refl
+-- a lookup that tells a price and contracts is of that price and contracts
+valueAt : ℕ → LookedUp → ℕ
+valueAt i (values ns) = getD ns i 0
+valueAt i (refusedBy n) = 0
+
+tellsSome : LookedUp → Bool
+tellsSome (values []) = false
+tellsSome (values (n ∷ ns)) = true
+tellsSome (refusedBy n) = false
+
+best-told : (x : Depth) {price contracts : ℕ} → depthTells x ≡ values (price ∷ (contracts ∷ [])) → isBest x price contracts ≡ true
+unfolding depthTells isBest
+best-told (D.Best p c) e = pick-true _ _ _ (eq-eqb _ _ (ap (valueAt 0) e)) ∙ eq-eqb _ _ (ap (valueAt 1) e)
+best-told D.Empty e = absurd (clash (sym (ap tellsSome e)) refl)
+best-told (D.Refused n) e = absurd (clash (sym (ap tellsSome e)) refl)
 
 pub depth-some :
-    (b : State) (s side : ℕ) {x : Depth} {price contracts : ℕ} → x ≡ bookDepth (b .orders) s side → x ≡ D.Best price contracts → {o q : List ℕ} {a m : ℕ} →
+    (b : State) (s side : ℕ) {x : Depth} {price contracts : ℕ} → depthTells x ≡ bookDepth (b .orders) s side → x ≡ D.Best price contracts → {o q : List ℕ} {a m : ℕ} →
     Within 86 o q a m (textLine 68 (pos s ∷ (pos side ∷ (pos price ∷ (pos contracts ∷ []))))) → Within 86 o q a m (depthLine b s side)
-unfolding depthLine depthText
+unfolding depthLine depthText depthTells
 depth-some b s side e g w = rw (← e, g) w
 
-pub depth-none : (b : State) (s side : ℕ) {x : Depth} → x ≡ bookDepth (b .orders) s side → depthText s side x ≡ [] → (o : List ℕ) (a : ℕ) → Within 86 o o a a (depthLine b s side)
+pub depth-none : (b : State) (s side : ℕ) {x : Depth} → depthTells x ≡ bookDepth (b .orders) s side → depthText s side (depthTells x) ≡ [] → (o : List ℕ) (a : ℕ) → Within 86 o o a a (depthLine b s side)
 unfolding depthLine
 depth-none b s side e g o a = rw (← e, g) (within-none o a)
 
-pub depth-empty : (s side : ℕ) {x : Depth} → x ≡ D.Empty → depthText s side x ≡ []
-unfolding depthText
+pub depth-empty : (s side : ℕ) {x : Depth} → x ≡ D.Empty → depthText s side (depthTells x) ≡ []
+unfolding depthText depthTells
 depth-empty s side e = rw e
 
-pub depth-refused : (s side : ℕ) {x : Depth} {n : ℕ} → x ≡ D.Refused n → depthText s side x ≡ []
-unfolding depthText
+pub depth-refused : (s side : ℕ) {x : Depth} {n : ℕ} → x ≡ D.Refused n → depthText s side (depthTells x) ≡ []
+unfolding depthText depthTells
 depth-refused s side e = rw e
 
 -- the depth of the row that a valid book hands out is the book's
 pub lent-depth :
-    (b : State) (s side : ℕ) {row : List OrderEntry} {x : Depth} → Valid b × (row ≡ rowOf (b .orders)) → x ≡ rowDepth row s side → x ≡ bookDepth (b .orders) s side
+    (b : State) (s side : ℕ) {row : List OrderEntry} {x : LookedUp} → Valid b × (row ≡ rowOf (b .orders)) → x ≡ rowDepth row s side → x ≡ bookDepth (b .orders) s side
 lent-depth b s side (v, e) h = h ∙ ap (λ (r : List OrderEntry). rowDepth r s side) e ∙ row-depth-book b s side v
 
 -- the two lookups of a depth are one, so they do not differ
 pub never-differ :
-    {x y z : Depth} {price contracts : ℕ} {r : Bool} → x ≡ z → y ≡ z → y ≡ D.Best price contracts → r ≡ isBest x price contracts → r ≡ false → ⊥
-never-differ {x} {y} {z} {price} {contracts} e g h i j =
-    clash (ap (λ (d : Depth). isBest d price contracts) (e ∙ sym g ∙ h) ∙ best-same price contracts) (sym i ∙ j)
+    {x y : Depth} {z : LookedUp} {price contracts : ℕ} {r : Bool} → depthTells x ≡ z → depthTells y ≡ z → y ≡ D.Best price contracts → r ≡ isBest x price contracts → r ≡ false → ⊥
+unfolding depthTells
+never-differ {x = x} e g h i j = clash (best-told x (e ∙ sym g ∙ ap depthTells h)) (sym i ∙ j)
 
 pub cut-none : (s : List ℕ) (a : ℕ) {left : ℕ} → left ≡ 0 → Within 86 s s a a (cutLine left)
 unfolding cutLine

@@ -16,11 +16,10 @@ use Rattle.base.specs.Walks.{walk, table, sumN, slot, allN, below, lt-or-le, al
 use Rattle.rules.specs.declared.LegOrder.{LegOrder}
 use Rattle.rules.specs.declared.OrderEntry.{OrderEntry}
 use Rattle.rules.specs.declared.State.{State}
-use Rattle.rules.specs.declared.Depth.{Depth}
 use Rattle.rules.specs.declared.Depth.the-variants as D
 use Rattle.rules.specs.State.{noOrder}
 use Rattle.rules.specs.Nets.{stands, priceWith, priceStep, priceOf, lot, lotAt, lots}
-use Rattle.rules.specs.Lookups.{depthOf, noOrderEntry, asOrder, wellFormed, wellFormedAt, rowDepth}
+use Rattle.rules.specs.Lookups.{LookedUp, values, refusedBy, depthTells, depthOf, noOrderEntry, asOrder, wellFormed, wellFormedAt, rowDepth}
 use Rattle.rules.specs.Valid.{FitOrder, Valid}
 use Rattle.nets.specs.Best.{Priced}
 use Rattle.lookups.specs.Lookups.{bookDepth, entryOf, rowAt, rowOf}
@@ -47,8 +46,8 @@ unfoldable pub ordersN : List OrderEntry → ℕ → RowOrders
 ordersN row k = walk (ordersStep row) noOrders k
 
 -- the depth that they give: "3 if .. an entry that isn't empty has a field outside kind 4's range"
-unfoldable pub ordersDepth : RowOrders → ℕ → ℕ → Depth
-ordersDepth r s side = pick (r .fine) (bookDepth (r .orders) s side) (D.Refused 3)
+unfoldable pub ordersDepth : RowOrders → ℕ → ℕ → LookedUp
+ordersDepth r s side = pick (r .fine) (bookDepth (r .orders) s side) (refusedBy 3)
 
 -- laws
 
@@ -92,12 +91,12 @@ pub with-bad : (i : ℕ) (e : OrderEntry) (r : RowOrders) → wellFormed e ≡ f
 unfolding ordersWith
 with-bad i e r w = search tests
 
-pub depth-fine : (r : RowOrders) (s side : ℕ) {x : Depth} → r .fine ≡ true → x ≡ bookDepth (r .orders) s side → x ≡ ordersDepth r s side
+pub depth-fine : (r : RowOrders) (s side : ℕ) {x : LookedUp} → r .fine ≡ true → x ≡ bookDepth (r .orders) s side → x ≡ ordersDepth r s side
 unfolding ordersDepth
 depth-fine r s side f h = rw h (search tests)
 
-pub depth-bad : (r : RowOrders) (s side : ℕ) → r .fine ≡ false → D.Refused 3 ≡ ordersDepth r s side
-unfolding ordersDepth
+pub depth-bad : (r : RowOrders) (s side : ℕ) → r .fine ≡ false → depthTells (D.Refused 3) ≡ ordersDepth r s side
+unfolding ordersDepth depthTells
 depth-bad r s side f = search tests
 
 -- each leg order of the row is sound
@@ -205,7 +204,7 @@ unfolding depthOf priceOf lots
 depth-alike os ps s side h =
     let e : priceStep os s side ≡ priceStep ps s side = fun-ext (λ i. fun-ext (λ p. price-alike s side p _ _ (h i))) in
     let g : (p : ℕ) → lotAt os s side p ≡ lotAt ps s side p = λ p. fun-ext (λ i. lot-alike s side p _ _ (h i)) in
-    let depth : ℕ → (ℕ → ℕ) → Depth = λ (p : ℕ) (f : ℕ → ℕ). pick (eqb p 0) D.Empty (D.Best p (sumN (slot (table f 32)) 32)) in
+    let depth : ℕ → (ℕ → ℕ) → LookedUp = λ (p : ℕ) (f : ℕ → ℕ). pick (eqb p 0) (values []) (values (p ∷ (sumN (slot (table f 32)) 32 ∷ []))) in
     ap (depth (priceOf os s side)) (g (priceOf os s side)) ∙ ap (λ (f : ℕ → ℕ → ℕ). depth (walk f 0 32) (lotAt ps s side (walk f 0 32))) e
 
 entry-alike : (e : OrderEntry) → Alike (orderOf e) (asOrder e)
@@ -224,10 +223,10 @@ orders-depth row s side l a =
     (λ h. rw (p .free i h, List·getD-eq-default row noOrderEntry h) (same refl)) (lt-or-le i (length row))))
 
 -- what the code answers
-pub row-long : (row : List OrderEntry) (s side : ℕ) → 32 < length row → D.Refused 3 ≡ rowDepth row s side
-unfolding rowDepth
+pub row-long : (row : List OrderEntry) (s side : ℕ) → 32 < length row → depthTells (D.Refused 3) ≡ rowDepth row s side
+unfolding rowDepth depthTells
 row-long row s side h =
-    let P : Depth → Type 0 = λ (x : Depth). D.Refused 3 ≡ x in
+    let P : LookedUp → Type 0 = λ (x : LookedUp). refusedBy 3 ≡ x in
     pick-all P _ refl (pick-all P _ refl (sym (pick-true _ _ _ (lt-ltb 32 (length row) h))))
 
 pub row-depth : (row : List OrderEntry) (s side : ℕ) → length row ≤ 32 → ordersDepth (ordersN row (length row)) s side ≡ rowDepth row s side
@@ -235,11 +234,11 @@ unfolding ordersDepth rowDepth bookDepth
 row-depth row s side l =
     let r : RowOrders = ordersN row (length row) in
     let short = le-ltb 32 (length row) l in
-    let P : Depth → Type 0 = λ (x : Depth). D.Refused 3 ≡ x in
-    pick-by (λ (x : Depth). x ≡ rowDepth row s side) (r .fine)
+    let P : LookedUp → Type 0 = λ (x : LookedUp). refusedBy 3 ≡ x in
+    pick-by (λ (x : LookedUp). x ≡ rowDepth row s side) (r .fine)
     (λ f. let a = sym (orders-fine row (length row)) ∙ f in
     let e = orders-depth row s side l a in
-    ap (λ (x : Depth). pick (ltb 31 s) (D.Refused 3) (pick (ltb 1 side) (D.Refused 3) x)) (e ∙ sym (pick-true _ _ _ a) ∙ sym (pick-false _ _ _ short)))
+    ap (λ (x : LookedUp). pick (ltb 31 s) (refusedBy 3) (pick (ltb 1 side) (refusedBy 3) x)) (e ∙ sym (pick-true _ _ _ a) ∙ sym (pick-false _ _ _ short)))
     (λ f. pick-all P _ refl (pick-all P _ refl (pick-all P _ refl (sym (pick-false _ _ _ (sym (orders-fine row (length row)) ∙ f))))))
 
 -- the row of a table of leg orders in their ranges: each entry is well formed, and the leg orders are told by their entries
@@ -272,7 +271,7 @@ row-agrees os s side l f p =
     let n : length (table (rowAt os) 32) ≡ 32 = length-table (rowAt os) 32 in
     let fine : allN (wellFormedAt (table (rowAt os) 32)) (length (table (rowAt os) 32)) ≡ true =
     all-every _ _ (λ i h. ap wellFormed (table-slot (rowAt os) noOrderEntry 32 i (omega arith)) ∙ entry-formed (getD os i noOrder) (all-at noOrder (no-order-sound .fit) f i) (p .at i)) in
-    ap (λ (x : Depth). pick (ltb 31 s) (D.Refused 3) (pick (ltb 1 side) (D.Refused 3) x))
+    ap (λ (x : LookedUp). pick (ltb 31 s) (refusedBy 3) (pick (ltb 1 side) (refusedBy 3) x))
     (pick-false _ _ _ (le-ltb 32 (length (table (rowAt os) 32)) (omega arith)) ∙ pick-true _ _ _ fine ∙ depth-alike _ _ s side (row-like os l))
 
 -- the row that a valid book hands out: the depth that is read from it is the book's own

@@ -6,7 +6,7 @@ ghost use Prim.Native.Nat.{_<_, _≤_};
 ghost use lib.ListN.{length};
 ghost use Rattle.base.specs.All.{All};
 ghost use Rattle.rules.specs.Sizes.{tableRows};
-ghost use Rattle.rules.specs.Lookups.{wellFormed, rowDepth};
+ghost use Rattle.rules.specs.Lookups.{wellFormed, rowDepth, depthTells};
 ghost use Rattle.rules.specs.Valid.{FitOrder};
 ghost use Rattle.nets.specs.Best.{Priced};
 ghost use Rattle.depths.specs.Rows.{orderOf, noOrders, ordersWith, ordersN, ordersDepth};
@@ -88,7 +88,7 @@ fn with_entry(r: RowOrders, i: usize, e: OrderEntry) -> RowOrders
 // The depth that the leg orders of a row give.
 fn orders_depth(r: RowOrders, series: u32, side: u32) -> Depth
     requires { ⌜ All FitOrder (r .orders) × Priced (r .orders) ⌝ }
-    ensures { λ x. ⌜ x ≡ ordersDepth r series side ⌝ }
+    ensures { λ x. ⌜ depthTells x ≡ ordersDepth r series side ⌝ }
 {
     if r.fine {
         let orders = r.orders;
@@ -113,7 +113,7 @@ fn orders_of(row: &[OrderEntry]) -> RowOrders
 
 // The best price of a series and side and its contracts, from leg orders lent as a row of order entries.
 pub fn row_depth(row: &[OrderEntry], series: u32, side: u32) -> Depth
-    ensures { λ r. ⌜ r ≡ rowDepth (now (row .entry)) series side ⌝ }
+    ensures { λ r. ⌜ depthTells r ≡ rowDepth (now (row .entry)) series side ⌝ }
 {
     if State::LEG_ORDERS < row.len() {
         return Depth::Refused(3);
@@ -124,7 +124,7 @@ pub fn row_depth(row: &[OrderEntry], series: u32, side: u32) -> Depth
 
 // The same of a row of 32 entries that comes by value: it is lent here.
 pub fn depth_in(row: [OrderEntry; State::LEG_ORDERS], series: u32, side: u32) -> Depth
-    ensures { λ r. ⌜ r ≡ rowDepth row series side ⌝ }
+    ensures { λ r. ⌜ depthTells r ≡ rowDepth row series side ⌝ }
 {
     row_depth(&row, series, side)
 }

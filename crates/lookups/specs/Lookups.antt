@@ -17,7 +17,6 @@ use Rattle.base.specs.SetLaws.{minus-and, minus-lt, size-ones}
 use Rattle.rules.specs.declared.LegOrder.{LegOrder}
 use Rattle.rules.specs.declared.OrderEntry.{OrderEntry}
 use Rattle.rules.specs.declared.State.{State}
-use Rattle.rules.specs.declared.Depth.{Depth}
 use Rattle.rules.specs.declared.Depth.the-variants as D
 use Rattle.rules.specs.declared.Shut.the-variants as S
 use Rattle.rules.specs.Sizes.{tableRows}
@@ -25,7 +24,7 @@ use Rattle.rules.specs.State.{noOrder}
 use Rattle.rules.specs.Strategies.{shutSet}
 use Rattle.rules.specs.Nets.{priceOf, lots}
 use Rattle.rules.specs.Refusals.{undefined}
-use Rattle.rules.specs.Lookups.{noOrderEntry, unitsOfNumber, contractsOfNumber, liveQuantity, depthOf, shutLegs}
+use Rattle.rules.specs.Lookups.{LookedUp, refusedBy, depthTells, shutTells, noOrderEntry, unitsOfNumber, contractsOfNumber, liveQuantity, depthOf, shutLegs}
 use Rattle.rules.specs.Valid.{FitEntry, FitOrder}
 use Rattle.nets.specs.declared.Best.{Best}
 use Rattle.ranges.specs.Fit.{fit-entry, fit-order}
@@ -33,8 +32,8 @@ use Rattle.nets.specs.Nets.{contractsAt, contracts-lots}
 use Rattle.nets.specs.Best.{bestOf}
 
 -- "3 if series or side is out of range"
-unfoldable pub bookDepth : List LegOrder → ℕ → ℕ → Depth
-bookDepth os s side = pick (ltb 31 s) (D.Refused 3) (pick (ltb 1 side) (D.Refused 3) (depthOf os s side))
+unfoldable pub bookDepth : List LegOrder → ℕ → ℕ → LookedUp
+bookDepth os s side = pick (ltb 31 s) (refusedBy 3) (pick (ltb 1 side) (refusedBy 3) (depthOf os s side))
 
 -- a leg order as an order entry
 unfoldable pub entryOf : LegOrder → OrderEntry
@@ -87,12 +86,12 @@ module _ (b : State) (n : ℕ) where
 
 -- depth by what the code tests
 module _ (os : List LegOrder) (s side : ℕ) where
-  pub depth-series : 31 < s → D.Refused 3 ≡ bookDepth os s side
-  unfolding bookDepth
+  pub depth-series : 31 < s → depthTells (D.Refused 3) ≡ bookDepth os s side
+  unfolding bookDepth depthTells
   depth-series h = search tests
 
-  pub depth-side : s ≤ 31 → 1 < side → D.Refused 3 ≡ bookDepth os s side
-  unfolding bookDepth
+  pub depth-side : s ≤ 31 → 1 < side → depthTells (D.Refused 3) ≡ bookDepth os s side
+  unfolding bookDepth depthTells
   depth-side h g = search tests
 
   module _ (h : s ≤ 31) (g : side ≤ 1) {b : Best} (e : b ≡ bestOf os s side) where
@@ -104,21 +103,21 @@ module _ (os : List LegOrder) (s side : ℕ) where
     unfolding bestOf
     contracts-is = sym (contracts-lots os s side (b .price)) ∙ ap (contractsAt os s side) (sym price-is) ∙ sym (ap (λ (x : Best). x .contracts) e)
 
-    pub depth-empty : b .price ≡ 0 → D.Empty ≡ bookDepth os s side
-    unfolding bookDepth depthOf
+    pub depth-empty : b .price ≡ 0 → depthTells D.Empty ≡ bookDepth os s side
+    unfolding bookDepth depthOf depthTells
     depth-empty z = rw price-is (search tests)
 
-    pub depth-best : ¬ (b .price ≡ 0) → D.Best (b .price) (b .contracts) ≡ bookDepth os s side
-    unfolding bookDepth depthOf
+    pub depth-best : ¬ (b .price ≡ 0) → depthTells (D.Best (b .price) (b .contracts)) ≡ bookDepth os s side
+    unfolding bookDepth depthOf depthTells
     depth-best z = rw (price-is, contracts-is) (search tests)
 
 -- the shut legs by what the code tests
-pub shut-undefined : (b : State) (k : ℕ) → b .defined ≤ k → S.Refused 4 ≡ shutLegs b k
-unfolding shutLegs undefined
+pub shut-undefined : (b : State) (k : ℕ) → b .defined ≤ k → shutTells (S.Refused 4) ≡ shutLegs b k
+unfolding shutLegs shutTells undefined
 shut-undefined b k h = search tests
 
-pub shut-legs : (b : State) (k x : ℕ) → k < b .defined → x ≡ shutSet b k → S.Legs (ones x) (trailingZeros 32 x) ≡ shutLegs b k
-unfolding shutLegs undefined lowestOf shutSet
+pub shut-legs : (b : State) (k x : ℕ) → k < b .defined → x ≡ shutSet b k → shutTells (S.Legs (ones x) (trailingZeros 32 x)) ≡ shutLegs b k
+unfolding shutLegs shutTells undefined lowestOf shutSet
 shut-legs b k x h e = rw (e, ← size-ones (shutSet b k) (minus-lt _ _)) (search tests)
 
 -- the row by the slots that are stored

@@ -6,7 +6,7 @@ ghost use Rattle.base.specs.Pick.{pick};
 ghost use Rattle.base.specs.All.{All};
 ghost use Rattle.rules.specs.Sizes.{strategySlots};
 ghost use Rattle.rules.specs.Strategies.{shutSet};
-ghost use Rattle.rules.specs.Lookups.{liveQuantity, shutLegs};
+ghost use Rattle.rules.specs.Lookups.{liveQuantity, shutLegs, depthTells, shutTells};
 ghost use Rattle.rules.specs.Valid.{FitOrder, Valid};
 ghost use Rattle.nets.specs.Best.{Priced};
 ghost use Rattle.lookups.specs.Lookups.{bookDepth, entryOf, rowOf};
@@ -49,7 +49,7 @@ pub fn live_quantity(b: State, n: u32) -> u32
 // How many legs of a strategy are shut, and the lowest series of them; 32 when none is shut.
 pub fn shut_legs(b: State, k: u32) -> Shut
     requires { ⌜ Valid b ⌝ }
-    ensures { λ r. ⌜ r ≡ shutLegs b k ⌝ }
+    ensures { λ r. ⌜ shutTells r ≡ shutLegs b k ⌝ }
 {
     let defined = b.defined as u32;
     if defined <= k {
@@ -62,7 +62,7 @@ pub fn shut_legs(b: State, k: u32) -> Shut
 // The best price of a series and side and its contracts.
 pub fn depth(os: [LegOrder; State::LEG_ORDERS], s: u32, side: u32) -> Depth
     requires { ⌜ All FitOrder os × Priced os ⌝ }
-    ensures { λ r. ⌜ r ≡ bookDepth os s side ⌝ }
+    ensures { λ r. ⌜ depthTells r ≡ bookDepth os s side ⌝ }
 {
     if 31 < s {
         return Depth::Refused(3);

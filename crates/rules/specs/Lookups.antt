@@ -32,15 +32,20 @@ contractsOfNumber b n i = pick (eqb (orderAt b i .number) n) (orderAt b i .contr
 unfoldable pub liveQuantity : State → ℕ → ℕ
 liveQuantity b n = sumN (unitsOfNumber b n) tableRows + sumN (contractsOfNumber b n) tableRows
 
+-- what a lookup tells: its values, under the number 0; or the number of a refusal
+pub data LookedUp : Type 0 where
+  values : List ℕ → LookedUp
+  refusedBy : ℕ → LookedUp
+
 -- "Shut legs of a strategy, count and lowest series, 32 when none is shut (4 if undefined)."
-unfoldable pub shutLegs : State → ℕ → Shut
-shutLegs b k = pick (undefined b k) (S.Refused 4) (S.Legs (sizeOf (shutSet b k)) (lowestOf (shutSet b k)))
+unfoldable pub shutLegs : State → ℕ → LookedUp
+shutLegs b k = pick (undefined b k) (refusedBy 4) (values (sizeOf (shutSet b k) ∷ (lowestOf (shutSet b k) ∷ [])))
 
 -- "Depth of a series and side: best price and its contracts, or empty"
-unfoldable pub depthOf : List LegOrder → ℕ → ℕ → Depth
+unfoldable pub depthOf : List LegOrder → ℕ → ℕ → LookedUp
 depthOf os s side =
     let price : ℕ = priceOf os s side in
-    pick (eqb price 0) D.Empty (D.Best price (sumN (slot (lots os s side price)) tableRows))
+    pick (eqb price 0) (values []) (values (price ∷ (sumN (slot (lots os s side price)) tableRows ∷ [])))
 
 -- an empty order entry
 abbrev pub noOrderEntry : OrderEntry
@@ -64,31 +69,20 @@ abbrev pub wellFormedAt : List OrderEntry → ℕ → Bool
 wellFormedAt row i = wellFormed (getD row i noOrderEntry)
 
 -- "3 if series or side is out of range, the row has over 32 entries, or .."
-unfoldable pub rowDepth : List OrderEntry → ℕ → ℕ → Depth
+unfoldable pub rowDepth : List OrderEntry → ℕ → ℕ → LookedUp
 rowDepth row s side =
-    pick (ltb 31 s) (D.Refused 3)
-    (pick (ltb 1 side) (D.Refused 3)
-    (pick (ltb tableRows (length row)) (D.Refused 3)
-    (pick (allN (wellFormedAt row) (length row)) (depthOf (map asOrder row) s side) (D.Refused 3))))
+    pick (ltb 31 s) (refusedBy 3)
+    (pick (ltb 1 side) (refusedBy 3)
+    (pick (ltb tableRows (length row)) (refusedBy 3)
+    (pick (allN (wellFormedAt row) (length row)) (depthOf (map asOrder row) s side) (refusedBy 3))))
 
--- the paper's number and values of these answers: 0 or the refusal, then what was found
-unfoldable pub depthNumber : Depth → ℕ
-depthNumber (D.Best price contracts) = 0
-depthNumber D.Empty = 0
-depthNumber (D.Refused n) = n
+-- the paper's number and values of each case of a depth: price and contracts, none where it is empty, or the refusal
+unfoldable pub depthTells : Depth → LookedUp
+depthTells (D.Best price contracts) = values (price ∷ (contracts ∷ []))
+depthTells D.Empty = values []
+depthTells (D.Refused n) = refusedBy n
 
--- the values of a depth: price and contracts
-unfoldable pub depthValues : Depth → List ℕ
-depthValues (D.Best price contracts) = price ∷ (contracts ∷ [])
-depthValues D.Empty = []
-depthValues (D.Refused n) = []
-
--- the number of shut legs' answer
-unfoldable pub shutNumber : Shut → ℕ
-shutNumber (S.Legs count lowest) = 0
-shutNumber (S.Refused n) = n
-
--- its values: count and lowest series
-unfoldable pub shutValues : Shut → List ℕ
-shutValues (S.Legs count lowest) = count ∷ (lowest ∷ [])
-shutValues (S.Refused n) = []
+-- .. of shut legs: count and lowest series, or the refusal
+unfoldable pub shutTells : Shut → LookedUp
+shutTells (S.Legs count lowest) = values (count ∷ (lowest ∷ []))
+shutTells (S.Refused n) = refusedBy n

@@ -49,7 +49,7 @@ use denote.Triple.Walked.{says, Stays, stay-none, walkOf, goes-none, Walks, ends
 use denote.Exit.{yes}
 use Rattle.rules.specs.declared.OrderEntry.{OrderEntry}
 use Rattle.rules.specs.declared.Depth.{Depth}
-use Rattle.rules.specs.Lookups.{rowDepth}
+use Rattle.rules.specs.Lookups.{depthTells, rowDepth}
 use Rattle.rules.proofs.OrderEntry as T
 use Rattle.rules.proofs.OrderEntry.Laws as T′
 use Rattle.rules.proofs.Depth as D
@@ -103,7 +103,7 @@ module _ {M : Type 1} (𝓤 : URA M) (H : Heap 𝓤) (A : Atoms 𝓤) (W : Given
   abbrev Post : Val → SProp 𝓤
   Post = walkOf 𝓤 H A f.ended stayed (f.clauses 𝓤 H A mem run) .post ((tt, tt, tt, args, at), tt)
 
-  exits : (d : Depth) (v : Val) → Is D.the-row d (v ∷ []) → d ≡ rowDepth xs series side → ent 𝓤 (emp 𝓤) (Post v)
+  exits : (d : Depth) (v : Val) → Is D.the-row d (v ∷ []) → depthTells d ≡ rowDepth xs series side → ent 𝓤 (emp 𝓤) (Post v)
   exits d v is′ e =
       qed W [] ∵
       suffices ! _ (ends-at 𝓤 H A f.ended stayed (f.clauses 𝓤 H A mem run) W ((tt, tt, tt, args, at), tt) v d (tt, (tt, (tt, tt))) (tt, (tt, (tt, tt)))) $ says ! e $
@@ -153,8 +153,8 @@ module _ {M : Type 1} (𝓤 : URA M) (H : Heap 𝓤) (A : Atoms 𝓤) (W : Given
       nothing ! $ owned ! u32 (Is u32) (uint-makes 𝓤 H A W w32) side (vint w32 side ∷ []) (refl, fits₃) $ fjoin ! $ owned ! u32 (Is u32) (uint-makes 𝓤 H A W w32) series (vint w32 series ∷ []) (refl, fits₂) $ fjoin ! $
       move ! (2 ∷ 0 ∷ []) $ fjoin ! $ nothing ! $ move ! (2 ∷ 0 ∷ []) $ join ! $ join ! $ frame ! $ done !
 
-  said : (b α : ℕ) (γ : GName) (d : Depth) → ent 𝓤 (ensured 𝓤 H A row.ended (row.clauses 𝓤 H A mem run) (α ∷ [], tt) (ref-to b γ, (series, (side, tt))) tt d) (fact 𝓤 (d ≡ rowDepth xs series side))
-  said b α γ d = exE 𝓤 _ (λ ws. snd∗ 𝓤 (sem 𝓤 H A (lasts row.ended (α ∷ [], tt) (ref-to b γ, (series, (side, tt))) ws)) (fact 𝓤 (d ≡ rowDepth xs series side)))
+  said : (b α : ℕ) (γ : GName) (d : Depth) → ent 𝓤 (ensured 𝓤 H A row.ended (row.clauses 𝓤 H A mem run) (α ∷ [], tt) (ref-to b γ, (series, (side, tt))) tt d) (fact 𝓤 (depthTells d ≡ rowDepth xs series side))
+  said b α γ d = exE 𝓤 _ (λ ws. snd∗ 𝓤 (sem 𝓤 H A (lasts row.ended (α ∷ [], tt) (ref-to b γ, (series, (side, tt))) ws)) (fact 𝓤 (depthTells d ≡ rowDepth xs series side)))
 
   module _ (C : Calls 𝓤 H) (Λ : Loops 𝓤 H) (fm : FmC 𝓤 H (W .laws) C) (known : Triple 𝓤 (C #depths·row-depth) (Known 𝓤 H A mem run)) where
     module _ (l₀ l₁ l₂ l₃ l₄ l₅ l₆ : ℕ) where
@@ -167,7 +167,7 @@ module _ {M : Type 1} (𝓤 : URA M) (H : Heap 𝓤) (A : Atoms 𝓤) (W : Given
           ∷ ‵ (fat fullShare (tyInt w32) l₃ 0 (vint w32 side)) ∷ ‵ (fdies (tyInt w32) l₃) ∷ ‵ (fat fullShare (tyInt w32) l₂ 0 (vint w32 series)) ∷ ‵ (fdies (tyInt w32) l₂)
           ∷ ‵ (fat fullShare array l₁ 0 w) ∷ ‵ (fdies array l₁) ∷ result ∷ ‵ (fdies D′.mir l₀) ∷ []
 
-      ends : (α : ℕ) (d : Depth) (v : Val) → Is D.the-row d (v ∷ []) → d ≡ rowDepth xs series side
+      ends : (α : ℕ) (d : Depth) (v : Val) → Is D.the-row d (v ∷ []) → depthTells d ≡ rowDepth xs series side
           → Sq W (‵ (flft (α ∷ []) fullShare) ∷ ‵ (flent (α ∷ []) (Entries (length xs) l₄)) ∷ Others (‵ (froom D′.mir l₀ 0))) (lands C Λ En (place 0 []) v return (atRet En Post))
       ends α d v is′ e =
           land ! (from ! (stop !)) (init ! 13 refl (EL.lawful D.the-type D′.the-laws 𝓤 H A W tt .typed d _ is′ .0)) $
@@ -200,7 +200,7 @@ module _ {M : Type 1} (𝓤 : URA M) (H : Heap 𝓤) (A : Atoms 𝓤) (W : Given
         calls-at ! fm (Known 𝓤 H A mem run) known (to-row l₄ α γ)
         (and-then ! (load ! (from ! (stop !)) (look ! 2 refl)) (and-then ! (load ! (from ! (stop !)) (look ! 9 refl)) (and-then ! (load ! (from ! (stop !)) (look ! 7 refl)) (no-more !)))) (λ v.
         use1 W (later (some (λ (d : Depth). (Token α ⊛ ‵ (D.the-row .own d (v ∷ []))) ⊛ raw (ensured 𝓤 H A row.ended (row.clauses 𝓤 H A mem run) (α ∷ [], tt) (ref-to l₄ γ, (series, (side, tt))) tt d)))) (id⊢ 𝓤 _) $ await ! tt $ pick ! (λ d.
-        split ! $ move ! (1 ∷ []) $ use1 W (raw (fact 𝓤 (d ≡ rowDepth xs series side))) (said l₄ α γ d) $ heard ! (d ≡ rowDepth xs series side) (λ e. split ! $ move ! (1 ∷ []) $
+        split ! $ move ! (1 ∷ []) $ use1 W (raw (fact 𝓤 (depthTells d ≡ rowDepth xs series side))) (said l₄ α γ d) $ heard ! (depthTells d ≡ rowDepth xs series side) (λ e. split ! $ move ! (1 ∷ []) $
         facts ! D.the-row (Is D.the-row) (shows 𝓤 H A D.the-row) d (v ∷ []) (λ is′. split ! $ move ! (1 ∷ []) $ drop ! $ ends l₀ l₁ l₂ l₃ l₄ l₅ l₆ α d v is′ e)))))))))))))
 
 module _ {M : Type 1} (𝓤 : URA M) (H : Heap 𝓤) (A : Atoms 𝓤) (W : Given 𝓤 H A) (mem : Memory → SProp 𝓤) (run : Routine → Fun 𝓤) (𝓣 : Tables 𝓤 H) (known : Triple 𝓤 (𝓣 .C #depths·row-depth) (Known 𝓤 H A mem run)) where

@@ -46,7 +46,7 @@ use denote.Exit.{yes}
 use Rattle.rules.specs.declared.OrderEntry.{OrderEntry}
 use Rattle.rules.specs.declared.Depth.{Depth}
 use Rattle.rules.specs.declared.Depth.the-variants.{Refused}
-use Rattle.rules.specs.Lookups.{rowDepth}
+use Rattle.rules.specs.Lookups.{depthTells, rowDepth}
 use Rattle.rules.proofs.OrderEntry as T
 use Rattle.rules.proofs.Depth as D
 use Rattle.rules.proofs.Depth.Laws as D′
@@ -110,7 +110,7 @@ module _ {M : Type 1} (𝓤 : URA M) (H : Heap 𝓤) (A : Atoms 𝓤) (W : Given
   abbrev Own : Fml
   Own = ShrSlice (named 0) κ T.the-row .own s (v₁ ∷ [])
 
-  exits : (d : Depth) (v : Val) → Is D.the-row d (v ∷ []) → d ≡ rowDepth ys series side → ent 𝓤 (⋆ 𝓤 H A (Token ∷ ‵ Own ∷ [])) (Post v)
+  exits : (d : Depth) (v : Val) → Is D.the-row d (v ∷ []) → depthTells d ≡ rowDepth ys series side → ent 𝓤 (⋆ 𝓤 H A (Token ∷ ‵ Own ∷ [])) (Post v)
   exits d v is e =
       qed W (Token ∷ ‵ Own ∷ []) ∵
       suffices ! _ (ends-at 𝓤 H A f.ended stayed (f.clauses 𝓤 H A mem run) W (((κ, tt), (q, tt), tt, (s, (series, (side, tt))), at), tt) v d (tt, (tt, (tt, tt))) (tt, (tt, (tt, tt)))) $ says ! e $ frame ! $
@@ -137,8 +137,8 @@ module _ {M : Type 1} (𝓤 : URA M) (H : Heap 𝓤) (A : Atoms 𝓤) (W : Given
       nothing ! $ owned ! u32 (Is u32) (uint-makes 𝓤 H A W w32) side (vint w32 side ∷ []) (refl, fits₃) $ fjoin ! $ owned ! u32 (Is u32) (uint-makes 𝓤 H A W w32) series (vint w32 series ∷ []) (refl, fits₂) $ fjoin ! $
       owned ! R.the-row (Is R.the-row) (LL.makes R.the-type R′.the-plain 𝓤 H A) (ordersN ys n) (u ∷ []) is $ fjoin ! $ nothing ! $ done !
 
-  depth-said : (d : Depth) → ent 𝓤 (ensured 𝓤 H A depth.ended (depth.clauses 𝓤 H A mem run) tt (ordersN ys n, (series, (side, tt))) tt d) (fact 𝓤 (d ≡ ordersDepth (ordersN ys n) series side))
-  depth-said d = exE 𝓤 _ (λ ws. snd∗ 𝓤 (sem 𝓤 H A (lasts depth.ended tt (ordersN ys n, (series, (side, tt))) ws)) (fact 𝓤 (d ≡ ordersDepth (ordersN ys n) series side)))
+  depth-said : (d : Depth) → ent 𝓤 (ensured 𝓤 H A depth.ended (depth.clauses 𝓤 H A mem run) tt (ordersN ys n, (series, (side, tt))) tt d) (fact 𝓤 (depthTells d ≡ ordersDepth (ordersN ys n) series side))
+  depth-said d = exE 𝓤 _ (λ ws. snd∗ 𝓤 (sem 𝓤 H A (lasts depth.ended tt (ordersN ys n, (series, (side, tt))) ws)) (fact 𝓤 (depthTells d ≡ ordersDepth (ordersN ys n) series side)))
 
   module _ (C : Calls 𝓤 H) (Λ : Loops 𝓤 H) (fm : FmC 𝓤 H (W .laws) C) (known-of : Triple 𝓤 (C #depths·orders-of) (Of 𝓤 H A mem run)) (known-depth : Triple 𝓤 (C #depths·orders-depth) (Deep 𝓤 H A mem run)) where
     module _ (l₀ l₁ l₂ l₃ l₄ l₅ l₆ : ℕ) where
@@ -158,7 +158,7 @@ module _ {M : Type 1} (𝓤 : URA M) (H : Heap 𝓤) (A : Atoms 𝓤) (W : Given
           calls-at ! fm (Deep 𝓤 H A mem run) known-depth (to-depth u)
           (and-then ! (load ! (from ! (stop !)) (look ! 7 refl)) (and-then ! (load ! (from ! (stop !)) (look ! 11 refl)) (and-then ! (load ! (from ! (stop !)) (look ! 9 refl)) (no-more !)))) (λ v.
           use1 W (later (some (λ (d : Depth). (‵ ftrue ⊛ ‵ (D.the-row .own d (v ∷ []))) ⊛ raw (ensured 𝓤 H A depth.ended (depth.clauses 𝓤 H A mem run) tt (ordersN ys n, (series, (side, tt))) tt d)))) (id⊢ 𝓤 _) $ await ! tt $ pick ! (λ d.
-          split ! $ move ! (1 ∷ []) $ use1 W (raw (fact 𝓤 (d ≡ ordersDepth (ordersN ys n) series side))) (depth-said d) $ heard ! (d ≡ ordersDepth (ordersN ys n) series side) (λ e. split ! $ drop ! $
+          split ! $ move ! (1 ∷ []) $ use1 W (raw (fact 𝓤 (depthTells d ≡ ordersDepth (ordersN ys n) series side))) (depth-said d) $ heard ! (depthTells d ≡ ordersDepth (ordersN ys n) series side) (λ e. split ! $ drop ! $
           facts ! D.the-row (Is D.the-row) (shows 𝓤 H A D.the-row) d (v ∷ []) (λ is′.
           land ! (from ! (stop !)) (init ! 14 refl (EL.lawful D.the-type D′.the-laws 𝓤 H A W tt .typed d _ is′ .0)) $
           returns ! (look ! 14 refl) $ forget ! 2 refl $ forget ! 4 refl $ forget ! 6 refl $ forget ! 8 refl $ forget ! 10 refl $ forget ! 12 refl $ forget ! 14 refl $
