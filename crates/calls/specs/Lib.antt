@@ -1,4 +1,5 @@
 pub mod Calls
+pub mod Examples
 pub mod Items
 pub mod Listings
 pub mod Printed

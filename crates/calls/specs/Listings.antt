@@ -47,10 +47,11 @@ depthText s side (refusedBy n) = []
 unfoldable pub depthLine : State → ℕ → ℕ → List ℕ
 depthLine b s side = depthText s side (bookDepth (b .orders) s side)
 
--- the line of the number behind n; the numbers 1 to 100,000, rising
+-- the line of the number behind n
 abbrev pub liveAt : State → ℕ → List ℕ
 liveAt b n = liveLine b (n + 1)
 
+-- the numbers 1 to 100,000, rising
 unfoldable pub liveLines : State → List ℕ
 liveLines b = joinN (liveAt b) 100000
 
@@ -58,10 +59,11 @@ liveLines b = joinN (liveAt b) 100000
 unfoldable pub shutLines : State → List ℕ
 shutLines b = joinN (shutLine b) strategySlots
 
--- the line of a side of a series, two places a series; the series 0 to 31, by series then side
+-- the line of a side of a series, two places a series
 abbrev pub depthAt : State → ℕ → List ℕ
 depthAt b i = depthLine b (i / 2) (i % 2)
 
+-- the series 0 to 31, by series then side
 unfoldable pub depthLines : State → List ℕ
 depthLines b = joinN (depthAt b) 64
 
