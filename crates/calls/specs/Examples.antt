@@ -4,6 +4,7 @@ use mathlib.Core.List.{[], _∷_}
 use Rattle.base.specs.Pick.{pick}
 use Rattle.frames.specs.Number.{number}
 use Rattle.rules.specs.declared.Depth.the-variants.{Best}
+use Rattle.rules.specs.Lookups.{depthTells}
 use Rattle.lines.specs.Lines.{digits, decimal, signed, spaced, textLine}
 use Rattle.calls.specs.Items.{itemOf, lentOf}
 use Rattle.calls.specs.Listings.{cutLine, depthText}
@@ -40,6 +41,6 @@ unfolding cutLine pick
 cut-text = refl
 
 -- `D 0 1 300 3`
-depth-text : depthText 0 1 (Best 300 3) ≡ 68 ∷ (32 ∷ (48 ∷ (32 ∷ (49 ∷ (32 ∷ (51 ∷ (48 ∷ (48 ∷ (32 ∷ (51 ∷ (10 ∷ [])))))))))))
-unfolding depthText textLine spaced signed decimal digits pick
+depth-text : depthText 0 1 (depthTells (Best 300 3)) ≡ 68 ∷ (32 ∷ (48 ∷ (32 ∷ (49 ∷ (32 ∷ (51 ∷ (48 ∷ (48 ∷ (32 ∷ (51 ∷ (10 ∷ [])))))))))))
+unfolding depthText depthTells textLine spaced signed decimal digits pick
 depth-text = refl
