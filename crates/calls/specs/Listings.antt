@@ -138,10 +138,10 @@ tellsSome (values (n ∷ ns)) = true
 tellsSome (refusedBy n) = false
 
 best-told : (x : Depth) {price contracts : ℕ} → depthTells x ≡ values (price ∷ (contracts ∷ [])) → isBest x price contracts ≡ true
-unfolding depthTells isBest
+unfolding depthTells isBest valueAt tellsSome
 best-told (D.Best p c) e = pick-true _ _ _ (eq-eqb _ _ (ap (valueAt 0) e)) ∙ eq-eqb _ _ (ap (valueAt 1) e)
-best-told D.Empty e = absurd (clash (sym (ap tellsSome e)) refl)
-best-told (D.Refused n) e = absurd (clash (sym (ap tellsSome e)) refl)
+best-told D.Empty e = absurd (clash (ap tellsSome e) refl)
+best-told (D.Refused n) e = absurd (clash (ap tellsSome e) refl)
 
 pub depth-some :
     (b : State) (s side : ℕ) {x : Depth} {price contracts : ℕ} → depthTells x ≡ bookDepth (b .orders) s side → x ≡ D.Best price contracts → {o q : List ℕ} {a m : ℕ} →
@@ -149,7 +149,7 @@ pub depth-some :
 unfolding depthLine depthText depthTells
 depth-some b s side e g w = rw (← e, g) w
 
-pub depth-none : (b : State) (s side : ℕ) {x : Depth} → depthTells x ≡ bookDepth (b .orders) s side → depthText s side (depthTells x) ≡ [] → (o : List ℕ) (a : ℕ) → Within 86 o o a a (depthLine b s side)
+pub depth-none : (b : State) (s side : ℕ) {x : LookedUp} → x ≡ bookDepth (b .orders) s side → depthText s side x ≡ [] → (o : List ℕ) (a : ℕ) → Within 86 o o a a (depthLine b s side)
 unfolding depthLine
 depth-none b s side e g o a = rw (← e, g) (within-none o a)
 
@@ -168,9 +168,9 @@ lent-depth b s side (v, e) h = h ∙ ap (λ (r : List OrderEntry). rowDepth r s 
 
 -- the two lookups of a depth are one, so they do not differ
 pub never-differ :
-    {x y : Depth} {z : LookedUp} {price contracts : ℕ} {r : Bool} → depthTells x ≡ z → depthTells y ≡ z → y ≡ D.Best price contracts → r ≡ isBest x price contracts → r ≡ false → ⊥
+    (x : Depth) {y : Depth} {z : LookedUp} {price contracts : ℕ} {r : Bool} → depthTells x ≡ z → depthTells y ≡ z → y ≡ D.Best price contracts → r ≡ isBest x price contracts → r ≡ false → ⊥
 unfolding depthTells
-never-differ {x = x} e g h i j = clash (best-told x (e ∙ sym g ∙ ap depthTells h)) (sym i ∙ j)
+never-differ x e g h i j = clash (best-told x (e ∙ sym g ∙ ap depthTells h)) (sym i ∙ j)
 
 pub cut-none : (s : List ℕ) (a : ℕ) {left : ℕ} → left ≡ 0 → Within 86 s s a a (cutLine left)
 unfolding cutLine

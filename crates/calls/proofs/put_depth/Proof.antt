@@ -38,7 +38,7 @@ enum-told-2 : tie.Need-enum-told-2
 enum-told-2 c = search needs
 
 returns-2 : tie.Need-returns-2
-returns-2 c = absurd (never-differ (c .before .before .before .before .before .before .depth .ensures) (lent-depth _ _ _ (c .before .before .before .before .before .before .before .before .pre .0) (c .before .before .before .before .before .depth-in .ensures)) (c .before .before .before .lent .given .1) (c .before .is-best .ensures) (c .if1 .left))
+returns-2 c = absurd (never-differ (c .before .before .before .before .before .before .depth .result) (c .before .before .before .before .before .before .depth .ensures) (lent-depth _ _ _ (c .before .before .before .before .before .before .before .before .pre .0) (c .before .before .before .before .before .depth-in .ensures)) (c .before .before .before .lent .given .1) (c .before .is-best .ensures) (c .if1 .left))
 
 returns-3 : tie.Need-returns-3
 returns-3 c = depth-none _ _ _ (lent-depth _ _ _ (c .before .before .before .before .before .pre .0) (c .before .before .depth-in .ensures)) (depth-empty _ _ (c .enum-told .given .1)) _ _
