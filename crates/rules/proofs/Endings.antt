@@ -90,7 +90,7 @@ module _ (k : ℕ) {b c : State} (low : k < 16) (l : Loose b) (o : Only k b c) w
   pub ended-shrinks : Shrinks b ended
   ended-shrinks = shrinks-trans (lapsed-only-all .shrinks) (auction-shrinks lapsed k 0 0 false)
 
-  ended-at : strategyAt ended k ≡ withAuction (strategyAt lapsed k) 0 0 false
+  pub ended-at : strategyAt ended k ≡ withAuction (strategyAt lapsed k) 0 0 false
   ended-at = put-at lapsed k 0 0 false (omega (arith, lapsed-only-all .shrinks .strategyRows, l .sound .strategyRows))
 
   pub ended-other : (j : ℕ) → (j ≡ k → ⊥) → strategyAt ended j ≡ strategyAt b j
@@ -142,7 +142,7 @@ module _ (k : ℕ) {b c : State} (low : k < 16) (l : Loose b) (o : Only k b c) w
       same-or (OpenLegs ended j) j k (λ q. rw q (λ r. absurd (clash r ended-still)))
       (λ q. open-moves j ended-shrinks (ap (λ (t : Strategy). t .starter) (ended-other j q)) h)
 
-  ended-is : endUnfilled k c .state ≡ ended
+  pub ended-is : endUnfilled k c .state ≡ ended
   unfolding endUnfilled and-then close
   ended-is = refl
 
@@ -155,12 +155,12 @@ module _ (k : ℕ) {b c : State} (low : k < 16) (l : Loose b) (o : Only k b c) w
 -- The clock.
 
 -- an auction runs in a strategy that is defined
-running-low : (b : State) → Sound b → (k : ℕ) → running b k ≡ true → k < 16
+pub running-low : (b : State) → Sound b → (k : ℕ) → running b k ≡ true → k < 16
 running-low b s k r =
     let z : ¬ (strategyAt b k .starter ≡ 0) = eqb-false _ 0 (not-true _ r) in
     ⊎-elim (λ (m : k < 16). m) (λ (m : 16 ≤ k). absurd (z (s .undefined k (omega (arith, s .defined)) .2))) (lt-or-le k 16)
 
-auction-valid : (k : ℕ) (b : State) → Valid b → running b k ≡ true → Valid (endAuction k b .state)
+pub auction-valid : (k : ℕ) (b : State) → Valid b → running b k ≡ true → Valid (endAuction k b .state)
 unfolding endAuction and-then
 auction-valid k b v r =
     let n : ℕ = strategyAt b k .starter in
@@ -169,7 +169,7 @@ auction-valid k b v r =
     let p : Only k c (each (laterPass k n) 32 c .state) = only-each (laterPass k n) c 32 (λ i _ d s. laterPass-only k n i d (s .orderRows ∙ o .shrinks .orderRows ∙ v .sound .orderRows)) in
     end-valid k (running-low b (v .sound) k r) (valid-loose v) (only-trans o p) (λ j. v .settled j .openLegs)
 
-due-valid : (k : ℕ) (b : State) → Valid b → Valid (endDue k b .state)
+pub due-valid : (k : ℕ) (b : State) → Valid b → Valid (endDue k b .state)
 unfolding endDue due
 due-valid k b v =
     pick-by (λ (m : Moved). Valid (m .state)) _ (λ t. auction-valid k b v (pick-yes (running b k) t .0)) (λ _. v)
@@ -182,11 +182,13 @@ clock-legs : (t : ℕ) (b : State) → Valid b → (k : ℕ) → OpenLegs (withC
 unfolding withClock shutSet
 clock-legs t b v k = v .settled k .openLegs
 
+-- the state at the new clock
+pub clock-set : (t : ℕ) (b : State) → b .clock ≤ t → t ≤ 86_400_000 → Valid b → Valid (withClock b t)
+clock-set t b h m v = loose-valid (record { sound = sound-clock b t (v .sound) m; near = clock-near t b h v }) (clock-legs t b v)
+
 pub clock-valid : (t : ℕ) (b : State) → b .clock ≤ t → t ≤ 86_400_000 → Valid b → Valid (onClock t b .state)
 unfolding onClock
-clock-valid t b h m v =
-    each-keeps Valid endDue 16 (λ k _ c. due-valid k c) (withClock b t)
-    (loose-valid (record { sound = sound-clock b t (v .sound) m; near = clock-near t b h v }) (clock-legs t b v))
+clock-valid t b h m v = each-keeps Valid endDue 16 (λ k _ c. due-valid k c) (withClock b t) (clock-set t b h m v)
 
 -- Series.
 

@@ -36,3 +36,4 @@ pub mod Ratios
 pub mod Origins
 pub mod Totals
 pub mod Sample
+pub mod Clocks

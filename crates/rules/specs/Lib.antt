@@ -18,3 +18,4 @@ pub mod Fits
 pub mod Records
 pub mod Totals
 pub mod Examples
+pub mod Sentences

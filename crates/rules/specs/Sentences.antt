@@ -1,0 +1,45 @@
+-- The sentences of "Events" and "Passes" in another form than their definitions have: what can be seen of the state before an event, the state
+-- after it and its records. Each holds of every accepted event in every valid state (proofs Sentences.sentences). A rule that is changed in
+-- its definition and in the code alike is refused here.
+use mathlib.Core.Path.{_≡_}
+use mathlib.Core.Bool.{Bool, true, false}
+use mathlib.Core.Logic.{_⊎_}
+use mathlib.Core.List.{List, [], _∷_}
+use Prim.Native.Nat.{ℕ, _+_, _≤_, _<_}
+use Rattle.base.specs.All.{All}
+use Rattle.events.specs.declared.Event.{Event}
+use Rattle.rules.specs.declared.Entry.{Entry}
+use Rattle.rules.specs.declared.LegOrder.{LegOrder}
+use Rattle.rules.specs.declared.State.{State}
+use Rattle.rules.specs.declared.Record.{Record}
+use Rattle.rules.specs.State.{entryAt, orderAt, strategyAt}
+use Rattle.rules.specs.Moves.{Moved}
+use Rattle.rules.specs.Records.{kindNumber}
+use Rattle.rules.specs.Refusals.{first, causes}
+use Rattle.rules.specs.Step.{accept}
+use Rattle.rules.specs.Valid.{Starter, Valid}
+use Rattle.rules.specs.Fits.{FitEvent}
+
+-- AN ACCEPTED EVENT: the state is valid, the event's fields are in their ranges, and no cause of a refusal applies.
+pub record Accepted (b : State) (e : Event) : Type 0 where
+  pub valid : Valid b
+  pub fit : FitEvent e
+  pub clear : first (causes b e) ≡ 0
+
+-- an auction runs in strategy k
+abbrev pub Runs : State → ℕ → Type 0
+Runs b k = 0 < strategyAt b k .starter
+
+-- a record of that kind, as it is read: 1 to 5
+abbrev pub IsKind : ℕ → Record → Type 0
+IsKind n r = kindNumber (r .kind) ≡ n
+
+-- CLOCK, at time t, from b to c.
+pub record ClockSentence (b : State) (t : ℕ) (c : State) : Type 0 where
+  -- "auctions begun at least the timer ago end": a clock at or past an auction's begin and the timer ends it ..
+  pub ends : (k : ℕ) → Runs b k → strategyAt b k .begun + b .timer ≤ t → strategyAt c k .starter ≡ 0
+  -- .. and one before that leaves it as it was
+  pub goesOn : (k : ℕ) → Runs b k → t < strategyAt b k .begun + b .timer → strategyAt c k ≡ strategyAt b k
+  -- a clock begins no auction
+  pub beginsNone : (k : ℕ) → strategyAt b k .starter ≡ 0 → strategyAt c k .starter ≡ 0
+  pub clock : c .clock ≡ t
