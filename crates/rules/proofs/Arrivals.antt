@@ -426,7 +426,7 @@ spared-cancel n i b s =
     })
     (λ _. s)
 
-any-false : (f : ℕ → Bool) (k i : ℕ) → anyN f k ≡ false → i < k → f i ≡ false
+pub any-false : (f : ℕ → Bool) (k i : ℕ) → anyN f k ≡ false → i < k → f i ≡ false
 any-false f k i h l = go (f i) refl
   where
     go : (t : Bool) → f i ≡ t → f i ≡ false

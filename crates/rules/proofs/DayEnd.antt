@@ -185,7 +185,7 @@ empty-order : (b : State) → left b ≡ 0 → (i : ℕ) → i < 32 → orderAt 
 unfolding left orders
 empty-order b e = none-lives (λ (i : ℕ). orderAt b i .contracts) (omega arith)
 
-each-still : (f : ℕ → State → Moved) (b : State) (k : ℕ) → ((i : ℕ) → i < k → f i b ≡ still b) → each f k b ≡ still b
+pub each-still : (f : ℕ → State → Moved) (b : State) (k : ℕ) → ((i : ℕ) → i < k → f i b ≡ still b) → each f k b ≡ still b
 unfolding each and-then
 each-still f b zero h = refl
 each-still f b (suc k) h = rw (each-still f b k (λ i l. h i (omega arith)), h k (omega arith))

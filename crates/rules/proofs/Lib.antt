@@ -37,3 +37,4 @@ pub mod Origins
 pub mod Totals
 pub mod Sample
 pub mod Clocks
+pub mod Cancels

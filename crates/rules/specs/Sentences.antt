@@ -12,6 +12,7 @@ use Rattle.rules.specs.declared.Entry.{Entry}
 use Rattle.rules.specs.declared.LegOrder.{LegOrder}
 use Rattle.rules.specs.declared.State.{State}
 use Rattle.rules.specs.declared.Record.{Record}
+use Rattle.rules.specs.declared.Kind.the-variants.{Cancelled, LegOrderCancelled}
 use Rattle.rules.specs.State.{entryAt, orderAt, strategyAt}
 use Rattle.rules.specs.Moves.{Moved}
 use Rattle.rules.specs.Records.{kindNumber}
@@ -43,3 +44,34 @@ pub record ClockSentence (b : State) (t : ℕ) (c : State) : Type 0 where
   -- a clock begins no auction
   pub beginsNone : (k : ℕ) → strategyAt b k .starter ≡ 0 → strategyAt c k .starter ≡ 0
   pub clock : c .clock ≡ t
+
+-- CANCEL by a member of a number, from b to what x leaves. The row it ends is a complex order ..
+pub record OrderCancelled (b : State) (m n : ℕ) (x : Moved) : Type 0 where
+  pub at : ℕ
+  pub member : entryAt b at .member ≡ m
+  pub number : entryAt b at .number ≡ n
+  pub noSweep : entryAt b at .life ≡ 4 → ⊥
+  pub live : 0 < entryAt b at .units
+  pub ended : entryAt (x .state) at .units ≡ 0
+  pub records : x .records ≡ record { kind = Cancelled; number = n; place = 0; side = entryAt b at .side; quantity = entryAt b at .units; level = 10_000_000 } ∷ []
+  -- every other row is as it was
+  pub others : (j : ℕ) → (j ≡ at → ⊥) → entryAt (x .state) j ≡ entryAt b j
+  pub orders : x .state .orders ≡ b .orders
+
+-- .. or a leg order
+pub record LegOrderEnded (b : State) (m n : ℕ) (x : Moved) : Type 0 where
+  pub at : ℕ
+  pub member : orderAt b at .member ≡ m
+  pub number : orderAt b at .number ≡ n
+  pub live : 0 < orderAt b at .contracts
+  pub ended : orderAt (x .state) at .contracts ≡ 0
+  pub records : x .records ≡ record { kind = LegOrderCancelled; number = n; place = 0; side = orderAt b at .side; quantity = orderAt b at .contracts; level = 10_000_000 } ∷ []
+  pub others : (j : ℕ) → (j ≡ at → ⊥) → orderAt (x .state) j ≡ orderAt b j
+  pub entries : x .state .entries ≡ b .entries
+
+pub record CancelSentence (b : State) (m n : ℕ) (x : Moved) : Type 0 where
+  -- "Cancel: one record 3 for what is live", of that member and number
+  pub one : OrderCancelled b m n x ⊎ LegOrderEnded b m n x
+  -- no running auction's starter
+  pub noStarter : (k : ℕ) → strategyAt b k .starter ≡ n → ⊥
+  pub strategies : x .state .strategies ≡ b .strategies
