@@ -208,7 +208,7 @@ legged legs a b live =
     (λ r h. absurd (omega arith)))
     (λ e h. absurd (omega arith))
 
-first-net : (side net x : ℕ) → legsFirst side net x ≡ true → 0 < net
+pub first-net : (side net x : ℕ) → legsFirst side net x ≡ true → 0 < net
 unfolding legsFirst
 first-net side net x h = positive net (pick-no (eqb net 0) h .0)
 

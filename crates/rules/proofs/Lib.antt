@@ -36,5 +36,6 @@ pub mod Ratios
 pub mod Origins
 pub mod Totals
 pub mod Sample
+pub mod WholeFills
 pub mod Clocks
 pub mod Cancels

@@ -35,6 +35,15 @@ Runs b k = 0 < strategyAt b k .starter
 abbrev pub IsKind : ℕ → Record → Type 0
 IsKind n r = kindNumber (r .kind) ≡ n
 
+-- "price 0 where whole met whole": a record 2 that shows price 0
+abbrev pub Unpriced : Record → Type 0
+Unpriced r = IsKind 2 r → r .level ≡ 10_000_000
+
+-- FILLS AND PASSES THAT USE NO LEGS: every leg order is as it was, and no record 2 shows a price
+pub record WithoutLegs (b : State) (x : Moved) : Type 0 where
+  pub orders : x .state .orders ≡ b .orders
+  pub prices : All Unpriced (x .records)
+
 -- CLOCK, at time t, from b to c.
 pub record ClockSentence (b : State) (t : ℕ) (c : State) : Type 0 where
   -- "auctions begun at least the timer ago end": a clock at or past an auction's begin and the timer ends it ..
