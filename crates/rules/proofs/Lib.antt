@@ -37,5 +37,6 @@ pub mod Origins
 pub mod Totals
 pub mod Sample
 pub mod WholeFills
-pub mod Clocks
 pub mod Cancels
+pub mod Bars
+pub mod Clocks

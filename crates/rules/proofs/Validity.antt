@@ -283,11 +283,10 @@ pub valid-step : (b : State) → Valid b → (frame : List ℕ) (space : ℕ) �
 unfolding step
 valid-step b v frame space = decide-valid b (readOf frame) space v (reading-fit frame)
 
--- In a valid state the slot that the rules seek holds the auction's starter.
-pub starter-found : (b : State) → Valid b → (k : ℕ) → running b k ≡ true → Starter b k (starterSlot b k)
+-- The slot that the rules seek holds the auction's starter, where there is one.
+pub starter-slot : (b : State) → Sound b → (k : ℕ) → HasStarter b k → Starter b k (starterSlot b k)
 unfolding starterSlot
-starter-found b v k r =
-    let p : HasStarter b k = v .settled k .starter r in
+starter-slot b v k p =
     let i : ℕ = p .at in
     let s : Starter b k i = p .starter in
     let test : ℕ → Bool = isNumber b k (strategyAt b k .starter) in
@@ -298,9 +297,13 @@ starter-found b v k r =
     let u : 0 < entryAt b (firstN test 32) .units = live-in k (entryAt b (firstN test 32)) (q .0) .0 in
     same-or (Starter b k (firstN test 32)) (firstN test 32) i (λ e. rw e s)
     (λ e. ⊎-elim
-    (λ (m : firstN test 32 < i). absurd (omega (arith, v .sound .rising (firstN test 32) i m u (s .live), n, s .number)))
-    (λ (m : i ≤ firstN test 32). absurd (omega (arith, v .sound .rising i (firstN test 32) (after i (firstN test 32) m e) (s .live) u, n, s .number)))
+    (λ (m : firstN test 32 < i). absurd (omega (arith, v .rising (firstN test 32) i m u (s .live), n, s .number)))
+    (λ (m : i ≤ firstN test 32). absurd (omega (arith, v .rising i (firstN test 32) (after i (firstN test 32) m e) (s .live) u, n, s .number)))
     (lt-or-le (firstN test 32) i))
   where
     after : (i j : ℕ) → i ≤ j → (j ≡ i → ⊥) → i < j
     after i j h e = omega arith
+
+-- In a valid state there is one.
+pub starter-found : (b : State) → Valid b → (k : ℕ) → running b k ≡ true → Starter b k (starterSlot b k)
+starter-found b v k r = starter-slot b (v .sound) k (v .settled k .starter r)

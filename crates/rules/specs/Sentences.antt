@@ -12,10 +12,12 @@ use Rattle.rules.specs.declared.Entry.{Entry}
 use Rattle.rules.specs.declared.LegOrder.{LegOrder}
 use Rattle.rules.specs.declared.State.{State}
 use Rattle.rules.specs.declared.Record.{Record}
-use Rattle.rules.specs.declared.Kind.the-variants.{Cancelled, LegOrderCancelled}
+use Rattle.rules.specs.declared.Kind.the-variants.{LegFill, Cancelled, LegOrderCancelled}
 use Rattle.rules.specs.State.{entryAt, orderAt, strategyAt}
 use Rattle.rules.specs.Moves.{Moved}
 use Rattle.rules.specs.Records.{kindNumber}
+use Rattle.rules.specs.Sides.{meets}
+use Rattle.rules.specs.Passes.{readyNet}
 use Rattle.rules.specs.Refusals.{first, causes}
 use Rattle.rules.specs.Step.{accept}
 use Rattle.rules.specs.Valid.{Starter, Valid}
@@ -44,15 +46,29 @@ pub record WithoutLegs (b : State) (x : Moved) : Type 0 where
   pub orders : x .state .orders ≡ b .orders
   pub prices : All Unpriced (x .records)
 
--- CLOCK, at time t, from b to c.
-pub record ClockSentence (b : State) (t : ℕ) (c : State) : Type 0 where
+-- THE STARTER'S PASS, x, in the auction of strategy k.
+pub record StarterSentence (b : State) (k : ℕ) (x : Moved) : Type 0 where
+  -- "legs barred if any opposite sweep or waiting order was accepted meanwhile"
+  pub barred : strategyAt b k .answered ≡ true → WithoutLegs b x
+  -- else they are not: it ends with nothing left, or where the legs are not ready or do not meet its limit
+  pub free : strategyAt b k .answered ≡ false → (i : ℕ) → Starter b k i →
+      (entryAt (x .state) i .units ≡ 0) ⊎ ((readyNet true i (x .state) ≡ 0) ⊎ (meets (entryAt b i .side) (entryAt b i .level) (readyNet true i (x .state)) ≡ false))
+
+-- a complex party's leg fill that shows price 0, if it is of that number
+abbrev pub UnpricedOf : ℕ → Record → Type 0
+UnpricedOf n r = r .kind ≡ LegFill → r .number ≡ n → r .level ≡ 10_000_000
+
+-- CLOCK, at time t, from b to what x leaves.
+pub record ClockSentence (b : State) (t : ℕ) (x : Moved) : Type 0 where
   -- "auctions begun at least the timer ago end": a clock at or past an auction's begin and the timer ends it ..
-  pub ends : (k : ℕ) → Runs b k → strategyAt b k .begun + b .timer ≤ t → strategyAt c k .starter ≡ 0
+  pub ends : (k : ℕ) → Runs b k → strategyAt b k .begun + b .timer ≤ t → strategyAt (x .state) k .starter ≡ 0
   -- .. and one before that leaves it as it was
-  pub goesOn : (k : ℕ) → Runs b k → t < strategyAt b k .begun + b .timer → strategyAt c k ≡ strategyAt b k
+  pub goesOn : (k : ℕ) → Runs b k → t < strategyAt b k .begun + b .timer → strategyAt (x .state) k ≡ strategyAt b k
   -- a clock begins no auction
-  pub beginsNone : (k : ℕ) → strategyAt b k .starter ≡ 0 → strategyAt c k .starter ≡ 0
-  pub clock : c .clock ≡ t
+  pub beginsNone : (k : ℕ) → strategyAt b k .starter ≡ 0 → strategyAt (x .state) k .starter ≡ 0
+  pub clock : x .state .clock ≡ t
+  -- "legs barred if any opposite sweep or waiting order was accepted meanwhile": no leg fill of such an auction's starter shows a price
+  pub barred : (k : ℕ) → Runs b k → strategyAt b k .answered ≡ true → All (UnpricedOf (strategyAt b k .starter)) (x .records)
 
 -- CANCEL by a member of a number, from b to what x leaves. The row it ends is a complex order ..
 pub record OrderCancelled (b : State) (m n : ℕ) (x : Moved) : Type 0 where
