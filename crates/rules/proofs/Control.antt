@@ -117,7 +117,7 @@ trading-apart {b} {a} {h} t e =
 
 -- GIVE
 -- one term more is still within the sum
-sum-part : (f : ℕ → ℕ) (n k : ℕ) → k < n → sumN f k + f k ≤ sumN f n
+pub sum-part : (f : ℕ → ℕ) (n k : ℕ) → k < n → sumN f k + f k ≤ sumN f n
 unfolding sumN
 sum-part f zero k h = absurd (omega arith)
 sum-part f (suc n) k h = ⊎-elim (λ q. rw q (omega arith)) (λ l. omega (arith, sum-part f n k l)) (below h)
@@ -295,7 +295,7 @@ crossed-best b k h =
     }
 
 -- a live entry of the strategy and the other side opposes
-opposes-is : (e f : Entry) → 0 < f .units → f .strategy ≡ e .strategy → f .side ≡ other (e .side) → opposes e f ≡ true
+pub opposes-is : (e f : Entry) → 0 < f .units → f .strategy ≡ e .strategy → f .side ≡ other (e .side) → opposes e f ≡ true
 unfolding opposes
 opposes-is e f live s o =
     pick-false (eqb (f .units) 0) _ _ (ne-eqb (f .units) 0 (λ z. omega arith))

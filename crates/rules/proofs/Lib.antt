@@ -37,6 +37,7 @@ pub mod Origins
 pub mod Totals
 pub mod Sample
 pub mod WholeFills
+pub mod Groups
 pub mod Cancels
 pub mod Bars
 pub mod Clocks

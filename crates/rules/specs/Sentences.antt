@@ -46,6 +46,38 @@ pub record WithoutLegs (b : State) (x : Moved) : Type 0 where
   pub orders : x .state .orders ≡ b .orders
   pub prices : All Unpriced (x .records)
 
+-- GROUPS: "customers by number; then sweeps and market makers; then broker-dealers". A sweep is an entry of life 4.
+abbrev pub Customer : Entry → Type 0
+Customer e = (e .class ≡ 1) × (e .life ≡ 4 → ⊥)
+
+abbrev pub SweepOrMaker : Entry → Type 0
+SweepOrMaker e = (e .life ≡ 4) ⊎ (e .class ≡ 3)
+
+abbrev pub Dealer : Entry → Type 0
+Dealer e = (e .class ≡ 2) × (e .life ≡ 4 → ⊥)
+
+-- two entries at one limit, of one strategy and side
+pub record Beside (e f : Entry) : Type 0 where
+  pub strategy : f .strategy ≡ e .strategy
+  pub side : f .side ≡ e .side
+  pub limit : f .level ≡ e .level
+
+-- in a shared pass e goes before f
+pub data AheadShared (e f : Entry) : Type 0 where
+  customer-before-maker : Customer e → SweepOrMaker f → AheadShared e f
+  customer-before-dealer : Customer e → Dealer f → AheadShared e f
+  maker-before-dealer : SweepOrMaker e → Dealer f → AheadShared e f
+  customers-by-number : Customer e → Customer f → e .number < f .number → AheadShared e f
+
+-- "In a numbered pass they go by number alone."
+abbrev pub AheadNumbered : Entry → Entry → Type 0
+AheadNumbered e f = e .number < f .number
+
+-- nobody is passed by: where an entry at a limit has traded against the active one, at slot a, one there that goes before it has nothing left
+abbrev pub NonePassed : (Entry → Entry → Type 0) → ℕ → State → State → Type 0
+NonePassed Ahead a b c =
+    (i j : ℕ) → (j ≡ a → ⊥) → Beside (entryAt b i) (entryAt b j) → Ahead (entryAt b i) (entryAt b j) → entryAt c j .units < entryAt b j .units → entryAt c i .units ≡ 0
+
 -- THE STARTER'S PASS, x, in the auction of strategy k.
 pub record StarterSentence (b : State) (k : ℕ) (x : Moved) : Type 0 where
   -- "legs barred if any opposite sweep or waiting order was accepted meanwhile"
