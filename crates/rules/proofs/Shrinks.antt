@@ -15,47 +15,9 @@ use Rattle.rules.specs.declared.LegOrder.{LegOrder}
 use Rattle.rules.specs.declared.State.{State}
 use Rattle.rules.specs.State.{noEntry, noOrder, noStrategy, entryAt, orderAt, strategyAt, withEntries, withOrders, withStrategies}
 use Rattle.rules.specs.Moves.{Moved, and-then}
+pub use Rattle.rules.specs.Shrinks.{SameEntry, SameOrder, SameStrategy, Shrinks}
 use Rattle.rules.specs.Fills.{cutEntry, cutOrder, cut, cutLeg, cutAt, cutOrders, takesAt, cutByLegs, wholeFill, takeLegs, legFill, legTrade, cancelEntry, cancelOrder, legQuotas}
 use Rattle.rules.specs.Auctions.{withAuction, putAuction, begin, close, answer}
-
--- an entry that has lost units at most
-pub record SameEntry (e f : Entry) : Type 0 where
-  pub number : f .number ≡ e .number
-  pub member : f .member ≡ e .member
-  pub strategy : f .strategy ≡ e .strategy
-  pub side : f .side ≡ e .side
-  pub class : f .class ≡ e .class
-  pub life : f .life ≡ e .life
-  pub level : f .level ≡ e .level
-  pub units : f .units ≤ e .units
-
--- a leg order that has lost contracts at most
-pub record SameOrder (o p : LegOrder) : Type 0 where
-  pub number : p .number ≡ o .number
-  pub member : p .member ≡ o .member
-  pub series : p .series ≡ o .series
-  pub side : p .side ≡ o .side
-  pub price : p .price ≡ o .price
-  pub contracts : p .contracts ≤ o .contracts
-
--- a strategy of which no more than the auction has changed
-pub record SameStrategy (s t : Strategy) : Type 0 where
-  pub legs : t .legs ≡ s .legs
-  pub count : t .count ≡ s .count
-  pub series : t .series ≡ s .series
-
-pub record Shrinks (b c : State) : Type 0 where
-  pub entry : (i : ℕ) → SameEntry (entryAt b i) (entryAt c i)
-  pub order : (i : ℕ) → SameOrder (orderAt b i) (orderAt c i)
-  pub strategy : (k : ℕ) → SameStrategy (strategyAt b k) (strategyAt c k)
-  pub entryRows : length (c .entries) ≡ length (b .entries)
-  pub orderRows : length (c .orders) ≡ length (b .orders)
-  pub strategyRows : length (c .strategies) ≡ length (b .strategies)
-  pub defined : c .defined ≡ b .defined
-  pub opened : c .opened ≡ b .opened
-  pub clock : c .clock ≡ b .clock
-  pub timer : c .timer ≡ b .timer
-  pub last : c .last ≡ b .last
 
 pub same-entry : (e : Entry) → SameEntry e e
 same-entry e = record { number = refl; member = refl; strategy = refl; side = refl; class = refl; life = refl; level = refl; units = omega arith }

@@ -18,4 +18,5 @@ pub mod Fits
 pub mod Records
 pub mod Totals
 pub mod Examples
+pub mod Shrinks
 pub mod Sentences
