@@ -298,7 +298,7 @@ module _ (a level : ℕ) (b : State) (rows : length (b .entries) ≡ 32) (rising
       (lt-or-le 0 (entryAt b i .units))
 
 -- A FILL BY LEGS is of the active entry alone
-legs-others : (a : ℕ) (b : State) (j : ℕ) → (j ≡ a → ⊥) → entryAt (legFill a b .state) j ≡ entryAt b j
+pub legs-others : (a : ℕ) (b : State) (j : ℕ) → (j ≡ a → ⊥) → entryAt (legFill a b .state) j ≡ entryAt b j
 unfolding legFill takeLegs withOrders
 legs-others a b j n = cut-other b a _ j n
 

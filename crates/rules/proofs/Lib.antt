@@ -41,3 +41,4 @@ pub mod Groups
 pub mod Cancels
 pub mod Bars
 pub mod Clocks
+pub mod LegOrders

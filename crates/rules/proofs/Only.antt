@@ -247,7 +247,7 @@ module _ (k : ℕ) where
   unfolding legTrade cutLeg withOrders
   trade-only b a h = record { shrinks = trade-shrinks b a h; others = λ i n. refl; strategies = refl }
 
-  tradeOnce-only : (a i : ℕ) (b : State) → Only k b (tradeOnce a i b .state)
+  pub tradeOnce-only : (a i : ℕ) (b : State) → Only k b (tradeOnce a i b .state)
   unfolding tradeOnce
   tradeOnce-only a i b =
       let P : Moved → Type 0 = λ (m : Moved). Only k b (m .state) in

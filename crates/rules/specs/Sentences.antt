@@ -7,6 +7,7 @@ use mathlib.Core.Logic.{_⊎_}
 use mathlib.Core.List.{List, [], _∷_}
 use Prim.Native.Nat.{ℕ, _+_, _≤_, _<_}
 use Rattle.base.specs.All.{All}
+use Rattle.base.specs.Sets.{has}
 use Rattle.events.specs.declared.Event.{Event}
 use Rattle.rules.specs.declared.Entry.{Entry}
 use Rattle.rules.specs.declared.LegOrder.{LegOrder}
@@ -16,12 +17,13 @@ use Rattle.rules.specs.declared.Kind.the-variants.{LegFill, Cancelled, L
 use Rattle.rules.specs.State.{entryAt, orderAt, strategyAt}
 use Rattle.rules.specs.Moves.{Moved}
 use Rattle.rules.specs.Records.{kindNumber}
-use Rattle.rules.specs.Sides.{meets}
+use Rattle.rules.specs.Sides.{meets, better}
 use Rattle.rules.specs.Passes.{readyNet}
 use Rattle.rules.specs.Refusals.{first, causes}
 use Rattle.rules.specs.Step.{accept}
 use Rattle.rules.specs.Valid.{Starter, Valid}
 use Rattle.rules.specs.Fits.{FitEvent}
+use Rattle.rules.specs.Shrinks.{Shrinks}
 
 -- AN ACCEPTED EVENT: the state is valid, the event's fields are in their ranges, and no cause of a refusal applies.
 pub record Accepted (b : State) (e : Event) : Type 0 where
@@ -132,3 +134,48 @@ pub record CancelSentence (b : State) (m n : ℕ) (x : Moved) : Type 0 where
   -- no running auction's starter
   pub noStarter : (k : ℕ) → strategyAt b k .starter ≡ n → ⊥
   pub strategies : x .state .strategies ≡ b .strategies
+
+-- every series of strategy k is open
+abbrev pub Open : State → ℕ → Type 0
+Open b k = (t : ℕ) → t < 32 → has (strategyAt b k .series) t ≡ true → has (b .opened) t ≡ true
+
+-- "each day order .. in strategies holding that series, all open, without an auction"
+pub record GetsPass (b : State) (s i : ℕ) : Type 0 where
+  pub live : 0 < entryAt b i .units
+  pub day : entryAt b i .life ≡ 0
+  pub holds : has (strategyAt b (entryAt b i .strategy) .series) s ≡ true
+  pub allOpen : Open b (entryAt b i .strategy)
+  pub noAuction : strategyAt b (entryAt b i .strategy) .starter ≡ 0
+
+-- ".. gets a pass by legs only": at a moment between b and c nothing of it is left, or the legs are not ready for it or do not meet its limit
+pub record HadPass (b c : State) (i : ℕ) : Type 0 where
+  pub moment : State
+  pub since : Shrinks b moment
+  pub until : Shrinks moment c
+  pub done : (entryAt moment i .units ≡ 0) ⊎ ((readyNet true i moment ≡ 0) ⊎ (meets (entryAt b i .side) (entryAt b i .level) (readyNet true i moment) ≡ false))
+
+-- p is a live leg order that o meets: of its series and the other side, at a price within its own
+pub record Met (o p : LegOrder) : Type 0 where
+  pub live : 0 < p .contracts
+  pub series : p .series ≡ o .series
+  pub side : p .side ≡ o .side → ⊥
+  pub price : meets (o .side) (o .price) (p .price) ≡ true
+
+-- "best price then number": p goes before q for one that trades with both
+abbrev pub AheadOrder : LegOrder → LegOrder → LegOrder → Type 0
+AheadOrder o p q = (better (o .side) (p .price) (q .price) ≡ true) ⊎ ((p .price ≡ q .price) × (p .number < q .number))
+
+-- LEG ORDER o at slot a of the state b that it has entered; t is the state when its trades are done, c that after the event.
+pub record LegOrderSentence (b : State) (a : ℕ) (t c : State) : Type 0 where
+  -- "trades with opposite leg orders that meet its price": what is left of it meets none
+  pub tradesAll : 0 < orderAt t a .contracts → (i : ℕ) → Met (orderAt t a) (orderAt t i) → ⊥
+  -- ".. best price then number": where it has traded with one, nothing is left of one that goes before it
+  pub bestFirst : (i j : ℕ) → (j ≡ a → ⊥) → Met (orderAt b a) (orderAt b i) → AheadOrder (orderAt b a) (orderAt b i) (orderAt b j) →
+      orderAt t j .contracts < orderAt b j .contracts → orderAt t i .contracts ≡ 0
+  -- its trades touch no complex order
+  pub entries : t .entries ≡ b .entries
+  -- "If any rests, each day order .. gets a pass by legs only"
+  pub passes : 0 < orderAt t a .contracts → (i : ℕ) → GetsPass t (orderAt b a .series) i → HadPass t c i
+  -- nobody else does, and none if nothing rests
+  pub noOthers : (i : ℕ) → entryAt c i .units < entryAt t i .units → GetsPass t (orderAt b a .series) i
+  pub noneRests : orderAt t a .contracts ≡ 0 → c ≡ t
