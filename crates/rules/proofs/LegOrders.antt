@@ -3,8 +3,8 @@
 use mathlib.Core.Path.{_≡_, refl, sym, _∙_, ap}
 use mathlib.Core.Bool.{Bool, true, false, not}
 use mathlib.Core.Logic.{_⊎_, inl, inr, ⊎-elim}
-use mathlib.Core.List.{List}
-use Prim.Native.Nat.{ℕ, zero, suc, _+_, _≤_, _<_}
+use mathlib.Core.List.{List, _++_, append-nil}
+use Prim.Native.Nat.{ℕ, zero, suc, _+_, _≤_, _<_, min}
 use native.Mathlib.Omega.{arith}
 use borrow.Author.Tests.{eqb-true, eqb-false, eq-eqb, ne-eqb, ltb-true, not-true, not-false}
 use lib.Dec.{eqb}
@@ -19,6 +19,7 @@ use Rattle.rules.specs.declared.Strategy.{Strategy}
 use Rattle.rules.specs.declared.Entry.{Entry}
 use Rattle.rules.specs.declared.LegOrder.{LegOrder}
 use Rattle.rules.specs.declared.State.{State}
+use Rattle.rules.specs.declared.Record.{Record}
 use Rattle.rules.specs.declared.Allocation.the-variants.{LegsOnly}
 use Rattle.rules.specs.declared.Turn.{Turn}
 use Rattle.rules.specs.declared.Turn.the-variants.{Stop, ByLegs, AtLimit}
@@ -33,8 +34,8 @@ use Rattle.rules.specs.Events.{liveOrder, enterOrder, freeOrderSlot, bes
 use Rattle.rules.specs.Given.{legOrderGiven}
 use Rattle.rules.specs.Step.{accept}
 use Rattle.rules.specs.Valid.{Sound}
-use Rattle.rules.specs.Sentences.{Accepted, Open, GetsPass, HadPass, Met, AheadOrder, LegOrderSentence}
-use Rattle.rules.proofs.Tables.{behind-slot}
+use Rattle.rules.specs.Sentences.{Accepted, Open, GetsPass, HadPass, Met, AheadOrder, Trades, no-trade, and-trade, LegOrderSentence}
+use Rattle.rules.proofs.Tables.{positive, behind-slot}
 use Rattle.rules.proofs.Shrinks.{Shrinks, shrinks-refl, shrinks-trans}
 use Rattle.rules.proofs.Control.{pass-kept, legPass-kept, legPassesIn-kept, shrinks-kept}
 use Rattle.rules.proofs.Only.{Only, only-refl, only-trans, live-in, legPass-only, legPasses-only, tradeOnce-only}
@@ -42,9 +43,9 @@ use Rattle.rules.proofs.Ends.{pass-why}
 use Rattle.rules.proofs.Endings.{live-is}
 use Rattle.rules.proofs.Settled.{same-or, each-keeps, shut-same, only-sound}
 use Rattle.rules.proofs.Entering.{fit-entry-at, fit-order-at, EnteringOrder, enterOrder-room, sound-enterOrder}
-use Rattle.rules.proofs.Firsts.{live-slot, Meeting, BestOrder, best-order-first}
+use Rattle.rules.proofs.Firsts.{live-slot, Meeting, BestOrder, best-order-first, best-meets}
 use Rattle.rules.proofs.Finishes.{trade-all}
-use Rattle.rules.proofs.Gives.{cutLeg-other}
+use Rattle.rules.proofs.Gives.{cutLeg-other, other-apart}
 use Rattle.rules.proofs.Validity.{legOrder-clear}
 use Rattle.rules.proofs.Groups.{legs-others}
 
@@ -359,11 +360,51 @@ traded-next a k b v c t =
           (lt-or-le 0 (orderAt c i .contracts));
     }
 
+traded-upto : (a : ℕ) (b : State) → Sound b → (n : ℕ) → Traded a b (each (tradeOnce a) n b .state)
+traded-upto a b v n =
+    each-keeps (Traded a b) (tradeOnce a) n (λ k _ c. traded-next a k b v c) b
+    (record { only = only-refl 0 b; entries = refl; best = λ i j n m h fell. absurd (omega arith) })
+
 traded-all : (a : ℕ) (b : State) → Sound b → Traded a b (tradeAll a b .state)
 unfolding tradeAll
-traded-all a b v =
-    each-keeps (Traded a b) (tradeOnce a) 32 (λ k _ c. traded-next a k b v c) b
-    (record { only = only-refl 0 b; entries = refl; best = λ i j n m h fell. absurd (omega arith) })
+traded-all a b v = traded-upto a b v 32
+
+-- THEIR RECORDS
+meeting-met : {b c : State} (a i : ℕ) → Shrinks b c → Meeting c (orderAt c a) i → Met (orderAt b a) (orderAt b i)
+meeting-met {b} {c} a i s m =
+    let x = s .order a in
+    let y = s .order i in
+    record {
+      live = omega (arith, m .live, y .contracts);
+      series = sym (y .series) ∙ m .series ∙ x .series;
+      side = λ e. other-apart (orderAt c a .side) (x .side ∙ sym e ∙ sym (y .side) ∙ m .side);
+      price = rw (x .side, x .price, y .price) at (m .price);
+    }
+
+module _ (a : ℕ) (b : State) (v : Sound b) where
+  trade-records : (rs : List Record) (k : ℕ) (c : State) → Shrinks b c → Trades b a rs → Trades b a (rs ++ tradeOnce a k c .records)
+  unfolding tradeOnce legTrade
+  trade-records rs k c s t =
+      let P : Moved → Type 0 = λ (x : Moved). Trades b a (rs ++ x .records) in
+      let same : P (still c) = rw (append-nil rs) t in
+      let h : ℕ = bestOrder c (orderAt c a) in
+      pick-by P _ (λ _. same) (λ z. pick-by P _
+      (λ l.
+      let m : Meeting c (orderAt c a) h = best-meets c (orderAt c a) (ltb-true h 32 l) in
+      let x = s .order a in
+      let y = s .order h in
+      rw (x .number, x .series, x .side, y .number, y .series, y .side, y .price)
+      (and-trade t h (min (orderAt c a .contracts) (orderAt c h .contracts)) (meeting-met a h s m) (omega (arith, positive (orderAt c a .contracts) z, m .live))))
+      (λ _. same))
+
+  records-upto : (n : ℕ) → Trades b a (each (tradeOnce a) n b .records)
+  unfolding each and-then
+  records-upto zero = no-trade
+  records-upto (suc n) = trade-records (each (tradeOnce a) n b .records) n (each (tradeOnce a) n b .state) (traded-upto a b v n .only .shrinks) (records-upto n)
+
+  records-all : Trades b a (tradeAll a b .records)
+  unfolding tradeAll
+  records-all = records-upto 32
 
 -- the slot that it entered
 entered : (b : State) (o : LegOrder) → Sound b → EnteringOrder b o → orderAt (enterOrder o b) (freeOrderSlot b) ≡ o
@@ -394,12 +435,13 @@ module _ (b : State) (v : Sound b) (a : ℕ) where
       pick-all (λ (x : Moved). Passing series done (x .state)) _
       (record { quiet = quiet-refl done; only = λ i l. absurd (omega arith) }) (passing-all series done (sound-done .orderRows))
 
-  sentence : LegOrderSentence b a done (ifRests series a done .state)
+  sentence : LegOrderSentence b a (tradeAll a b) (ifRests series a done .state)
   sentence =
       let t : Traded a b done = traded-all a b v in
       record {
         tradesAll = λ l i m. ⊎-elim (λ z. omega arith) (λ none. none i (met-meeting done sound-done a i m)) (trade-all a b (v .orderRows));
         bestFirst = t .best;
+        records = records-all a b v;
         entries = t .entries;
         passes = λ l i g. rw (rests l) (passes-had series i done sound-done g);
         noOthers = passing .only;
@@ -410,7 +452,7 @@ module _ (b : State) (v : Sound b) (a : ℕ) where
 pub leg-order-sentence : (b : State) (e : GivenLegOrder) → Accepted b (E.LegOrder e) →
     let o : LegOrder = legOrderGiven b e in
     let a : ℕ = freeOrderSlot b in
-    LegOrderSentence (enterOrder o b) a (tradeAll a (enterOrder o b) .state) (accept b (E.LegOrder e) .state)
+    LegOrderSentence (enterOrder o b) a (tradeAll a (enterOrder o b)) (accept b (E.LegOrder e) .state)
 unfolding accept onLegOrder and-then
 leg-order-sentence b e x =
     let o : LegOrder = legOrderGiven b e in

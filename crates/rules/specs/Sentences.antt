@@ -4,7 +4,7 @@
 use mathlib.Core.Path.{_≡_}
 use mathlib.Core.Bool.{Bool, true, false}
 use mathlib.Core.Logic.{_⊎_}
-use mathlib.Core.List.{List, [], _∷_}
+use mathlib.Core.List.{List, [], _∷_, _++_}
 use Prim.Native.Nat.{ℕ, _+_, _≤_, _<_}
 use Rattle.base.specs.All.{All}
 use Rattle.base.specs.Sets.{has}
@@ -13,7 +13,7 @@ use Rattle.rules.specs.declared.Entry.{Entry}
 use Rattle.rules.specs.declared.LegOrder.{LegOrder}
 use Rattle.rules.specs.declared.State.{State}
 use Rattle.rules.specs.declared.Record.{Record}
-use Rattle.rules.specs.declared.Kind.the-variants.{LegFill, Cancelled, LegOrderCancelled}
+use Rattle.rules.specs.declared.Kind.the-variants.{LegFill, LegOrderFill, Cancelled, LegOrderCancelled}
 use Rattle.rules.specs.State.{entryAt, orderAt, strategyAt}
 use Rattle.rules.specs.Moves.{Moved}
 use Rattle.rules.specs.Records.{kindNumber}
@@ -165,17 +165,28 @@ pub record Met (o p : LegOrder) : Type 0 where
 abbrev pub AheadOrder : LegOrder → LegOrder → LegOrder → Type 0
 AheadOrder o p q = (better (o .side) (p .price) (q .price) ≡ true) ⊎ ((p .price ≡ q .price) × (p .number < q .number))
 
--- LEG ORDER o at slot a of the state b that it has entered; t is the state when its trades are done, c that after the event.
-pub record LegOrderSentence (b : State) (a : ℕ) (t c : State) : Type 0 where
+-- a leg order's record 2
+abbrev pub traded : LegOrder → ℕ → ℕ → Record
+traded o q price = record { kind = LegOrderFill; number = o .number; place = o .series; side = o .side; quantity = q; level = 10_000_000 + price }
+
+-- "at the resting price, incoming record first": the records of the trades of the leg order at slot a, two for each, both at the price of one that it met
+pub data Trades (b : State) (a : ℕ) : List Record → Type 0 where
+  no-trade : Trades b a []
+  and-trade : {rs : List Record} → Trades b a rs → (h q : ℕ) → Met (orderAt b a) (orderAt b h) → 0 < q →
+      Trades b a (rs ++ (traded (orderAt b a) q (orderAt b h .price) ∷ (traded (orderAt b h) q (orderAt b h .price) ∷ [])))
+
+-- LEG ORDER, at slot a of the state b that it has entered. Its trades are x; c is the state after the event.
+pub record LegOrderSentence (b : State) (a : ℕ) (x : Moved) (c : State) : Type 0 where
   -- "trades with opposite leg orders that meet its price": what is left of it meets none
-  pub tradesAll : 0 < orderAt t a .contracts → (i : ℕ) → Met (orderAt t a) (orderAt t i) → ⊥
+  pub tradesAll : 0 < orderAt (x .state) a .contracts → (i : ℕ) → Met (orderAt (x .state) a) (orderAt (x .state) i) → ⊥
   -- ".. best price then number": where it has traded with one, nothing is left of one that goes before it
   pub bestFirst : (i j : ℕ) → (j ≡ a → ⊥) → Met (orderAt b a) (orderAt b i) → AheadOrder (orderAt b a) (orderAt b i) (orderAt b j) →
-      orderAt t j .contracts < orderAt b j .contracts → orderAt t i .contracts ≡ 0
+      orderAt (x .state) j .contracts < orderAt b j .contracts → orderAt (x .state) i .contracts ≡ 0
+  pub records : Trades b a (x .records)
   -- its trades touch no complex order
-  pub entries : t .entries ≡ b .entries
+  pub entries : x .state .entries ≡ b .entries
   -- "If any rests, each day order .. gets a pass by legs only"
-  pub passes : 0 < orderAt t a .contracts → (i : ℕ) → GetsPass t (orderAt b a .series) i → HadPass t c i
+  pub passes : 0 < orderAt (x .state) a .contracts → (i : ℕ) → GetsPass (x .state) (orderAt b a .series) i → HadPass (x .state) c i
   -- nobody else does, and none if nothing rests
-  pub noOthers : (i : ℕ) → entryAt c i .units < entryAt t i .units → GetsPass t (orderAt b a .series) i
-  pub noneRests : orderAt t a .contracts ≡ 0 → c ≡ t
+  pub noOthers : (i : ℕ) → entryAt c i .units < entryAt (x .state) i .units → GetsPass (x .state) (orderAt b a .series) i
+  pub noneRests : orderAt (x .state) a .contracts ≡ 0 → c ≡ x .state
