@@ -97,11 +97,11 @@ answer-starter = answer-same (λ (s : Strategy). s .starter) (λ s. refl)
 answer-begun : (b : State) (k side j : ℕ) → strategyAt (answer k side b) j .begun ≡ strategyAt b j .begun
 answer-begun = answer-same (λ (s : Strategy). s .begun) (λ s. refl)
 
-answer-entries : (b : State) (k side : ℕ) → answer k side b .entries ≡ b .entries
+pub answer-entries : (b : State) (k side : ℕ) → answer k side b .entries ≡ b .entries
 unfolding answer
 answer-entries b k side = pick-all (λ (c : State). c .entries ≡ b .entries) _ (put-entries b k _ _ _) refl
 
-answer-entry : (b : State) (k side i : ℕ) → entryAt (answer k side b) i ≡ entryAt b i
+pub answer-entry : (b : State) (k side i : ℕ) → entryAt (answer k side b) i ≡ entryAt b i
 answer-entry b k side i = ap (λ (es : List Entry). getD es i noEntry) (answer-entries b k side)
 
 answer-auctions : (b : State) (k side : ℕ) → Sound b → Auctions (answer k side b)
@@ -308,7 +308,7 @@ sum-change f g (suc k) i h e =
     (below h)
 
 -- an old sweep is a live sweep
-old-sweep : (b : State) (e : Entry) → oldSweep b e < 32 → (live (entryAt b (oldSweep b e)) ≡ true) × (entryAt b (oldSweep b e) .life ≡ 4)
+pub old-sweep : (b : State) (e : Entry) → oldSweep b e < 32 → (live (entryAt b (oldSweep b e)) ≡ true) × (entryAt b (oldSweep b e) .life ≡ 4)
 unfolding oldSweep sameSweep
 old-sweep b e h =
     let p = pick-yes (live (entryAt b (oldSweep b e))) (first-holds (sameSweepAt b e) 32 h) in

@@ -42,3 +42,4 @@ pub mod Cancels
 pub mod Bars
 pub mod Clocks
 pub mod LegOrders
+pub mod Sweeps

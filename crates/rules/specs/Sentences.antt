@@ -9,6 +9,7 @@ use Prim.Native.Nat.{ℕ, _+_, _≤_, _<_}
 use Rattle.base.specs.All.{All}
 use Rattle.base.specs.Sets.{has}
 use Rattle.events.specs.declared.Event.{Event}
+use Rattle.events.specs.declared.Sweep.{Sweep as GivenSweep}
 use Rattle.rules.specs.declared.Entry.{Entry}
 use Rattle.rules.specs.declared.LegOrder.{LegOrder}
 use Rattle.rules.specs.declared.State.{State}
@@ -190,3 +191,55 @@ pub record LegOrderSentence (b : State) (a : ℕ) (x : Moved) (c : State) : Type
   -- nobody else does, and none if nothing rests
   pub noOthers : (i : ℕ) → entryAt c i .units < entryAt (x .state) i .units → GetsPass (x .state) (orderAt b a .series) i
   pub noneRests : orderAt (x .state) a .contracts ≡ 0 → c ≡ x .state
+
+-- AN ANSWER to the auction of strategy k, by an entry of that side: it is marked if the entry is opposite its starter, and else it is not.
+pub record Answers (b : State) (k s : ℕ) (c : State) : Type 0 where
+  pub opposite : (i : ℕ) → Starter b k i → (entryAt b i .side ≡ s → ⊥) → strategyAt c k .answered ≡ true
+  pub sameSide : (i : ℕ) → Starter b k i → entryAt b i .side ≡ s → strategyAt c k ≡ strategyAt b k
+
+-- a live sweep of the member, strategy, side and limit of an event
+pub record SweepOf (e : GivenSweep) (f : Entry) : Type 0 where
+  pub live : 0 < f .units
+  pub life : f .life ≡ 4
+  pub member : f .member ≡ e .member
+  pub strategy : f .strategy ≡ e .strategy
+  pub side : f .side ≡ e .side
+  pub limit : f .level ≡ e .level
+
+-- no two sweeps of one member, strategy, side and limit are live
+pub record Alike (e f : Entry) : Type 0 where
+  pub sweep : e .life ≡ 4
+  pub life : f .life ≡ 4
+  pub member : f .member ≡ e .member
+  pub strategy : f .strategy ≡ e .strategy
+  pub side : f .side ≡ e .side
+  pub limit : f .level ≡ e .level
+
+abbrev pub OneSweep : State → Type 0
+OneSweep b = (i j : ℕ) → i < j → 0 < entryAt b i .units → 0 < entryAt b j .units → Alike (entryAt b i) (entryAt b j) → ⊥
+
+-- the new sweep stands in a slot
+pub record NewSweep (b : State) (e : GivenSweep) (c : State) : Type 0 where
+  pub at : ℕ
+  pub sweep : SweepOf e (entryAt c at)
+  pub number : entryAt c at .number ≡ b .last + 1
+  pub units : entryAt c at .units ≡ e .units
+  -- and in no other
+  pub alone : (i : ℕ) → SweepOf e (entryAt c i) → i ≡ at
+
+-- SWEEP, from b to what x leaves.
+pub record SweepSentence (b : State) (e : GivenSweep) (x : Moved) : Type 0 where
+  -- "same member, strategy, side and limit: the old one is cancelled by record first"
+  pub replaces : (i : ℕ) → SweepOf e (entryAt b i) →
+      x .records ≡ record { kind = Cancelled; number = entryAt b i .number; place = 0; side = e .side; quantity = entryAt b i .units; level = 10_000_000 } ∷ []
+  pub removesNone : ((i : ℕ) → SweepOf e (entryAt b i) → ⊥) → x .records ≡ []
+  -- "0 units enters nothing"
+  pub withdrawn : e .units ≡ 0 → (i : ℕ) → SweepOf e (entryAt (x .state) i) → ⊥
+  pub noNumber : e .units ≡ 0 → x .state .last ≡ b .last
+  -- with units it enters under a new number, and none but it is live
+  pub enters : 0 < e .units → NewSweep b e (x .state)
+  pub number : 0 < e .units → x .state .last ≡ b .last + 1
+  -- "any opposite sweep .. accepted meanwhile"
+  pub answers : 0 < e .units → Answers b (e .strategy) (e .side) (x .state)
+  pub notAnswers : e .units ≡ 0 → x .state .strategies ≡ b .strategies
+  pub otherAuctions : (k : ℕ) → (k ≡ e .strategy → ⊥) → strategyAt (x .state) k ≡ strategyAt b k
