@@ -43,3 +43,4 @@ pub mod Bars
 pub mod Clocks
 pub mod LegOrders
 pub mod Sweeps
+pub mod OneSweep

@@ -83,10 +83,10 @@ entered-answers b e v n k low = record {
 
 -- SWEEPS OF ONE MEMBER, STRATEGY, SIDE AND LIMIT
 module _ (b : State) (e : GivenSweep) where
-  abbrev new : Entry
+  abbrev pub new : Entry
   new = sweepGiven b e
 
-  abbrev old : ℕ
+  abbrev pub old : ℕ
   old = oldSweep b new
 
   same-of : (f : Entry) → sameSweep new f ≡ true → SweepOf e f
@@ -143,7 +143,7 @@ module _ (b : State) (e : GivenSweep) where
         before : (j i : ℕ) → j ≤ i → (i ≡ j → ⊥) → j < i
         before j i l q = omega arith
 
-    abbrev gone : State
+    abbrev pub gone : State
     gone = cancelEntry old b .state
 
     less-of : (i : ℕ) → SweepOf e (entryAt gone i) → SweepOf e (entryAt b i)
@@ -159,7 +159,7 @@ module _ (b : State) (e : GivenSweep) where
         }
 
     -- once the old one is cancelled there is none
-    none-left : OneSweep b → (i : ℕ) → SweepOf e (entryAt gone i) → ⊥
+    pub none-left : OneSweep b → (i : ℕ) → SweepOf e (entryAt gone i) → ⊥
     none-left o i s =
         let t : SweepOf e (entryAt b i) = less-of i s in
         let q : i ≡ old = one-at o i old t (old-is (old-low i t)) in
@@ -194,16 +194,16 @@ module _ (b : State) (e : GivenSweep) where
         (lt-or-le old 32)))
 
     -- 0 UNITS
-    withdraws : e .units ≡ 0 → onSweep new b .state ≡ gone
+    pub withdraws : e .units ≡ 0 → onSweep new b .state ≡ gone
     unfolding onSweep and-then enterSweep live sweepGiven
     withdraws z = ap (λ (m : Moved). m .state) (pick-false _ _ (still gone) (ap not (eq-eqb (e .units) 0 z)))
 
     -- UNITS
     module _ (low : e .strategy < 16) (r : Entering gone new) (w : Valid gone) where
-      abbrev d : State
+      abbrev pub d : State
       d = answer (e .strategy) (e .side) (enter new gone)
 
-      sweeps : 0 < e .units → onSweep new b .state ≡ d
+      pub sweeps : 0 < e .units → onSweep new b .state ≡ d
       unfolding onSweep and-then enterSweep sweepGiven
       sweeps l = ap (λ (m : Moved). m .state) (pick-true _ _ (still gone) (pos-live new l))
 
