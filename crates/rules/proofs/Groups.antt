@@ -7,10 +7,10 @@ use mathlib.Core.List.{List}
 use Prim.Native.Nat.{ℕ, zero, suc, _+_, _-_, _≤_, _<_, min}
 use native.Mathlib.Omega.{arith}
 use borrow.Author.Tests.{eqb-true, eq-eqb, ne-eqb}
-use lib.Dec.{eqb}
-use lib.ListN.{length}
+use lib.Dec.{eqb, ltb}
+use lib.ListN.{length, getD}
 use Rattle.base.specs.Pick.{pick, pick-all, pick-by, pick-true, pick-false}
-use Rattle.base.specs.Walks.{sumN, slot, sum-one, table-slot, lt-or-le}
+use Rattle.base.specs.Walks.{sumN, slot, walk, sum-one, table-slot, lt-or-le, below, clash}
 use Rattle.rules.specs.declared.Strategy.{Strategy}
 use Rattle.rules.specs.declared.Entry.{Entry}
 use Rattle.rules.specs.declared.State.{State}
@@ -18,20 +18,30 @@ use Rattle.rules.specs.declared.Allocation.{Allocation}
 use Rattle.rules.specs.declared.Allocation.the-variants.{LegsOnly, Shared, Numbered}
 use Rattle.rules.specs.declared.Turn.{Turn}
 use Rattle.rules.specs.declared.Turn.the-variants.{Stop, ByLegs, AtLimit}
-use Rattle.rules.specs.State.{entryAt, withOrders}
+use Rattle.rules.specs.State.{noEntry, entryAt, withOrders}
 use Rattle.rules.specs.Moves.{Moved, still, and-then, each}
-use Rattle.rules.specs.Sides.{other, meets}
+use Rattle.rules.specs.Sides.{other, meets, better, bestPrice}
 use Rattle.rules.specs.Quotas.{inTurnAt, inTurn, share}
 use Rattle.rules.specs.Fills.{cutEntry, takeLegs, legFill}
-use Rattle.rules.specs.Passes.{opposes, groupOf, within, holding, sizes, giveInTurn, giveGroup, giveShared, meetLimit, turnOf, take, turn, pass}
+use Rattle.rules.specs.Passes.{opposes, limitWith, limitStep, bestOpposite, groupOf, within, holding, sizes, giveInTurn, giveGroup, giveShared, meetLimit, opposite, turnAt, turnOf, take, turn, pass}
 use Rattle.rules.specs.Valid.{Sound}
-use Rattle.rules.specs.Sentences.{Customer, SweepOrMaker, Dealer, Beside, AheadShared, customer-before-maker, customer-before-dealer, maker-before-dealer, customers-by-number, AheadNumbered, NonePassed}
+use Rattle.rules.specs.Sentences.{Customer, SweepOrMaker, Dealer, Beside, BetterLimit, AheadShared, better-limit, customer-before-maker, customer-before-dealer, maker-before-dealer, customers-by-number, AheadNumbered, NonePassed}
 use Rattle.rules.proofs.Turns.{sum-less}
 use Rattle.rules.proofs.Shrinks.{SameEntry, Shrinks, shrinks-refl, shrinks-trans}
 use Rattle.rules.proofs.Quotas.{Divides, inTurn-divides, share-divides}
 use Rattle.rules.proofs.Gives.{cut-other, opposed, opposed-apart, holder, sizes-at, Quoted, inTurn-quoted, share-quoted, Given, given}
-use Rattle.rules.proofs.Firsts.{live-slot, by-number}
-use Rattle.rules.proofs.Control.{sum-part, opposes-is, turn-fits, Fits, turn-kept, each-kept, shrinks-kept, inTurn-given, group-given}
+use Rattle.rules.proofs.Firsts.{live-slot, by-number, better-turn, better-past, better-alike}
+use Rattle.rules.proofs.Tables.{positive}
+use Rattle.rules.proofs.Control.{sum-part, opposes-is, turn-kept, each-kept, shrinks-kept, inTurn-given, group-given}
+
+-- two entries at one limit, of one strategy and side
+record Together (e f : Entry) : Type 0 where
+  strategy : f .strategy ≡ e .strategy
+  side : f .side ≡ e .side
+  limit : f .level ≡ e .level
+
+together : {e f : Entry} → Beside e f → f .level ≡ e .level → Together e f
+together t l = record { strategy = t .strategy; side = t .side; limit = l }
 
 -- WHO IS IN WHICH GROUP
 customer-group : (e : Entry) → Customer e → groupOf e ≡ 0
@@ -163,7 +173,7 @@ still-meets : {b c : State} (a level : ℕ) → Shrinks b c → meets (entryAt b
 still-meets a level s m = rw (s .entry a .side, s .entry a .level) m
 
 -- who stands beside a holder opposes the active one too, if it lives
-also-opposes : {x z : State} (a i j : ℕ) → Shrinks x z → opposes (entryAt z a) (entryAt z j) ≡ true → Beside (entryAt x i) (entryAt x j) → 0 < entryAt x i .units → opposes (entryAt x a) (entryAt x i) ≡ true
+also-opposes : {x z : State} (a i j : ℕ) → Shrinks x z → opposes (entryAt z a) (entryAt z j) ≡ true → Together (entryAt x i) (entryAt x j) → 0 < entryAt x i .units → opposes (entryAt x a) (entryAt x i) ≡ true
 also-opposes {x} {z} a i j s o t l =
     let p = opposed (entryAt z a) (entryAt z j) o in
     opposes-is (entryAt x a) (entryAt x i) l
@@ -172,7 +182,7 @@ also-opposes {x} {z} a i j s o t l =
 
 -- a group that had its turn before a holder that was met has nothing left there
 cleared : {x y z : State} (a level g i j : ℕ) → Step x a level g y → Shrinks y z → 0 < entryAt z a .units → opposes (entryAt z a) (entryAt z j) ≡ true → entryAt z j .level ≡ level →
-    Beside (entryAt x i) (entryAt x j) → within g (entryAt x i) ≡ true → entryAt z i .units ≡ 0
+    Together (entryAt x i) (entryAt x j) → within g (entryAt x i) ≡ true → entryAt z i .units ≡ 0
 cleared {x} {y} {z} a level g i j s h left o l t w =
     let k : Shrinks x z = shrinks-trans (s .shrinks) h in
     ⊎-elim
@@ -182,7 +192,7 @@ cleared {x} {y} {z} a level g i j s h left o l t w =
     (λ (p : entryAt x i .units ≤ 0). omega (arith, k .entry i .units))
     (lt-or-le 0 (entryAt x i .units))
 
-beside-same : {b c : State} → Shrinks b c → (i j : ℕ) → Beside (entryAt b i) (entryAt b j) → Beside (entryAt c i) (entryAt c j)
+beside-same : {b c : State} → Shrinks b c → (i j : ℕ) → Together (entryAt b i) (entryAt b j) → Together (entryAt c i) (entryAt c j)
 beside-same s i j t = record {
   strategy = s .entry j .strategy ∙ t .strategy ∙ sym (s .entry i .strategy);
   side = s .entry j .side ∙ t .side ∙ sym (s .entry i .side);
@@ -214,7 +224,7 @@ module _ (a level : ℕ) (b : State) (rows : length (b .entries) ≡ 32) (m : me
   shared-shrinks : Shrinks b three
   shared-shrinks = shrinks-trans from-two (step-three .shrinks)
 
-  module _ (i j : ℕ) (n : j ≡ a → ⊥) (t : Beside (entryAt b i) (entryAt b j)) where
+  module _ (i j : ℕ) (n : j ≡ a → ⊥) (t : Together (entryAt b i) (entryAt b j)) where
     -- in which turn one fell is its group
     first-group : entryAt one j .units < entryAt b j .units → groupOf (entryAt b j) ≡ 0
     first-group l = in-group (entryAt b j) 0 (omega arith) (step-one .met j n l .group)
@@ -269,7 +279,7 @@ module _ (a level : ℕ) (b : State) (rows : length (b .entries) ≡ 32) (m : me
         (lt-or-le (entryAt two j .units) (entryAt one j .units)))
         (lt-or-le (entryAt one j .units) (entryAt b j .units))
 
--- AT ONE LIMIT
+-- AT THE BEST LIMIT
 -- by number is by slot
 abbrev Rising : State → Type 0
 Rising b = (i j : ℕ) → 0 < entryAt b i .units → 0 < entryAt b j .units → entryAt b i .number < entryAt b j .number → i < j
@@ -277,25 +287,146 @@ Rising b = (i j : ℕ) → 0 < entryAt b i .units → 0 < entryAt b j .units →
 rising-less : {b c : State} → Shrinks b c → Rising b → Rising c
 rising-less s r i j p q h = r i j (omega (arith, s .entry i .units)) (omega (arith, s .entry j .units)) (omega (arith, s .entry i .number, s .entry j .number))
 
-module _ (a level : ℕ) (b : State) (rows : length (b .entries) ≡ 32) (rising : Rising b) (m : meets (entryAt b a .side) (entryAt b a .level) level ≡ true) where
+-- a live entry has a limit
+abbrev Limits : State → Type 0
+Limits b = (i : ℕ) → 0 < entryAt b i .units → 1 ≤ entryAt b i .level
+
+limits-less : {b c : State} → Shrinks b c → Limits b → Limits c
+limits-less s l i p = omega (arith, s .entry i .level, l i (omega (arith, s .entry i .units)))
+
+-- the side of the other sees prices the other way
+better-other : (s x y : ℕ) → better (other s) x y ≡ better s y x
+unfolding better other pick
+better-other s x y = by (eqb s 0)
+  where
+    by : (t : Bool) → pick (eqb (pick t 1 0) 0) (ltb x y) (ltb y x) ≡ pick t (ltb y x) (ltb x y)
+    by true = refl
+    by false = refl
+
+better-trans : (s x y z : ℕ) → better s x y ≡ true → better s y z ≡ true → better s x z ≡ true
+better-trans s x y z p q = better-past s x y z p (better-turn s y z q)
+
+better-onward : (s x y z : ℕ) → better s x y ≡ true → better s x z ≡ false → better s y z ≡ false
+better-onward s x y z w f = by (better s y z) refl
+  where
+    by : (t : Bool) → better s y z ≡ t → better s y z ≡ false
+    by true g = absurd (clash (better-trans s x y z w g) f)
+    by false g = g
+
+-- the best opposite limit is one, and no opposing entry has a better one
+module _ (es : List Entry) (e : Entry) (limits : (i : ℕ) → opposes e (getD es i noEntry) ≡ true → 0 < getD es i noEntry .level) where
+  abbrev theirs : ℕ
+  theirs = other (e .side)
+
+  abbrev levelAt : ℕ → ℕ
+  levelAt i = getD es i noEntry .level
+
+  abbrev upto : ℕ → ℕ
+  upto k = walk (limitStep es e) 0 k
+
+  record Best (x y w : ℕ) : Type 0 where
+    some : 0 < w
+    new : better theirs w y ≡ false
+    old : (z : ℕ) → 0 < x → better theirs x z ≡ false → better theirs w z ≡ false
+
+  best-two : (x y : ℕ) → 0 < y → Best x y (bestPrice theirs x y)
+  unfolding bestPrice
+  best-two x y h =
+      pick-by (Best x y) (eqb x 0)
+      (λ q. record { some = h; new = better-alike theirs y; old = λ z p _. absurd (omega (arith, eqb-true x 0 q)) })
+      (λ q. pick-by (Best x y) (better theirs x y)
+      (λ w. record { some = h; new = better-alike theirs y; old = λ z _ f. better-onward theirs x y z w f })
+      (λ w. record { some = positive x q; new = w; old = λ z _ f. f }))
+
+  best-upto : (k i : ℕ) → i < k → opposes e (getD es i noEntry) ≡ true → (0 < upto k) × (better theirs (upto k) (levelAt i) ≡ false)
+  unfolding walk limitWith
+  best-upto zero i l o = absurd (omega arith)
+  best-upto (suc k) i l o =
+      pick-by (λ (w : ℕ). (0 < w) × (better theirs w (levelAt i) ≡ false)) (opposes e (getD es k noEntry))
+      (λ ok. let z = best-two (upto k) (levelAt k) (limits k ok) in
+      ⊎-elim (λ (q : i ≡ k). (z .some, rw q (z .new))) (λ (m : i < k). let h = best-upto k i m o in (z .some, z .old (levelAt i) (h .0) (h .1))) (below l))
+      (λ no. ⊎-elim (λ (q : i ≡ k). absurd (clash o (rw q no))) (λ (m : i < k). best-upto k i m o) (below l))
+
+  pub best-opposite : (i : ℕ) → i < 32 → opposes e (getD es i noEntry) ≡ true → (0 < bestOpposite es e) × (better theirs (bestOpposite es e) (levelAt i) ≡ false)
+  unfolding bestOpposite
+  best-opposite i l o = best-upto 32 i l o
+
+-- what a pass needs of a state
+record Ready (b : State) : Type 0 where
+  rows : length (b .entries) ≡ 32
+  rising : Rising b
+  limits : Limits b
+
+ready-less : {b c : State} → Shrinks b c → Ready b → Ready c
+ready-less s r = record { rows = s .entryRows ∙ r .rows; rising = rising-less s (r .rising); limits = limits-less s (r .limits) }
+
+-- at the best opposite limit no entry with a better one is met
+best-met : (a : ℕ) (b : State) → Ready b → (i j : ℕ) → Beside (entryAt b i) (entryAt b j) → BetterLimit (entryAt b i) (entryAt b j) → opposes (entryAt b a) (entryAt b j) ≡ true →
+    entryAt b j .level ≡ bestOpposite (b .entries) (entryAt b a) → entryAt b i .units ≡ 0
+best-met a b r i j t h o l =
+    let e : Entry = entryAt b a in
+    let p = opposed e (entryAt b j) o in
+    ⊎-elim
+    (λ (u : 0 < entryAt b i .units).
+    let oi : opposes e (entryAt b i) ≡ true = opposes-is e (entryAt b i) u (sym (t .strategy) ∙ p .strategy) (sym (t .side) ∙ p .side) in
+    let z = best-opposite (b .entries) e (λ k ok. r .limits k (opposed e (entryAt b k) ok .live)) i (live-slot b (r .rows) i u) oi in
+    let side : entryAt b i .side ≡ other (e .side) = sym (t .side) ∙ p .side in
+    let w : better (other (e .side)) (entryAt b j .level) (entryAt b i .level) ≡ false = rw l (z .1) in
+    let g : better (entryAt b i .side) (entryAt b j .level) (entryAt b i .level) ≡ true = sym (better-other (entryAt b i .side) (entryAt b i .level) (entryAt b j .level)) ∙ h in
+    absurd (clash (rw side at g) w))
+    (λ (u : entryAt b i .units ≤ 0). omega arith)
+    (lt-or-le 0 (entryAt b i .units))
+
+module _ (a : ℕ) (b : State) (r : Ready b) (m : meets (entryAt b a .side) (entryAt b a .level) (bestOpposite (b .entries) (entryAt b a)) ≡ true) where
+  abbrev level : ℕ
+  level = bestOpposite (b .entries) (entryAt b a)
+
+  shared-better : (i j : ℕ) → (j ≡ a → ⊥) → Beside (entryAt b i) (entryAt b j) → BetterLimit (entryAt b i) (entryAt b j) → entryAt (three a level b (r .rows) m) j .units < entryAt b j .units → entryAt b i .units ≡ 0
+  shared-better i j n t h fell =
+      let c1 = one a level b (r .rows) m in
+      let c2 = two a level b (r .rows) m in
+      let s1 = step-one a level b (r .rows) m in
+      let s2 = step-two a level b (r .rows) m in
+      let s12 = from-two a level b (r .rows) m in
+      ⊎-elim
+      (λ (l : entryAt c1 j .units < entryAt b j .units). let p = s1 .met j n l in best-met a b r i j t h (p .opposed) (p .limit))
+      (λ (k : entryAt b j .units ≤ entryAt c1 j .units). ⊎-elim
+      (λ (l : entryAt c2 j .units < entryAt c1 j .units). let p = s2 .met j n l in best-met a b r i j t h (was (s1 .shrinks) (p .opposed)) (sym (s1 .shrinks .entry j .level) ∙ p .limit))
+      (λ (l : entryAt c1 j .units ≤ entryAt c2 j .units).
+      let p = step-three a level b (r .rows) m .met j n (omega arith) in
+      best-met a b r i j t h (was s12 (p .opposed)) (sym (s12 .entry j .level) ∙ p .limit))
+      (lt-or-le (entryAt c2 j .units) (entryAt c1 j .units)))
+      (lt-or-le (entryAt c1 j .units) (entryAt b j .units))
+    where
+      was : {c : State} → Shrinks b c → opposes (entryAt c a) (entryAt c j) ≡ true → opposes (entryAt b a) (entryAt b j) ≡ true
+      was s o =
+          let p = opposed _ _ o in
+          opposes-is (entryAt b a) (entryAt b j) (omega (arith, p .live, s .entry j .units)) (sym (s .entry j .strategy) ∙ p .strategy ∙ s .entry a .strategy)
+          (sym (s .entry j .side) ∙ p .side ∙ ap other (s .entry a .side))
+
   shared-none : NonePassed AheadShared a b (giveShared a level b .state)
   unfolding giveShared and-then
-  shared-none i j n t (customer-before-maker c s) = earlier a level b rows m i j n t (omega (arith, customer-group (entryAt b i) c, maker-group (entryAt b j) s))
-  shared-none i j n t (customer-before-dealer c s) = earlier a level b rows m i j n t (omega (arith, customer-group (entryAt b i) c, dealer-group (entryAt b j) s))
-  shared-none i j n t (maker-before-dealer c s) = earlier a level b rows m i j n t (omega (arith, maker-group (entryAt b i) c, dealer-group (entryAt b j) s))
-  shared-none i j n t (customers-by-number c s h) =
-      smaller a level b rows m i j n t (customer-group (entryAt b i) c) (customer-group (entryAt b j) s) (λ p q. rising i j p q h)
+  shared-none i j n t (better-limit h) fell = omega (arith, shared-better i j n t h fell, shared-shrinks a level b (r .rows) m .entry i .units)
+  shared-none i j n t (customer-before-maker l c s) fell = earlier a level b (r .rows) m i j n (together t l) (omega (arith, customer-group (entryAt b i) c, maker-group (entryAt b j) s)) fell
+  shared-none i j n t (customer-before-dealer l c s) fell = earlier a level b (r .rows) m i j n (together t l) (omega (arith, customer-group (entryAt b i) c, dealer-group (entryAt b j) s)) fell
+  shared-none i j n t (maker-before-dealer l c s) fell = earlier a level b (r .rows) m i j n (together t l) (omega (arith, maker-group (entryAt b i) c, dealer-group (entryAt b j) s)) fell
+  shared-none i j n t (customers-by-number l c s h) fell =
+      smaller a level b (r .rows) m i j n (together t l) (customer-group (entryAt b i) c) (customer-group (entryAt b j) s) (λ p q. r .rising i j p q h) fell
 
   numbered-none : NonePassed AheadNumbered a b (giveInTurn a level 3 b .state)
   unfolding within
-  numbered-none i j n t h fell =
-      let s : Step b a level 3 (giveInTurn a level 3 b .state) = turn-step a level 3 b rows m in
+  numbered-none i j n t w fell =
+      let s : Step b a level 3 (giveInTurn a level 3 b .state) = turn-step a level 3 b (r .rows) m in
       let q = s .met j n fell in
       ⊎-elim
+      (λ h. omega (arith, best-met a b r i j t h (q .opposed) (q .limit), s .shrinks .entry i .units))
+      (λ h. ⊎-elim
       (λ (p : 0 < entryAt b i .units).
-      in-order a level 3 b rows m i j (rising i j p (omega arith) h) n (also-opposes a i j (shrinks-refl b) (q .opposed) t p) (sym (t .limit) ∙ q .limit) (pick-true _ _ _ refl) fell)
+      let g : Together (entryAt b i) (entryAt b j) = together t (h .0) in
+      in-order a level 3 b (r .rows) m i j (r .rising i j p (omega arith) (h .1)) n (also-opposes a i j (shrinks-refl b) (q .opposed) g p) (sym (h .0) ∙ q .limit) (pick-true _ _ _ refl) fell)
       (λ (p : entryAt b i .units ≤ 0). omega (arith, s .shrinks .entry i .units))
-      (lt-or-le 0 (entryAt b i .units))
+      (lt-or-le 0 (entryAt b i .units)))
+      w
 
 -- A FILL BY LEGS is of the active entry alone
 pub legs-others : (a : ℕ) (b : State) (j : ℕ) → (j ≡ a → ⊥) → entryAt (legFill a b .state) j ≡ entryAt b j
@@ -315,14 +446,41 @@ same-maker q = ⊎-elim (λ s. inl (q .life ∙ s)) (λ c. inr (q .class ∙ c))
 same-dealer : {x y : Entry} → SameEntry x y → Dealer x → Dealer y
 same-dealer q (c, s) = (q .class ∙ c, λ z. s (sym (q .life) ∙ z))
 
+better-static : Static BetterLimit
+better-static e e' f f' h k b = rw (h .side, h .level, k .level) b
+
+level-static : {e e' f f' : Entry} → SameEntry e e' → SameEntry f f' → f .level ≡ e .level → f' .level ≡ e' .level
+level-static h k l = k .level ∙ l ∙ sym (h .level)
+
 shared-static : Static AheadShared
-shared-static e e' f f' h k (customer-before-maker c s) = customer-before-maker (same-customer h c) (same-maker k s)
-shared-static e e' f f' h k (customer-before-dealer c s) = customer-before-dealer (same-customer h c) (same-dealer k s)
-shared-static e e' f f' h k (maker-before-dealer c s) = maker-before-dealer (same-maker h c) (same-dealer k s)
-shared-static e e' f f' h k (customers-by-number c s l) = customers-by-number (same-customer h c) (same-customer k s) (omega (arith, h .number, k .number))
+shared-static e e' f f' h k (better-limit b) = better-limit (better-static e e' f f' h k b)
+shared-static e e' f f' h k (customer-before-maker l c s) = customer-before-maker (level-static h k l) (same-customer h c) (same-maker k s)
+shared-static e e' f f' h k (customer-before-dealer l c s) = customer-before-dealer (level-static h k l) (same-customer h c) (same-dealer k s)
+shared-static e e' f f' h k (maker-before-dealer l c s) = maker-before-dealer (level-static h k l) (same-maker h c) (same-dealer k s)
+shared-static e e' f f' h k (customers-by-number l c s n) = customers-by-number (level-static h k l) (same-customer h c) (same-customer k s) (omega (arith, h .number, k .number))
 
 numbered-static : Static AheadNumbered
-numbered-static e e' f f' h k l = omega (arith, h .number, k .number)
+numbered-static e e' f f' h k = ⊎-elim (λ b. inl (better-static e e' f f' h k b)) (λ l. inr (level-static h k (l .0), omega (arith, h .number, k .number, l .1)))
+
+beside-less : {b c : State} → Shrinks b c → (i j : ℕ) → Beside (entryAt b i) (entryAt b j) → Beside (entryAt c i) (entryAt c j)
+beside-less s i j t = record {
+  strategy = s .entry j .strategy ∙ t .strategy ∙ sym (s .entry i .strategy);
+  side = s .entry j .side ∙ t .side ∙ sym (s .entry i .side);
+}
+
+-- a turn at a limit is at the best opposite one, which meets the active one's
+abbrev AtBest : Allocation → State → ℕ → Turn → Type 0
+AtBest way b a Stop = Unit {0}
+AtBest way b a ByLegs = Unit {0}
+AtBest way b a (AtLimit x) = (x ≡ opposite way a b) × (meets (entryAt b a .side) (entryAt b a .level) x ≡ true)
+
+turn-best : (way : Allocation) (legs : Bool) (a : ℕ) (b : State) → AtBest way b a (turnOf way legs a b)
+unfolding turnOf turnAt
+turn-best way legs a b =
+    let e : Entry = entryAt b a in
+    let x : ℕ = opposite way a b in
+    let P : Turn → Type 0 = AtBest way b a in
+    pick-all P _ tt (pick-all P _ (pick-all P _ tt tt) (pick-all P _ tt (pick-by P (meets (e .side) (e .level) x) (λ m. (refl, m)) (λ _. tt))))
 
 module _ (A : Entry → Entry → Type 0) (static : Static A) (a : ℕ) where
   none-refl : (b : State) → NonePassed A a b b
@@ -332,21 +490,21 @@ module _ (A : Entry → Entry → Type 0) (static : Static A) (a : ℕ) where
   none-alone : (b c : State) → ((j : ℕ) → (j ≡ a → ⊥) → entryAt c j ≡ entryAt b j) → NonePassed A a b c
   none-alone b c same i j n t h fell = absurd (omega (arith, ap (λ (x : Entry). x .units) (same j n)))
 
-  none-trans : {b c d : State} → Shrinks b c → Shrinks c d → NonePassed A a b c → NonePassed A a c d → NonePassed A a b d
+  pub none-trans : {b c d : State} → Shrinks b c → Shrinks c d → NonePassed A a b c → NonePassed A a c d → NonePassed A a b d
   none-trans {b} {c} {d} s r x y i j n t h fell = ⊎-elim
       (λ (l : entryAt c j .units < entryAt b j .units). omega (arith, x i j n t h l, r .entry i .units))
       (λ (l : entryAt b j .units ≤ entryAt c j .units).
-      y i j n (beside-same s i j t) (static (entryAt b i) (entryAt c i) (entryAt b j) (entryAt c j) (s .entry i) (s .entry j) h) (omega arith))
+      y i j n (beside-less s i j t) (static (entryAt b i) (entryAt c i) (entryAt b j) (entryAt c j) (s .entry i) (s .entry j) h) (omega arith))
       (lt-or-le (entryAt c j .units) (entryAt b j .units))
 
-  module _ (way : Allocation) (at-limit : (level : ℕ) (b : State) → length (b .entries) ≡ 32 → Rising b → meets (entryAt b a .side) (entryAt b a .level) level ≡ true → NonePassed A a b (meetLimit way a level b .state)) where
-    take-none : (t : Turn) (b : State) → length (b .entries) ≡ 32 → Rising b → Fits b a t → NonePassed A a b (take way a t b .state)
+  module _ (way : Allocation) (at-best : (b : State) → Ready b → meets (entryAt b a .side) (entryAt b a .level) (opposite way a b) ≡ true → NonePassed A a b (meetLimit way a (opposite way a b) b .state)) where
+    take-none : (t : Turn) (b : State) → Ready b → AtBest way b a t → NonePassed A a b (take way a t b .state)
     unfolding take
-    take-none Stop b rows r f = none-refl b
-    take-none ByLegs b rows r f = none-alone b (legFill a b .state) (legs-others a b)
-    take-none (AtLimit level) b rows r f = at-limit level b rows r (f .meets)
+    take-none Stop b r f = none-refl b
+    take-none ByLegs b r f = none-alone b (legFill a b .state) (legs-others a b)
+    take-none (AtLimit x) b r f = rw (f .0) (at-best b r (rw (f .0) at (f .1)))
 
-    module _ (legs : Bool) (b : State) (rows : length (b .entries) ≡ 32) (orders : length (b .orders) ≡ 32) (rising : Rising b) where
+    module _ (legs : Bool) (b : State) (orders : length (b .orders) ≡ 32) (r : Ready b) where
       turns-shrink : (n : ℕ) → Shrinks b (each (turn way legs a) n b .state)
       turns-shrink n = each-kept shrinks-kept (turn way legs a) (turn-kept shrinks-kept way legs a) n b orders
 
@@ -357,13 +515,16 @@ module _ (A : Entry → Entry → Type 0) (static : Static A) (a : ℕ) where
           let c : State = each (turn way legs a) n b .state in
           let s : Shrinks b c = turns-shrink n in
           none-trans s (turn-kept shrinks-kept way legs a n c (s .orderRows ∙ orders)) (turns-none n)
-          (take-none (turnOf way legs a c) c (s .entryRows ∙ rows) (rising-less s rising) (turn-fits way legs a c))
+          (take-none (turnOf way legs a c) c (ready-less s r) (turn-best way legs a c))
+
+sound-ready : {b : State} → Sound b → Ready b
+sound-ready v = record { rows = v .entryRows; rising = by-number v; limits = λ i l. v .live i l .level }
 
 -- nobody is passed by in a shared pass, nor in a numbered one
 pub shared-pass : (legs : Bool) (a : ℕ) (b : State) → Sound b → NonePassed AheadShared a b (pass Shared legs a b .state)
-unfolding pass meetLimit
-shared-pass legs a b s = turns-none AheadShared shared-static a Shared (λ level c. shared-none a level c) legs b (s .entryRows) (s .orderRows) (by-number s) (entryAt b a .units)
+unfolding pass meetLimit opposite
+shared-pass legs a b v = turns-none AheadShared shared-static a Shared (λ c. shared-none a c) legs b (v .orderRows) (sound-ready v) (entryAt b a .units)
 
 pub numbered-pass : (legs : Bool) (a : ℕ) (b : State) → Sound b → NonePassed AheadNumbered a b (pass Numbered legs a b .state)
-unfolding pass meetLimit
-numbered-pass legs a b s = turns-none AheadNumbered numbered-static a Numbered (λ level c. numbered-none a level c) legs b (s .entryRows) (s .orderRows) (by-number s) (entryAt b a .units)
+unfolding pass meetLimit opposite
+numbered-pass legs a b v = turns-none AheadNumbered numbered-static a Numbered (λ c. numbered-none a c) legs b (v .orderRows) (sound-ready v) (entryAt b a .units)

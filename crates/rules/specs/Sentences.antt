@@ -18,7 +18,7 @@ use Rattle.rules.specs.declared.Kind.the-variants.{LegFill, LegOrderFill
 use Rattle.rules.specs.State.{entryAt, orderAt, strategyAt}
 use Rattle.rules.specs.Moves.{Moved}
 use Rattle.rules.specs.Records.{kindNumber}
-use Rattle.rules.specs.Sides.{meets, better}
+use Rattle.rules.specs.Sides.{other, meets, better}
 use Rattle.rules.specs.Passes.{readyNet}
 use Rattle.rules.specs.Refusals.{first, causes}
 use Rattle.rules.specs.Step.{accept}
@@ -59,24 +59,28 @@ SweepOrMaker e = (e .life ≡ 4) ⊎ (e .class ≡ 3)
 abbrev pub Dealer : Entry → Type 0
 Dealer e = (e .class ≡ 2) × (e .life ≡ 4 → ⊥)
 
--- two entries at one limit, of one strategy and side
+-- two entries of one strategy and side
 pub record Beside (e f : Entry) : Type 0 where
   pub strategy : f .strategy ≡ e .strategy
   pub side : f .side ≡ e .side
-  pub limit : f .level ≡ e .level
 
--- in a shared pass e goes before f
+-- e has the better limit for who trades with both
+abbrev pub BetterLimit : Entry → Entry → Type 0
+BetterLimit e f = better (other (e .side)) (e .level) (f .level) ≡ true
+
+-- in a shared pass e goes before f: by its limit, at one limit by its group, customers by number
 pub data AheadShared (e f : Entry) : Type 0 where
-  customer-before-maker : Customer e → SweepOrMaker f → AheadShared e f
-  customer-before-dealer : Customer e → Dealer f → AheadShared e f
-  maker-before-dealer : SweepOrMaker e → Dealer f → AheadShared e f
-  customers-by-number : Customer e → Customer f → e .number < f .number → AheadShared e f
+  better-limit : BetterLimit e f → AheadShared e f
+  customer-before-maker : f .level ≡ e .level → Customer e → SweepOrMaker f → AheadShared e f
+  customer-before-dealer : f .level ≡ e .level → Customer e → Dealer f → AheadShared e f
+  maker-before-dealer : f .level ≡ e .level → SweepOrMaker e → Dealer f → AheadShared e f
+  customers-by-number : f .level ≡ e .level → Customer e → Customer f → e .number < f .number → AheadShared e f
 
--- "In a numbered pass they go by number alone."
+-- "In a numbered pass they go by number alone", at one limit
 abbrev pub AheadNumbered : Entry → Entry → Type 0
-AheadNumbered e f = e .number < f .number
+AheadNumbered e f = BetterLimit e f ⊎ ((f .level ≡ e .level) × (e .number < f .number))
 
--- nobody is passed by: where an entry at a limit has traded against the active one, at slot a, one there that goes before it has nothing left
+-- nobody is passed by: where an entry has traded against the active one, at slot a, one beside it that goes before it has nothing left
 abbrev pub NonePassed : (Entry → Entry → Type 0) → ℕ → State → State → Type 0
 NonePassed Ahead a b c =
     (i j : ℕ) → (j ≡ a → ⊥) → Beside (entryAt b i) (entryAt b j) → Ahead (entryAt b i) (entryAt b j) → entryAt c j .units < entryAt b j .units → entryAt c i .units ≡ 0
