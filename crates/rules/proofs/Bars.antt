@@ -30,13 +30,14 @@ use Rattle.rules.specs.Fills.{legRecordAt, partyRecords, orderRow, order
 use Rattle.rules.specs.Passes.{readyNet, turnOf, take, turn, pass}
 use Rattle.rules.specs.Auctions.{running, starterSlot, lapses, cancelLapsed, close, endUnfilled, starterPass, later, laterPass}
 use Rattle.rules.specs.Valid.{Sound, Starter, HasStarter, Valid}
-use Rattle.rules.specs.Sentences.{Unpriced, UnpricedOf, WithoutLegs, StarterSentence}
+use Rattle.rules.specs.Sentences.{Unpriced, UnpricedOf, WithoutLegs, AheadShared, AheadNumbered, NonePassed, StarterSentence, LaterSentence}
 use Rattle.rules.proofs.Shrinks.{Shrinks, shrinks-refl, shrinks-trans}
 use Rattle.rules.proofs.Control.{turn-kept, shrinks-kept, pass-kept}
 use Rattle.rules.proofs.Ends.{pass-why}
 use Rattle.rules.proofs.Validity.{starter-slot}
 use Rattle.rules.proofs.WholeFills.{limit-without, pass-without}
 use Rattle.rules.proofs.Cancels.{same-slot}
+use Rattle.rules.proofs.Groups.{shared-pass, numbered-pass}
 
 -- THE STARTER'S PASS
 -- the slot that the rules seek is the starter's
@@ -49,6 +50,7 @@ pub starter-sentence : (b : State) → Sound b → (k : ℕ) → StarterSentence
 unfolding starterPass
 starter-sentence b s k = record {
   barred = λ e. rw e (pass-without Shared (starterSlot b k) b);
+  passesNone = λ i h. rw (starter-is b s k i h) (shared-pass (not (strategyAt b k .answered)) i b s);
   free = λ e i h. rw (e, starter-is b s k i h) (why i);
 }
   where
@@ -58,6 +60,14 @@ starter-sentence b s k = record {
     why i =
         let h : Shrinks b (pass Shared true i b .state) = pass-kept shrinks-kept Shared true i b (s .orderRows) in
         ⊎-elim inl (λ n. inr (rw (h .entry i .side, h .entry i .level) at (n .legs))) (pass-why Shared true i b)
+
+-- THE PASS OF ANOTHER
+pub later-sentence : (b : State) → Sound b → (k n i : ℕ) → LaterSentence b i (laterPass k n i b)
+unfolding laterPass
+later-sentence b s k n i = record {
+  passesNone = pick-all (λ (x : Moved). NonePassed AheadNumbered i b (x .state)) _ (numbered-pass (not (eqb (entryAt b i .life) 4)) i b s) (λ i j n t h fell. absurd (omega arith));
+  sweepBarred = λ e. pick-all (WithoutLegs b) _ (rw e (pass-without Numbered i b)) (record { orders = refl; prices = all-nil });
+}
 
 -- what holds of the records of every move holds of those of all
 pub each-all : (P : Record → Type 0) (f : ℕ → State → Moved) → ((i : ℕ) (c : State) → All P (f i c .records)) → (n : ℕ) (b : State) → All P (each f n b .records)

@@ -14,11 +14,12 @@ use Rattle.rules.specs.declared.Entry.{Entry}
 use Rattle.rules.specs.declared.LegOrder.{LegOrder}
 use Rattle.rules.specs.declared.State.{State}
 use Rattle.rules.specs.declared.Record.{Record}
-use Rattle.rules.specs.declared.Kind.the-variants.{LegFill, LegOrderFill, Cancelled, LegOrderCancelled}
+use Rattle.rules.specs.declared.Kind.the-variants.{LegFill, LegOrderFill, Cancelled, LegOrderCancelled, AuctionBegun}
 use Rattle.rules.specs.State.{entryAt, orderAt, strategyAt}
-use Rattle.rules.specs.Moves.{Moved}
+use Rattle.rules.specs.Moves.{Moved, still}
 use Rattle.rules.specs.Records.{kindNumber}
 use Rattle.rules.specs.Sides.{other, meets, better}
+use Rattle.rules.specs.Nets.{offerNet, bidNet}
 use Rattle.rules.specs.Passes.{readyNet}
 use Rattle.rules.specs.Refusals.{first, causes}
 use Rattle.rules.specs.Step.{accept}
@@ -89,9 +90,16 @@ NonePassed Ahead a b c =
 pub record StarterSentence (b : State) (k : ℕ) (x : Moved) : Type 0 where
   -- "legs barred if any opposite sweep or waiting order was accepted meanwhile"
   pub barred : strategyAt b k .answered ≡ true → WithoutLegs b x
+  -- "The starter gets a shared pass"
+  pub passesNone : (i : ℕ) → Starter b k i → NonePassed AheadShared i b (x .state)
   -- else they are not: it ends with nothing left, or where the legs are not ready or do not meet its limit
   pub free : strategyAt b k .answered ≡ false → (i : ℕ) → Starter b k i →
       (entryAt (x .state) i .units ≡ 0) ⊎ ((readyNet true i (x .state) ≡ 0) ⊎ (meets (entryAt b i .side) (entryAt b i .level) (readyNet true i (x .state)) ≡ false))
+
+-- THE PASS of another entry that was accepted meanwhile, at slot i: "a numbered pass; sweeps never use legs"
+pub record LaterSentence (b : State) (i : ℕ) (x : Moved) : Type 0 where
+  pub passesNone : NonePassed AheadNumbered i b (x .state)
+  pub sweepBarred : entryAt b i .life ≡ 4 → WithoutLegs b x
 
 -- a complex party's leg fill that shows price 0, if it is of that number
 abbrev pub UnpricedOf : ℕ → Record → Type 0
@@ -247,3 +255,49 @@ pub record SweepSentence (b : State) (e : GivenSweep) (x : Moved) : Type 0 where
   pub answers : 0 < e .units → Answers b (e .strategy) (e .side) (x .state)
   pub notAnswers : e .units ≡ 0 → x .state .strategies ≡ b .strategies
   pub otherAuctions : (k : ℕ) → (k ≡ e .strategy → ⊥) → strategyAt (x .state) k ≡ strategyAt b k
+
+-- the order at slot a is cancelled: one record 3 for all of it, and every other row is as it was
+pub record CancelsIt (b : State) (a : ℕ) (x : Moved) : Type 0 where
+  pub records : x .records ≡ record { kind = Cancelled; number = entryAt b a .number; place = 0; side = entryAt b a .side; quantity = entryAt b a .units; level = 10_000_000 } ∷ []
+  pub ended : entryAt (x .state) a .units ≡ 0
+  pub others : (j : ℕ) → (j ≡ a → ⊥) → entryAt (x .state) j ≡ entryAt b j
+  pub strategies : x .state .strategies ≡ b .strategies
+  pub orders : x .state .orders ≡ b .orders
+
+-- "class 1 or 2 with life 0 or 1 .. if its limit is better than the known leg net of its own side (buy above bid net, sell below offer net)"
+pub data StartsOne (b : State) (e : Entry) : Type 0 where
+  a-buy : (e .class ≡ 1) ⊎ (e .class ≡ 2) → e .life ≤ 1 → e .side ≡ 0 → 0 < bidNet b (e .strategy) → bidNet b (e .strategy) < e .level → StartsOne b e
+  a-sell : (e .class ≡ 1) ⊎ (e .class ≡ 2) → e .life ≤ 1 → e .side ≡ 1 → 0 < offerNet b (e .strategy) → e .level < offerNet b (e .strategy) → StartsOne b e
+
+-- the order at slot a starts an auction: one record 4, and no row but its strategy's has changed: it trades nothing
+pub record Begins (b : State) (a : ℕ) (x : Moved) : Type 0 where
+  pub records : x .records ≡ record { kind = AuctionBegun; number = entryAt b a .number; place = entryAt b a .strategy; side = entryAt b a .side; quantity = entryAt b a .units; level = entryAt b a .level } ∷ []
+  pub entries : x .state .entries ≡ b .entries
+  pub orders : x .state .orders ≡ b .orders
+  pub starter : strategyAt (x .state) (entryAt b a .strategy) .starter ≡ entryAt b a .number
+  pub begun : strategyAt (x .state) (entryAt b a .strategy) .begun ≡ b .clock
+  pub answered : strategyAt (x .state) (entryAt b a .strategy) .answered ≡ false
+
+-- the order at slot a has a shared pass; what is left of a day order rests, others are cancelled
+pub record PassesIt (b : State) (a : ℕ) (x : Moved) : Type 0 where
+  pub passesNone : NonePassed AheadShared a b (x .state)
+  pub strategies : x .state .strategies ≡ b .strategies
+  pub cancelled : (entryAt b a .life ≡ 0 → ⊥) → entryAt (x .state) a .units ≡ 0
+  -- a day order rests only where no opposite limit meets its own, and no ready legs
+  pub rests : entryAt b a .life ≡ 0 → 0 < entryAt (x .state) a .units → (i : ℕ) → 0 < entryAt (x .state) i .units → entryAt b i .strategy ≡ entryAt b a .strategy →
+      (entryAt b i .side ≡ entryAt b a .side → ⊥) → meets (entryAt b a .side) (entryAt b a .level) (entryAt b i .level) ≡ false
+  pub legsLeft : entryAt b a .life ≡ 0 → 0 < entryAt (x .state) a .units →
+      (readyNet true a (x .state) ≡ 0) ⊎ (meets (entryAt b a .side) (entryAt b a .level) (readyNet true a (x .state)) ≡ false)
+
+-- COMPLEX ORDER, at slot a of the state b that it has entered.
+pub record OrderSentence (b : State) (a : ℕ) (x : Moved) : Type 0 where
+  -- "if a series is shut, day rests and others are cancelled"
+  pub shutRests : (Open b (entryAt b a .strategy) → ⊥) → entryAt b a .life ≡ 0 → x ≡ still b
+  pub shutCancels : (Open b (entryAt b a .strategy) → ⊥) → (entryAt b a .life ≡ 0 → ⊥) → CancelsIt b a x
+  -- "If an auction runs, do-not-auction is cancelled and others wait"
+  pub auctionCancels : Runs b (entryAt b a .strategy) → entryAt b a .life ≡ 3 → CancelsIt b a x
+  pub auctionWaits : Runs b (entryAt b a .strategy) → (entryAt b a .life ≡ 3 → ⊥) → (x .records ≡ []) × (x .state .entries ≡ b .entries) × (x .state .orders ≡ b .orders)
+  -- "Otherwise class 1 or 2 with life 0 or 1 starts an auction if .."
+  pub begins : Open b (entryAt b a .strategy) → strategyAt b (entryAt b a .strategy) .starter ≡ 0 → StartsOne b (entryAt b a) → Begins b a x
+  -- "Else a shared pass; then day rests, others are cancelled"
+  pub passes : Open b (entryAt b a .strategy) → strategyAt b (entryAt b a .strategy) .starter ≡ 0 → (StartsOne b (entryAt b a) → ⊥) → PassesIt b a x
