@@ -142,7 +142,7 @@ waits-valid b i a r =
     (λ e. answer-valid b _ _ i a refl r (eqb-false _ _ e))
 
 -- what may start an auction is of class 1 or 2 and of life 0 or 1
-may-class : (e : Entry) → mayStart e ≡ true → (1 ≤ e .class) × (e .class ≤ 2)
+pub may-class : (e : Entry) → mayStart e ≡ true → (1 ≤ e .class) × (e .class ≤ 2)
 unfolding mayStart
 may-class e h =
     pick-by (λ (x : Bool). x ≡ true → (1 ≤ e .class) × (e .class ≤ 2)) (eqb (e .class) 1)
@@ -150,7 +150,7 @@ may-class e h =
     (λ _ q. let z : e .class ≡ 2 = eqb-true _ _ q in (omega arith, omega arith))
     (pick-yes _ h .0)
 
-may-life : (e : Entry) → mayStart e ≡ true → e .life ≤ 1
+pub may-life : (e : Entry) → mayStart e ≡ true → e .life ≤ 1
 unfolding mayStart
 may-life e h =
     pick-by (λ (x : Bool). x ≡ true → e .life ≤ 1) (eqb (e .life) 0)

@@ -72,7 +72,7 @@ pub same-order-slot : {b : State} → Sound b → (i j : ℕ) → 0 < orderAt b 
 same-order-slot {b} s = differs (λ (i : ℕ). orderAt b i .number) (λ (i : ℕ). orderAt b i .contracts) (s .risingOrders)
 
 -- A CANCEL OF AN ENTRY
-cancel-orders : (b : State) (i : ℕ) → cancelEntry i b .state .orders ≡ b .orders
+pub cancel-orders : (b : State) (i : ℕ) → cancelEntry i b .state .orders ≡ b .orders
 unfolding cancelEntry cut withEntries
 cancel-orders b i = pick-all (λ (m : Moved). m .state .orders ≡ b .orders) _ refl refl
 

@@ -211,7 +211,7 @@ pub record Neither (e : Entry) (x net : ℕ) : Type 0 where
   pub limit : (x ≡ 0) ⊎ (meets (e .side) (e .level) x ≡ false)
   pub legs : (net ≡ 0) ⊎ (meets (e .side) (e .level) net ≡ false)
 
-no-better-fails : (side limit x y : ℕ) → better side x y ≡ false → meets side limit y ≡ false → meets side limit x ≡ false
+pub no-better-fails : (side limit x y : ℕ) → better side x y ≡ false → meets side limit y ≡ false → meets side limit x ≡ false
 unfolding better meets pick
 no-better-fails side limit x y = by (eqb side 0)
   where

@@ -295,7 +295,7 @@ limits-less : {b c : State} → Shrinks b c → Limits b → Limits c
 limits-less s l i p = omega (arith, s .entry i .level, l i (omega (arith, s .entry i .units)))
 
 -- the side of the other sees prices the other way
-better-other : (s x y : ℕ) → better (other s) x y ≡ better s y x
+pub better-other : (s x y : ℕ) → better (other s) x y ≡ better s y x
 unfolding better other pick
 better-other s x y = by (eqb s 0)
   where
@@ -434,7 +434,7 @@ unfolding legFill takeLegs withOrders
 legs-others a b j n = cut-other b a _ j n
 
 -- PASSES
-abbrev Static : (Entry → Entry → Type 0) → Type 0
+abbrev pub Static : (Entry → Entry → Type 0) → Type 0
 Static A = (e e' f f' : Entry) → SameEntry e e' → SameEntry f f' → A e f → A e' f'
 
 same-customer : {x y : Entry} → SameEntry x y → Customer x → Customer y
@@ -452,7 +452,7 @@ better-static e e' f f' h k b = rw (h .side, h .level, k .level) b
 level-static : {e e' f f' : Entry} → SameEntry e e' → SameEntry f f' → f .level ≡ e .level → f' .level ≡ e' .level
 level-static h k l = k .level ∙ l ∙ sym (h .level)
 
-shared-static : Static AheadShared
+pub shared-static : Static AheadShared
 shared-static e e' f f' h k (better-limit b) = better-limit (better-static e e' f f' h k b)
 shared-static e e' f f' h k (customer-before-maker l c s) = customer-before-maker (level-static h k l) (same-customer h c) (same-maker k s)
 shared-static e e' f f' h k (customer-before-dealer l c s) = customer-before-dealer (level-static h k l) (same-customer h c) (same-dealer k s)
@@ -487,7 +487,7 @@ module _ (A : Entry → Entry → Type 0) (static : Static A) (a : ℕ) where
   none-refl b i j n t h fell = absurd (omega arith)
 
   -- a move that changes no entry but the active one
-  none-alone : (b c : State) → ((j : ℕ) → (j ≡ a → ⊥) → entryAt c j ≡ entryAt b j) → NonePassed A a b c
+  pub none-alone : (b c : State) → ((j : ℕ) → (j ≡ a → ⊥) → entryAt c j ≡ entryAt b j) → NonePassed A a b c
   none-alone b c same i j n t h fell = absurd (omega (arith, ap (λ (x : Entry). x .units) (same j n)))
 
   pub none-trans : {b c d : State} → Shrinks b c → Shrinks c d → NonePassed A a b c → NonePassed A a c d → NonePassed A a b d

@@ -44,3 +44,4 @@ pub mod Clocks
 pub mod LegOrders
 pub mod Sweeps
 pub mod OneSweep
+pub mod Orders

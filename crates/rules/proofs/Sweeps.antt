@@ -81,6 +81,13 @@ entered-answers b e v n k low = record {
       ∙ enter-same b e v n k;
 }
 
+-- the answer of an entry of that side that stands in the table already
+pub answers-at : (b : State) → Sound b → (k s : ℕ) → s ≤ 1 → k < 16 → Answers b k s (answer k s b)
+answers-at b v k s one low = record {
+  opposite = λ i p d. answer-marks b k s (omega (arith, v .strategyRows)) (rw (starter-is b v k i p) (sides-two (entryAt b i .side) s (fit-entry-at b v i .side) one d));
+  sameSide = λ i p q. ap (λ (c : State). strategyAt c k) (answer-none b k s (λ z. other-apart s (sym q ∙ (rw (starter-is b v k i p) at z))));
+}
+
 -- SWEEPS OF ONE MEMBER, STRATEGY, SIDE AND LIMIT
 module _ (b : State) (e : GivenSweep) where
   abbrev pub new : Entry

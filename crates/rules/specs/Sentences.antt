@@ -297,6 +297,7 @@ pub record OrderSentence (b : State) (a : ℕ) (x : Moved) : Type 0 where
   -- "If an auction runs, do-not-auction is cancelled and others wait"
   pub auctionCancels : Runs b (entryAt b a .strategy) → entryAt b a .life ≡ 3 → CancelsIt b a x
   pub auctionWaits : Runs b (entryAt b a .strategy) → (entryAt b a .life ≡ 3 → ⊥) → (x .records ≡ []) × (x .state .entries ≡ b .entries) × (x .state .orders ≡ b .orders)
+  pub answers : Runs b (entryAt b a .strategy) → (entryAt b a .life ≡ 3 → ⊥) → Answers b (entryAt b a .strategy) (entryAt b a .side) (x .state)
   -- "Otherwise class 1 or 2 with life 0 or 1 starts an auction if .."
   pub begins : Open b (entryAt b a .strategy) → strategyAt b (entryAt b a .strategy) .starter ≡ 0 → StartsOne b (entryAt b a) → Begins b a x
   -- "Else a shared pass; then day rests, others are cancelled"
