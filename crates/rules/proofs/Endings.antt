@@ -265,7 +265,7 @@ unfolding each and-then
 shutting-each s zero b p = p
 shutting-each s (suc n) b p = shutting-next s n _ (shutting-each s n b p)
 
-shut-valid : (s : ℕ) (b : State) → has (b .opened) s ≡ true → Valid b → Valid (shut s b .state)
+pub shut-valid : (s : ℕ) (b : State) → has (b .opened) s ≡ true → Valid b → Valid (shut s b .state)
 unfolding shut
 shut-valid s b h v =
     let o : ℕ = b .opened - 2 ^ s in

@@ -45,3 +45,4 @@ pub mod LegOrders
 pub mod Sweeps
 pub mod OneSweep
 pub mod Orders
+pub mod Openings

@@ -5,7 +5,10 @@ use mathlib.Core.Path.{_≡_}
 use mathlib.Core.Bool.{Bool, true, false}
 use mathlib.Core.Logic.{_⊎_}
 use mathlib.Core.List.{List, [], _∷_, _++_}
-use Prim.Native.Nat.{ℕ, _+_, _≤_, _<_}
+use Prim.Native.Nat.{ℕ, _+_, _^_, _≤_, _<_}
+use lib.Dec.{eqb}
+use lib.ListN.{replicate}
+use Rattle.base.specs.Pick.{pick}
 use Rattle.base.specs.All.{All}
 use Rattle.base.specs.Sets.{has}
 use Rattle.events.specs.declared.Event.{Event}
@@ -15,12 +18,14 @@ use Rattle.rules.specs.declared.LegOrder.{LegOrder}
 use Rattle.rules.specs.declared.State.{State}
 use Rattle.rules.specs.declared.Record.{Record}
 use Rattle.rules.specs.declared.Kind.the-variants.{LegFill, LegOrderFill, Cancelled, LegOrderCancelled, AuctionBegun}
-use Rattle.rules.specs.State.{entryAt, orderAt, strategyAt}
-use Rattle.rules.specs.Moves.{Moved, still}
+use Rattle.rules.specs.State.{entryAt, orderAt, strategyAt, withOpened}
+use Rattle.rules.specs.Moves.{Moved, still, each}
 use Rattle.rules.specs.Records.{kindNumber}
 use Rattle.rules.specs.Sides.{other, meets, better}
 use Rattle.rules.specs.Nets.{offerNet, bidNet}
+use Rattle.rules.specs.Fills.{partyRecords}
 use Rattle.rules.specs.Passes.{readyNet}
+use Rattle.rules.specs.Auctions.{matchIn}
 use Rattle.rules.specs.Refusals.{first, causes}
 use Rattle.rules.specs.Step.{accept}
 use Rattle.rules.specs.Valid.{Starter, Valid}
@@ -302,3 +307,63 @@ pub record OrderSentence (b : State) (a : ℕ) (x : Moved) : Type 0 where
   pub begins : Open b (entryAt b a .strategy) → strategyAt b (entryAt b a .strategy) .starter ≡ 0 → StartsOne b (entryAt b a) → Begins b a x
   -- "Else a shared pass; then day rests, others are cancelled"
   pub passes : Open b (entryAt b a .strategy) → strategyAt b (entryAt b a .strategy) .starter ≡ 0 → (StartsOne b (entryAt b a) → ⊥) → PassesIt b a x
+
+-- a record 3 or 5: no fill
+abbrev pub NoFill : Record → Type 0
+NoFill r = IsKind 3 r ⊎ IsKind 5 r
+
+-- an entry that a shut series ends: a sweep, response or immediate order of a strategy that holds it and had an auction
+pub record Lapsed (b : State) (s i : ℕ) (c : State) : Type 0 where
+  pub ended : entryAt c i .units ≡ 0
+  pub lapses : (entryAt b i .life ≡ 1) ⊎ ((entryAt b i .life ≡ 2) ⊎ (entryAt b i .life ≡ 4))
+  pub holds : has (strategyAt b (entryAt b i .strategy) .series) s ≡ true
+  pub ran : Runs b (entryAt b i .strategy)
+
+-- SERIES s, which was open, shuts.
+pub record ShutSentence (b : State) (s : ℕ) (x : Moved) : Type 0 where
+  -- "shut ends the auctions of strategies holding it .."
+  pub ends : (k : ℕ) → has (strategyAt b k .series) s ≡ true → strategyAt (x .state) k .starter ≡ 0
+  pub goesOn : (k : ℕ) → has (strategyAt b k .series) s ≡ false → strategyAt (x .state) k ≡ strategyAt b k
+  -- ".. without fills": records 3 and 5 alone, and every leg order is as it was
+  pub noFills : All NoFill (x .records)
+  pub orders : x .state .orders ≡ b .orders
+  -- ".. as above from the cancels on": who loses anything lapses, and none that lapses is left
+  pub onlyLapsed : (i : ℕ) → entryAt (x .state) i .units < entryAt b i .units → Lapsed b s i (x .state)
+  pub dayLeft : (i : ℕ) → has (strategyAt b (entryAt b i .strategy) .series) s ≡ true → 0 < entryAt (x .state) i .units → entryAt b i .life ≡ 0
+  pub isShut : has (x .state .opened) s ≡ false
+  pub others : (t : ℕ) → (t ≡ s → ⊥) → has (x .state .opened) t ≡ has (b .opened) t
+
+-- "its whole fill, its leg fills by leg, then the other side's likewise", "price 0 where whole met whole"
+abbrev pub matched : State → ℕ → ℕ → ℕ → ℕ → List Record
+matched b i h level q =
+    partyRecords (entryAt b i) (strategyAt b (entryAt b i .strategy)) q level (replicate 6 0)
+    ++ partyRecords (entryAt b h) (strategyAt b (entryAt b i .strategy)) q level (replicate 6 0)
+
+-- the records of the matches: "best buy with best sell .. while they meet, at the lower number's limit, its order active"
+pub data Matches (b : State) : List Record → Type 0 where
+  no-match : Matches b []
+  and-match : {rs : List Record} → Matches b rs → (i h q : ℕ) → entryAt b i .number < entryAt b h .number → entryAt b h .strategy ≡ entryAt b i .strategy →
+      (entryAt b h .side ≡ entryAt b i .side → ⊥) → meets (entryAt b h .side) (entryAt b h .level) (entryAt b i .level) ≡ true → 0 < q → Matches b (rs ++ matched b i h (entryAt b i .level) q)
+
+-- SERIES s opens: from b, in which it is open already, by the matches x to c.
+pub record OpenSentence (b : State) (s : ℕ) (x : Moved) (c : State) : Type 0 where
+  -- "(price, then number)": where one has traded, nothing is left of one beside it that goes before it
+  pub bestFirst : (i j : ℕ) → Beside (entryAt b i) (entryAt b j) → AheadNumbered (entryAt b i) (entryAt b j) → entryAt (x .state) j .units < entryAt b j .units → entryAt (x .state) i .units ≡ 0
+  pub records : Matches b (x .records)
+  pub orders : x .state .orders ≡ b .orders
+  -- ".. while they meet": afterwards no buy of an all-open strategy that holds it is at or above a sell
+  pub apart : (k : ℕ) → has (strategyAt b k .series) s ≡ true → Open b k → (i j : ℕ) → 0 < entryAt c i .units → 0 < entryAt c j .units → entryAt b i .strategy ≡ k → entryAt b j .strategy ≡ k →
+      entryAt b i .side ≡ 0 → entryAt b j .side ≡ 1 → entryAt b i .level < entryAt b j .level
+  -- "when all have matched, the legs-only passes"
+  pub passes : (i : ℕ) → GetsPass (x .state) s i → HadPass (x .state) c i
+  pub noOthers : (i : ℕ) → entryAt c i .units < entryAt (x .state) i .units → GetsPass (x .state) s i
+  pub strategies : c .strategies ≡ b .strategies
+
+-- SERIES s, to that state: 0 shut, else open.
+pub record SeriesSentence (b : State) (s state : ℕ) (x : Moved) : Type 0 where
+  -- "No change of state does nothing."
+  pub openAlready : has (b .opened) s ≡ true → (state ≡ 0 → ⊥) → x ≡ still b
+  pub shutAlready : has (b .opened) s ≡ false → state ≡ 0 → x ≡ still b
+  pub shuts : has (b .opened) s ≡ true → state ≡ 0 → ShutSentence b s x
+  pub opens : has (b .opened) s ≡ false → (state ≡ 0 → ⊥) → OpenSentence (withOpened b (b .opened + 2 ^ s)) s (each (matchIn s) 16 (withOpened b (b .opened + 2 ^ s))) (x .state)
+  pub isOpen : has (b .opened) s ≡ false → (state ≡ 0 → ⊥) → (t : ℕ) → has (x .state .opened) t ≡ pick (eqb t s) true (has (b .opened) t)
