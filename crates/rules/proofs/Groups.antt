@@ -459,7 +459,7 @@ shared-static e e' f f' h k (customer-before-dealer l c s) = customer-before-dea
 shared-static e e' f f' h k (maker-before-dealer l c s) = maker-before-dealer (level-static h k l) (same-maker h c) (same-dealer k s)
 shared-static e e' f f' h k (customers-by-number l c s n) = customers-by-number (level-static h k l) (same-customer h c) (same-customer k s) (omega (arith, h .number, k .number))
 
-numbered-static : Static AheadNumbered
+pub numbered-static : Static AheadNumbered
 numbered-static e e' f f' h k = ⊎-elim (λ b. inl (better-static e e' f f' h k b)) (λ l. inr (level-static h k (l .0), omega (arith, h .number, k .number, l .1)))
 
 beside-less : {b c : State} → Shrinks b c → (i j : ℕ) → Beside (entryAt b i) (entryAt b j) → Beside (entryAt c i) (entryAt c j)
@@ -483,7 +483,7 @@ turn-best way legs a b =
     pick-all P _ tt (pick-all P _ (pick-all P _ tt tt) (pick-all P _ tt (pick-by P (meets (e .side) (e .level) x) (λ m. (refl, m)) (λ _. tt))))
 
 module _ (A : Entry → Entry → Type 0) (static : Static A) (a : ℕ) where
-  none-refl : (b : State) → NonePassed A a b b
+  pub none-refl : (b : State) → NonePassed A a b b
   none-refl b i j n t h fell = absurd (omega arith)
 
   -- a move that changes no entry but the active one

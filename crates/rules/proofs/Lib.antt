@@ -46,3 +46,4 @@ pub mod Sweeps
 pub mod OneSweep
 pub mod Orders
 pub mod Openings
+pub mod Matching

@@ -223,7 +223,7 @@ module _ (k : ℕ) where
   unfolding bestSlot
   best-strategy b side h = live-in _ (best-in b side 32 h) .1
 
-  matchOnce-only : (i : ℕ) (b : State) → Only k b (matchOnce k i b .state)
+  pub matchOnce-only : (i : ℕ) (b : State) → Only k b (matchOnce k i b .state)
   unfolding matchOnce crossed
   matchOnce-only i b =
       let x : ℕ = bestSlot b k 0 in
