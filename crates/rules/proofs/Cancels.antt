@@ -91,7 +91,7 @@ module _ (b : State) (s : Sound b) (n i : ℕ) (low : i < 32) (number : entryAt 
   unfolding cancelEntryOf
   entry-is = pick-true _ _ _ (eq-eqb _ _ number)
 
-  number-entry : cancelNumber n b ≡ ended
+  pub number-entry : cancelNumber n b ≡ ended
   unfolding cancelNumber
   number-entry =
       rw (each-one (cancelEntryOf n) b i 32 low (λ j q. idle-entry n j b (λ l e. q (entry-alone j l e)))
@@ -106,7 +106,7 @@ module _ (b : State) (s : Sound b) (n i : ℕ) (low : i < 32) (number : entryAt 
       (λ z. absurd (omega (arith, eqb-true (entryAt b i .units) 0 z))) (λ _. rw number)
 
 -- A CANCEL OF A LEG ORDER
-cancelOrder-entries : (b : State) (i : ℕ) → cancelOrder i b .state .entries ≡ b .entries
+pub cancelOrder-entries : (b : State) (i : ℕ) → cancelOrder i b .state .entries ≡ b .entries
 unfolding cancelOrder cutLeg withOrders
 cancelOrder-entries b i = pick-all (λ (m : Moved). m .state .entries ≡ b .entries) _ refl refl
 
@@ -114,11 +114,11 @@ cancelOrder-tables : (b : State) (i : ℕ) → cancelOrder i b .state .strategie
 unfolding cancelOrder cutLeg withOrders
 cancelOrder-tables b i = pick-all (λ (m : Moved). m .state .strategies ≡ b .strategies) _ refl refl
 
-cancelOrder-other : (b : State) (i j : ℕ) → (j ≡ i → ⊥) → orderAt (cancelOrder i b .state) j ≡ orderAt b j
+pub cancelOrder-other : (b : State) (i j : ℕ) → (j ≡ i → ⊥) → orderAt (cancelOrder i b .state) j ≡ orderAt b j
 unfolding cancelOrder
 cancelOrder-other b i j q = pick-all (λ (m : Moved). orderAt (m .state) j ≡ orderAt b j) _ refl (cutLeg-other b i _ j q)
 
-cancelOrder-dead : (b : State) (i : ℕ) → orderAt (cancelOrder i b .state) i .contracts ≡ 0
+pub cancelOrder-dead : (b : State) (i : ℕ) → orderAt (cancelOrder i b .state) i .contracts ≡ 0
 unfolding cancelOrder
 cancelOrder-dead b i =
     pick-by (λ (m : Moved). orderAt (m .state) i .contracts ≡ 0) (eqb (orderAt b i .contracts) 0) (λ e. eqb-true _ _ e) (λ _. rw (cutLeg-at b i (orderAt b i .contracts)) (omega arith))
@@ -134,7 +134,7 @@ module _ (b : State) (s : Sound b) (n i : ℕ) (low : i < 32) (number : orderAt 
   unfolding cancelOrderOf
   order-is = pick-true _ _ _ (eq-eqb _ _ number)
 
-  number-order : cancelNumber n b ≡ endedOrder
+  pub number-order : cancelNumber n b ≡ endedOrder
   unfolding cancelNumber and-then
   number-order =
       rw (each-still (cancelEntryOf n) b 32 (λ j _. idle-entry n j b (λ l e. s .apart j i l some (e ∙ sym number))),
@@ -214,7 +214,7 @@ found b s m n = by (anyN (orderAtIs b m n) 32) refl
         inr (let l = any-where (legOrderAtIs b m n) 32 (not-false _ (sym (pick-false false false _ refl) ∙ h)) in
         cancel-order b s m n _ (found-order b m n _ l (first-holds (legOrderAtIs b m n) 32 l)))
 
-number-strategies : (n : ℕ) (b : State) → cancelNumber n b .state .strategies ≡ b .strategies
+pub number-strategies : (n : ℕ) (b : State) → cancelNumber n b .state .strategies ≡ b .strategies
 unfolding cancelNumber and-then cancelEntryOf cancelOrderOf
 number-strategies n b =
     let P : State → Type 0 = λ (c : State). c .strategies ≡ b .strategies in

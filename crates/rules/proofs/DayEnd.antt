@@ -71,12 +71,12 @@ module _ (n : ℕ) where
       each-finishes (cancelOrderOf n) orderOf-shrinks (λ (c : State). orderAt c i .number) (λ (c : State). orderAt c i .contracts)
       (λ b c h. h .order i .number) (λ b c h. h .order i .contracts) n i (orderOf-empties i) b
 
-  number-shrinks : (b : State) → Shrinks b (cancelNumber n b .state)
+  pub number-shrinks : (b : State) → Shrinks b (cancelNumber n b .state)
   unfolding cancelNumber
   number-shrinks b = then-shrinks b (each (cancelEntryOf n) 32 b) (each (cancelOrderOf n) 32) (each-shrinks (cancelEntryOf n) of-shrinks 32 b) (each-shrinks (cancelOrderOf n) orderOf-shrinks 32 _)
 
 -- how many rows are live in both tables
-left : State → ℕ
+pub left : State → ℕ
 left b = entries b + orders b
 
 -- a live row has that number
@@ -164,7 +164,7 @@ abbrev orderNumberAt : State → ℕ → ℕ
 orderNumberAt b i = orderAt b i .number
 
 -- the lowest number is that of a live row, where any is live
-lowest-named : (b : State) → (left b ≡ 0 → ⊥) → Named b (lowestLive b)
+pub lowest-named : (b : State) → (left b ≡ 0 → ⊥) → Named b (lowestLive b)
 unfolding left entries orders live liveOrder lowestLive
 lowest-named b some = ⊎-elim (λ n. n) (λ z. absurd (some (none (z .1) (z .2))))
     (low-known (liveOrderAt b) (orderNumberAt b) (Named b) ((i : ℕ) → i < 32 → liveAt b i ≡ false)
@@ -190,7 +190,7 @@ unfolding each and-then
 each-still f b zero h = refl
 each-still f b (suc k) h = rw (each-still f b k (λ i l. h i (omega arith)), h k (omega arith))
 
-cancel-stops : (n : ℕ) (b : State) → left b ≡ 0 → cancelNumber n b ≡ still b
+pub cancel-stops : (n : ℕ) (b : State) → left b ≡ 0 → cancelNumber n b ≡ still b
 unfolding cancelNumber cancelEntryOf cancelOrderOf cancelEntry cancelOrder and-then
 cancel-stops n b e =
     let P : Moved → Type 0 = λ (m : Moved). m ≡ still b in

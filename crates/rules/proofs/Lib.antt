@@ -47,3 +47,4 @@ pub mod OneSweep
 pub mod Orders
 pub mod Openings
 pub mod Matching
+pub mod LastRecords

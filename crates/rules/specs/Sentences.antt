@@ -4,12 +4,12 @@
 use mathlib.Core.Path.{_≡_}
 use mathlib.Core.Bool.{Bool, true, false}
 use mathlib.Core.Logic.{_⊎_}
-use mathlib.Core.List.{List, [], _∷_, _++_}
+use mathlib.Core.List.{List, [], _∷_, _++_, List·Memᴰ}
 use Prim.Native.Nat.{ℕ, _+_, _^_, _≤_, _<_}
 use lib.Dec.{eqb}
 use lib.ListN.{replicate}
 use Rattle.base.specs.Pick.{pick}
-use Rattle.base.specs.All.{All}
+use Rattle.base.specs.All.{All, Sorted}
 use Rattle.base.specs.Sets.{has}
 use Rattle.events.specs.declared.Event.{Event}
 use Rattle.events.specs.declared.Sweep.{Sweep as GivenSweep}
@@ -17,8 +17,8 @@ use Rattle.rules.specs.declared.Entry.{Entry}
 use Rattle.rules.specs.declared.LegOrder.{LegOrder}
 use Rattle.rules.specs.declared.State.{State}
 use Rattle.rules.specs.declared.Record.{Record}
-use Rattle.rules.specs.declared.Kind.the-variants.{LegFill, LegOrderFill, Cancelled, LegOrderCancelled, AuctionBegun}
-use Rattle.rules.specs.State.{entryAt, orderAt, strategyAt, withOpened}
+use Rattle.rules.specs.declared.Kind.the-variants.{LegFill, LegOrderFill, Cancelled, LegOrderCancelled, AuctionBegun, AuctionEnded}
+use Rattle.rules.specs.State.{fresh, entryAt, orderAt, strategyAt, withOpened}
 use Rattle.rules.specs.Moves.{Moved, still, each}
 use Rattle.rules.specs.Records.{kindNumber}
 use Rattle.rules.specs.Sides.{other, meets, better}
@@ -367,3 +367,30 @@ pub record SeriesSentence (b : State) (s state : ℕ) (x : Moved) : Type 0 where
   pub shuts : has (b .opened) s ≡ true → state ≡ 0 → ShutSentence b s x
   pub opens : has (b .opened) s ≡ false → (state ≡ 0 → ⊥) → OpenSentence (withOpened b (b .opened + 2 ^ s)) s (each (matchIn s) 16 (withOpened b (b .opened + 2 ^ s))) (x .state)
   pub isOpen : has (b .opened) s ≡ false → (state ≡ 0 → ⊥) → (t : ℕ) → has (x .state .opened) t ≡ pick (eqb t s) true (has (b .opened) t)
+
+-- the record 5 of strategy k's auction, and the records 3 of an entry and of a leg order
+abbrev pub endedRecord : State → ℕ → Record
+endedRecord b k = record { kind = AuctionEnded; number = strategyAt b k .starter; place = k; side = 0; quantity = 0; level = 10_000_000 }
+
+abbrev pub cancelledRecord : Entry → Record
+cancelledRecord e = record { kind = Cancelled; number = e .number; place = 0; side = e .side; quantity = e .units; level = 10_000_000 }
+
+abbrev pub cancelledLegRecord : LegOrder → Record
+cancelledLegRecord o = record { kind = LegOrderCancelled; number = o .number; place = 0; side = o .side; quantity = o .contracts; level = 10_000_000 }
+
+-- DAY END, with the next day's timer.
+pub record DayEndSentence (b : State) (timer : ℕ) (x : Moved) : Type 0 where
+  pub fives : List Record
+  pub threes : List Record
+  pub records : x .records ≡ fives ++ threes
+  -- "records 5 by strategy": of each auction that runs, and no other
+  pub fiveEach : (k : ℕ) → Runs b k → List·Memᴰ (endedRecord b k) fives
+  pub fiveOnly : All (λ (r : Record). Runs b (r .place) × (r ≡ endedRecord b (r .place))) fives
+  pub fiveOrder : Sorted (λ (r s : Record). r .place < s .place) fives
+  -- "3 by number": of each live order, sweep and leg order, and no other
+  pub threeEntries : (i : ℕ) → 0 < entryAt b i .units → List·Memᴰ (cancelledRecord (entryAt b i)) threes
+  pub threeOrders : (i : ℕ) → 0 < orderAt b i .contracts → List·Memᴰ (cancelledLegRecord (orderAt b i)) threes
+  pub threeOnly : All (IsKind 3) threes
+  pub threeOrder : Sorted (λ (r s : Record). r .number < s .number) threes
+  -- "then a fresh book with the new timer"
+  pub anew : x .state ≡ fresh timer
