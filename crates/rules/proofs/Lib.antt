@@ -48,3 +48,4 @@ pub mod Orders
 pub mod Openings
 pub mod Matching
 pub mod LastRecords
+pub mod Definitions

@@ -69,7 +69,7 @@ module _ (legs : List Leg) (count : ℕ) (def : Definition legs count) (s : ℕ)
   place x = placeOf legs count x
 
   -- no series is twice
-  once : (i j : ℕ) → i < j → j < count → inSeries legs s j ≡ true → inSeries legs s i ≡ false
+  pub once : (i j : ℕ) → i < j → j < count → inSeries legs s j ≡ true → inSeries legs s i ≡ false
   unfolding twice
   once i j h l e = go (inSeries legs s i) refl
     where
@@ -93,7 +93,7 @@ module _ (legs : List Leg) (count : ℕ) (def : Definition legs count) (s : ℕ)
   low-series : (x : ℕ) → place x < count → getD low (place x) noLeg ≡ dividedAt legs (divisor legs count) (place x)
   low-series x h = lowest-at legs count def (place x) h
 
-  in-place : (x : ℕ) → place x < count → seriesOf legs (place x) ≡ x
+  pub in-place : (x : ℕ) → place x < count → seriesOf legs (place x) ≡ x
   unfolding placeOf
   in-place x h = eqb-true _ _ (first-holds (inSeries legs x) count h)
 

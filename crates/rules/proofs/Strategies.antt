@@ -24,14 +24,14 @@ use Rattle.rules.proofs.Tables.{all-within, sorted-at, all-take}
 
 -- Divisors.
 
-divides-trans : {a b c : ℕ} → Divides a b → Divides b c → Divides a c
+pub divides-trans : {a b c : ℕ} → Divides a b → Divides b c → Divides a c
 divides-trans {a} {b} {c} u v = record {
   times = v .times * u .times;
   is = mul-assoc (v .times) (u .times) a ∙ ap (λ (x : ℕ). v .times * x) (u .is) ∙ v .is;
 }
 
 -- the divisor divides each ratio
-divisor-divides : (legs : List Leg) (n i : ℕ) → i < n → Divides (walk (divisorStep legs) 0 n) (ratioOf legs i)
+pub divisor-divides : (legs : List Leg) (n i : ℕ) → i < n → Divides (walk (divisorStep legs) 0 n) (ratioOf legs i)
 unfolding walk
 divisor-divides legs zero i h = absurd (omega arith)
 divisor-divides legs (suc n) i h =
@@ -39,7 +39,7 @@ divisor-divides legs (suc n) i h =
     (λ l. divides-trans (gcd-right (ratioOf legs n) (walk (divisorStep legs) 0 n)) (divisor-divides legs n i l)) (below h)
 
 -- a number that is not 0, by a divisor
-divided-pos : {d r : ℕ} → 0 < r → Divides d r → 0 < r / d
+pub divided-pos : {d r : ℕ} → 0 < r → Divides d r → 0 < r / d
 divided-pos {d} {r} h u = le-div-iff-mul-le (divides-pos u h) .1 (rw one-mul (divides-le u h))
 
 -- Sums of tests.
@@ -90,7 +90,7 @@ module _ (legs : List Leg) (count : ℕ) (def : Definition legs count) where
   place-same s = first-same _ _ count (λ i l. ap (λ (x : Leg). eqb (x .series) s) (lowest-at i l))
 
   -- a leg of the strategy
-  record Found (l : Leg) : Type 0 where
+  pub record Found (l : Leg) : Type 0 where
     pub fit : FitLeg l
     pub used : 0 < l .ratio
     pub held : present legs count (l .series) ≡ true
@@ -124,7 +124,7 @@ module _ (legs : List Leg) (count : ℕ) (def : Definition legs count) where
       (λ e. record { found = all-nil; series = all-nil; sorted = sort-nil })
 
   -- the legs of the series below k
-  record Upto (k : ℕ) (ls : List Leg) : Type 0 where
+  pub record Upto (k : ℕ) (ls : List Leg) : Type 0 where
     pub found : All Found ls
     pub series : All (λ (l : Leg). l .series < k) ls
     pub sorted : Sorted Rising ls
@@ -205,7 +205,7 @@ module _ (legs : List Leg) (count : ℕ) (def : Definition legs count) where
   abbrev pub rows : List Leg
   rows = bySeries lowest count
 
-  rows-are : Upto 32 rows
+  pub rows-are : Upto 32 rows
   unfolding bySeries
   rows-are = upto 32 (le-refl 32)
 

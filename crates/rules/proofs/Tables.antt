@@ -123,7 +123,7 @@ pub record Stands {A : Type 0} (d : A) (l : List A) (x : A) : Type 0 where
   pub slot : at < length l
   pub is : getD l at d ≡ x
 
-stands-more : {A : Type 0} {d : A} {l : List A} {x : A} (y : A) → Stands d l x → Stands d (y ∷ l) x
+pub stands-more : {A : Type 0} {d : A} {l : List A} {x : A} (y : A) → Stands d l x → Stands d (y ∷ l) x
 stands-more y s = record { at = suc (s .at); slot = omega (arith, s .slot); is = s .is }
 
 module _ {A : Type 0} (test : A → Bool) (none : A) where

@@ -5,20 +5,24 @@ use mathlib.Core.Path.{_≡_}
 use mathlib.Core.Bool.{Bool, true, false}
 use mathlib.Core.Logic.{_⊎_}
 use mathlib.Core.List.{List, [], _∷_, _++_, List·Memᴰ}
-use Prim.Native.Nat.{ℕ, _+_, _^_, _≤_, _<_}
+use Prim.Native.Nat.{ℕ, _+_, _*_, _^_, _≤_, _<_}
 use lib.Dec.{eqb}
-use lib.ListN.{replicate}
+use lib.ListN.{getD, replicate}
 use Rattle.base.specs.Pick.{pick}
 use Rattle.base.specs.All.{All, Sorted}
 use Rattle.base.specs.Sets.{has}
+use Rattle.base.specs.Gcd.{Divides}
 use Rattle.events.specs.declared.Event.{Event}
+use Rattle.events.specs.declared.Strategy.{Strategy as GivenStrategy}
 use Rattle.events.specs.declared.Sweep.{Sweep as GivenSweep}
+use Rattle.rules.specs.declared.Leg.{Leg}
+use Rattle.rules.specs.declared.Strategy.{Strategy}
 use Rattle.rules.specs.declared.Entry.{Entry}
 use Rattle.rules.specs.declared.LegOrder.{LegOrder}
 use Rattle.rules.specs.declared.State.{State}
 use Rattle.rules.specs.declared.Record.{Record}
 use Rattle.rules.specs.declared.Kind.the-variants.{LegFill, LegOrderFill, Cancelled, LegOrderCancelled, AuctionBegun, AuctionEnded}
-use Rattle.rules.specs.State.{fresh, entryAt, orderAt, strategyAt, withOpened}
+use Rattle.rules.specs.State.{noLeg, fresh, entryAt, orderAt, strategyAt, legAt, withOpened}
 use Rattle.rules.specs.Moves.{Moved, still, each}
 use Rattle.rules.specs.Records.{kindNumber}
 use Rattle.rules.specs.Sides.{other, meets, better}
@@ -27,6 +31,7 @@ use Rattle.rules.specs.Fills.{partyRecords}
 use Rattle.rules.specs.Passes.{readyNet}
 use Rattle.rules.specs.Auctions.{matchIn}
 use Rattle.rules.specs.Refusals.{first, causes}
+use Rattle.rules.specs.Given.{legsGiven}
 use Rattle.rules.specs.Step.{accept}
 use Rattle.rules.specs.Valid.{Starter, Valid}
 use Rattle.rules.specs.Fits.{FitEvent}
@@ -37,6 +42,12 @@ pub record Accepted (b : State) (e : Event) : Type 0 where
   pub valid : Valid b
   pub fit : FitEvent e
   pub clear : first (causes b e) ≡ 0
+
+-- one of the first n numbers has it
+pub record Any (P : ℕ → Type 0) (n : ℕ) : Type 0 where
+  pub at : ℕ
+  pub below : at < n
+  pub has : P at
 
 -- an auction runs in strategy k
 abbrev pub Runs : State → ℕ → Type 0
@@ -394,3 +405,29 @@ pub record DayEndSentence (b : State) (timer : ℕ) (x : Moved) : Type 0 where
   pub threeOrder : Sorted (λ (r s : Record). r .number < s .number) threes
   -- "then a fresh book with the new timer"
   pub anew : x .state ≡ fresh timer
+
+-- a leg of the event stands in a row of the strategy, its ratio divided by d
+pub record Placed (s : Strategy) (l : Leg) (d : ℕ) : Type 0 where
+  pub at : ℕ
+  pub row : at < 6
+  pub series : legAt s at .series ≡ l .series
+  pub side : legAt s at .side ≡ l .side
+  pub ratio : d * legAt s at .ratio ≡ l .ratio
+
+-- STRATEGY: the number that is answered is n, the state after the event c.
+pub record StrategySentence (b : State) (e : GivenStrategy) (n : ℕ) (c : State) : Type 0 where
+  -- "Ratios are divided by their greatest common divisor": every leg stands in strategy n, divided by one number ..
+  pub divisor : ℕ
+  pub legs : (i : ℕ) → i < e .count → Placed (strategyAt c n) (getD (legsGiven e) i noLeg) divisor
+  -- .. and no number above 1 divides what is left of all of them
+  pub lowest : (t : ℕ) → ((p : ℕ) → p < 6 → Divides t (legAt (strategyAt c n) p .ratio)) → t ≡ 1
+  -- it has no other leg, and they stand by rising series
+  pub noOther : (p : ℕ) → p < 6 → 0 < legAt (strategyAt c n) p .ratio → Any (λ (i : ℕ). getD (legsGiven e) i noLeg .series ≡ legAt (strategyAt c n) p .series) (e .count)
+  pub rising : (p q : ℕ) → p < q → q < 6 → 0 < legAt (strategyAt c n) p .ratio → 0 < legAt (strategyAt c n) q .ratio → legAt (strategyAt c n) p .series < legAt (strategyAt c n) q .series
+  -- "an equal one answers its old number and takes no slot": n is the first with these legs ..
+  pub equal : (k : ℕ) → k < b .defined → ((p : ℕ) → p < 6 → legAt (strategyAt b k) p ≡ legAt (strategyAt c n) p) → (c ≡ b) × (n ≤ k)
+  -- .. "else the next number from 0"
+  pub next : (c ≡ b) ⊎ ((n ≡ b .defined) × (c .defined ≡ b .defined + 1))
+  pub others : (k : ℕ) → (k ≡ n → ⊥) → strategyAt c k ≡ strategyAt b k
+  pub entries : c .entries ≡ b .entries
+  pub orders : c .orders ≡ b .orders
