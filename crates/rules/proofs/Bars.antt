@@ -26,11 +26,11 @@ use Rattle.rules.specs.Moves.{Moved, still, and-then, each}
 use Rattle.rules.specs.Records.{kindNumber}
 use Rattle.rules.specs.Sides.{meets}
 use Rattle.rules.specs.Nets.{prices, netOf, unitsOf}
-use Rattle.rules.specs.Fills.{legRecordAt, partyRecords, orderRow, orderRows, orderRecords, quotasAt, takeLegs, legFill, cancelEntry}
-use Rattle.rules.specs.Passes.{readyNet, turnOf, take, turn, pass}
+use Rattle.rules.specs.Fills.{legRecordAt, partyRecords, orderRow, orderRows, orderRecords, quotasAt, wholeFill, takeLegs, legFill, cancelEntry}
+use Rattle.rules.specs.Passes.{giveAt, give, giveInTurn, giveGroup, giveShared, meetLimit, turnOf, take, turn, pass}
 use Rattle.rules.specs.Auctions.{running, starterSlot, lapses, cancelLapsed, close, endUnfilled, starterPass, later, laterPass}
 use Rattle.rules.specs.Valid.{Sound, Starter, HasStarter, Valid}
-use Rattle.rules.specs.Sentences.{Unpriced, UnpricedOf, WithoutLegs, AheadShared, AheadNumbered, NonePassed, StarterSentence, LaterSentence}
+use Rattle.rules.specs.Sentences.{Unpriced, UnpricedOf, WithoutLegs, LegsMeetNone, AheadShared, AheadNumbered, NonePassed, StarterSentence, LaterSentence}
 use Rattle.rules.proofs.Shrinks.{Shrinks, shrinks-refl, shrinks-trans}
 use Rattle.rules.proofs.Control.{turn-kept, shrinks-kept, pass-kept}
 use Rattle.rules.proofs.Ends.{pass-why}
@@ -54,12 +54,8 @@ starter-sentence b s k = record {
   free = λ e i h. rw (e, starter-is b s k i h) (why i);
 }
   where
-    why : (i : ℕ) →
-        (entryAt (pass Shared true i b .state) i .units ≡ 0)
-        ⊎ ((readyNet true i (pass Shared true i b .state) ≡ 0) ⊎ (meets (entryAt b i .side) (entryAt b i .level) (readyNet true i (pass Shared true i b .state)) ≡ false))
-    why i =
-        let h : Shrinks b (pass Shared true i b .state) = pass-kept shrinks-kept Shared true i b (s .orderRows) in
-        ⊎-elim inl (λ n. inr (rw (h .entry i .side, h .entry i .level) at (n .legs))) (pass-why Shared true i b)
+    why : (i : ℕ) → (entryAt (pass Shared true i b .state) i .units ≡ 0) ⊎ LegsMeetNone (pass Shared true i b .state) i
+    why i = ⊎-elim inl (λ n. inr (n .legs)) (pass-why Shared true i b)
 
 -- THE PASS OF ANOTHER
 pub later-sentence : (b : State) → Sound b → (k n i : ℕ) → LaterSentence b i (laterPass k n i b)
@@ -139,3 +135,49 @@ module _ (n : ℕ) where
   unfolding laterPass
   later-of k m i b rows d =
       pick-by (λ (x : Moved). All (UnpricedOf n) (x .records)) (later k m (entryAt b i)) (λ t. other-pass Numbered _ i b rows (d t)) (λ _. all-nil)
+
+-- THE KINDS OF A PASS'S RECORDS: fills alone
+module _ (K : Kind → Type 0) (whole : K WholeFill) (leg : K LegFill) (order : K LegOrderFill) where
+  abbrev P : Record → Type 0
+  P r = K (r .kind)
+
+  party-kinds : (e : Entry) (s : Strategy) (q level : ℕ) (ps : List ℕ) → All P (partyRecords e s q level ps)
+  unfolding partyRecords
+  party-kinds e s q level ps = all-append (all-cons whole all-nil) (all-join (legRecordAt e (s .legs) q ps) (s .count) (λ i l. all-cons leg all-nil))
+
+  row-kinds : (o : LegOrder) (q price : ℕ) → All P (orderRow o q price)
+  unfolding orderRow
+  row-kinds o q price = pick-all (All P) _ all-nil (all-cons order all-nil)
+
+  legs-kinds : (a : ℕ) (b : State) → All P (legFill a b .records)
+  unfolding legFill takeLegs
+  legs-kinds a b =
+      let e : Entry = entryAt b a in
+      let s : Strategy = strategyOf b e in
+      let ps : List ℕ = prices (b .orders) (e .side) (s .legs) in
+      let q : ℕ = unitsOf (b .orders) (e .side) s ps (e .units) in
+      all-append (party-kinds e s q (netOf s ps) ps)
+      (all-join (orderRecords (b .orders) (e .side) q (s .legs) ps) (s .count)
+      (λ i _. all-join (orderRows (b .orders) (quotasAt (b .orders) (e .side) q (s .legs) ps i) (slot ps i)) 32
+      (λ j _. row-kinds (getD (b .orders) j noOrder) (slot (quotasAt (b .orders) (e .side) q (s .legs) ps i) j) (slot ps i))))
+
+  give-kinds : (a level : ℕ) (qs : List ℕ) (b : State) → All P (give a level qs b .records)
+  unfolding give wholeFill
+  give-kinds a level qs b =
+      each-all P (giveAt a level qs) (λ i c. pick-all (λ (m : Moved). All P (m .records)) _ all-nil (all-append (party-kinds _ _ _ _ _) (party-kinds _ _ _ _ _))) 32 b
+
+  limit-kinds : (way : Allocation) (a level : ℕ) (b : State) → All P (meetLimit way a level b .records)
+  unfolding meetLimit giveShared giveInTurn giveGroup and-then
+  limit-kinds LegsOnly a level b = all-nil
+  limit-kinds Shared a level b = all-append (give-kinds a level _ b) (all-append (give-kinds a level _ _) (give-kinds a level _ _))
+  limit-kinds Numbered a level b = give-kinds a level _ b
+
+  take-kinds : (way : Allocation) (a : ℕ) (t : Turn) (b : State) → All P (take way a t b .records)
+  unfolding take
+  take-kinds way a Stop b = all-nil
+  take-kinds way a ByLegs b = legs-kinds a b
+  take-kinds way a (AtLimit level) b = limit-kinds way a level b
+
+  pub pass-kinds : (way : Allocation) (legs : Bool) (a : ℕ) (b : State) → All P (pass way legs a b .records)
+  unfolding pass
+  pass-kinds way legs a b = each-all P (turn way legs a) (λ i c. take-kinds way a (turnOf way legs a c) c) _ b

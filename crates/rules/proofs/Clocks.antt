@@ -1,36 +1,46 @@
 -- "Clock: auctions begun at least the timer ago end, by strategy."
 use mathlib.Core.Path.{_≡_, refl, sym, _∙_, ap}
 use mathlib.Core.Bool.{Bool, true, false, not}
-use mathlib.Core.Logic.{⊎-elim}
+use mathlib.Core.Logic.{inl, ⊎-elim}
+use mathlib.Core.List.{List, [], _∷_, List·Memᴰ, List·Memᴰ·head}
 use Prim.Native.Nat.{ℕ, zero, suc, _+_, _≤_, _<_}
 use native.Mathlib.Omega.{arith}
-use borrow.Author.Tests.{eqb-true, eq-eqb, ne-eqb, leb-true, leb-false, le-leb, lt-leb, ltb-true, ltb-false}
+use borrow.Author.Tests.{eqb-true, eq-eqb, ne-eqb, leb-true, leb-false, le-leb, lt-leb, lt-ltb, ltb-true, ltb-false, not-true}
 use lib.Dec.{eqb, leb, ltb}
 use lib.ListN.{length}
-use Rattle.base.specs.Pick.{pick, pick-by, pick-true, pick-false, pick-yes}
-use Rattle.base.specs.All.{All, all-nil, all-append}
+use Rattle.base.specs.Pick.{pick, pick-all, pick-by, pick-true, pick-false, pick-yes}
+use Rattle.base.specs.All.{All, all-nil, all-cons, all-append, all-map}
 use Rattle.base.specs.Walks.{below, lt-or-le, clash}
 use Rattle.events.specs.declared.Clock.{Clock}
 use Rattle.events.specs.declared.Event.the-variants as E
 use Rattle.rules.specs.declared.Strategy.{Strategy}
 use Rattle.rules.specs.declared.State.{State}
-use Rattle.rules.specs.declared.Allocation.the-variants.{Shared}
+use Rattle.rules.specs.declared.Record.{Record}
+use Rattle.rules.specs.declared.Kind.{Kind}
+use Rattle.rules.specs.declared.Allocation.{Allocation}
+use Rattle.rules.specs.declared.Allocation.the-variants.{Shared, Numbered}
 use Rattle.rules.specs.State.{entryAt, strategyAt, withClock}
-use Rattle.rules.specs.Moves.{Moved, and-then, each}
-use Rattle.rules.specs.Auctions.{liveIn, running, starterSlot, starterPass, later, laterPass, endAuction, due, endDue}
+use Rattle.rules.specs.Moves.{Moved, still, and-then, each}
+use Rattle.rules.specs.Auctions.{liveIn, running, close, cancelLapsed, starterSlot, starterPass, later, laterPass, endUnfilled, endAuction, due, endDue}
+use Rattle.rules.specs.Records.{kindNumber}
+use Rattle.rules.specs.Fills.{cancelEntry}
+use Rattle.rules.specs.Passes.{pass}
 use Rattle.rules.specs.Events.{onClock}
 use Rattle.rules.specs.Refusals.{causes}
 use Rattle.rules.specs.Step.{accept}
 use Rattle.rules.specs.Valid.{Sound, Starter, Valid}
-use Rattle.rules.specs.Sentences.{Accepted, Runs, UnpricedOf, ClockSentence}
+use Rattle.rules.specs.Sentences.{Accepted, Runs, IsKind, UnpricedOf, HadTurn, endedRecord, ClockSentence}
+use Rattle.rules.proofs.Tables.{positive, mem-left, mem-right}
 use Rattle.rules.proofs.Shrinks.{Shrinks, shrinks-trans, shrinks-refl}
-use Rattle.rules.proofs.Control.{laterPass-kept, endAuction-kept, shrinks-kept}
-use Rattle.rules.proofs.Only.{Only, live-in, only-trans, only-each, starterPass-only, laterPass-only}
-use Rattle.rules.proofs.Settled.{same-or, valid-loose}
-use Rattle.rules.proofs.Endings.{ended-at, ended-other, ended-is, running-low, auction-valid, clock-set}
+use Rattle.rules.proofs.Control.{laterPass-kept, endUnfilled-kept, endAuction-kept, endDue-kept, shrinks-kept}
+use Rattle.rules.proofs.Only.{Only, live-in, lapsed-only, only-trans, only-each, starterPass-only, laterPass-only}
+use Rattle.rules.proofs.Settled.{same-or, strategy-same, only-sound, valid-loose}
+use Rattle.rules.proofs.Endings.{live-is, ended-at, ended-other, ended-is, running-low, auction-valid, clock-set}
 use Rattle.rules.proofs.Validity.{clear, starter-found}
+use Rattle.rules.proofs.Firsts.{live-slot}
 use Rattle.rules.proofs.Cancels.{same-slot}
-use Rattle.rules.proofs.Bars.{starter-sentence, unpriced-of, each-of, other-pass, later-of, unfilled-of}
+use Rattle.rules.proofs.PassEnds.{turn-within, shared-had, numbered-had}
+use Rattle.rules.proofs.Bars.{starter-sentence, unpriced-of, each-all, pass-kinds, each-of, other-pass, later-of, unfilled-of}
 
 -- a strategy whose auction runs
 pub runs : (b : State) (k : ℕ) → Runs b k → running b k ≡ true
@@ -162,6 +172,184 @@ module _ (b : State) (v : Valid b) (k : ℕ) (r : running b k ≡ true) (answere
       all-append (due-of n)
       (pick-by (λ (m : Moved). All (UnpricedOf mine) (m .records)) _ (λ t. auction-of c n (all-ended b v n) (pick-yes (running c n) t .0)) (λ _. all-nil))
 
+-- THE PASSES, AND RECORD 5, of an auction that ends
+-- moves from slot k on
+rest-shrinks : (f : ℕ → State → Moved) → ((i : ℕ) (c : State) → length (c .orders) ≡ 32 → Shrinks c (f i c .state)) → (b : State) → length (b .orders) ≡ 32 →
+    (k n : ℕ) → k ≤ n → Shrinks (each f k b .state) (each f n b .state)
+unfolding each and-then
+rest-shrinks f h b rows k zero l = let z : k ≡ 0 = omega arith in rw z (shrinks-refl b)
+rest-shrinks f h b rows k (suc n) l =
+    ⊎-elim
+    (λ (m : k < suc n).
+    let s : Shrinks (each f k b .state) (each f n b .state) = rest-shrinks f h b rows k n (omega arith) in
+    shrinks-trans s (h n (each f n b .state) (from n .orderRows ∙ rows)))
+    (λ (m : suc n ≤ k). let z : k ≡ suc n = omega arith in rw z (shrinks-refl _))
+    (lt-or-le k (suc n))
+  where
+    from : (j : ℕ) → Shrinks b (each f j b .state)
+    from zero = shrinks-refl b
+    from (suc j) = shrinks-trans (from j) (h j _ (from j .orderRows ∙ rows))
+
+module _ (b : State) (v : Valid b) (k : ℕ) (low : k < 16) (r : running b k ≡ true) (d : due b k ≡ true) where
+  abbrev now : State
+  now = each endDue k b .state
+
+  abbrev end : State
+  end = each endDue 16 b .state
+
+  so-far : Ended b k now
+  so-far = all-ended b v k
+
+  row : strategyAt now k ≡ strategyAt b k
+  row = so-far .ahead k (omega arith)
+
+  runs-now : running now k ≡ true
+  runs-now = rw row r
+
+  abbrev first : State
+  first = starterPass k now .state
+
+  abbrev number : ℕ
+  number = strategyAt now k .starter
+
+  abbrev second : State
+  second = each (laterPass k number) 32 first .state
+
+  orders : length (now .orders) ≡ 32
+  orders = so-far .valid .sound .orderRows
+
+  first-only : Only k now first
+  first-only = starterPass-only k now (so-far .valid .sound .entryRows) orders
+
+  later-shrinks : (i : ℕ) (c : State) → length (c .orders) ≡ 32 → Shrinks c (laterPass k number i c .state)
+  later-shrinks i c m = laterPass-kept shrinks-kept k number i c m
+
+  ends-here : endDue k now ≡ endAuction k now
+  unfolding endDue
+  ends-here = pick-true _ _ _ (due-same b now k row (so-far .shrinks .clock) (so-far .shrinks .timer) ∙ d)
+
+  second-end : Shrinks second end
+  unfolding endAuction and-then each
+  second-end =
+      let m : length (second .orders) ≡ 32 = passed-only k now (so-far .valid) runs-now .shrinks .orderRows ∙ orders in
+      let s : Shrinks second (endUnfilled k second .state) = endUnfilled-kept shrinks-kept k second m in
+      shrinks-trans s (rw (ap (λ (x : Moved). x .state) ends-here) at (rest-shrinks endDue (endDue-kept shrinks-kept) b (v .sound .orderRows) (suc k) 16 low))
+
+  first-second : Shrinks first second
+  unfolding each
+  first-second = rest-shrinks (laterPass k number) later-shrinks first (first-only .shrinks .orderRows ∙ orders) 0 32 (omega arith)
+
+  starter-had : (i : ℕ) → Starter b k i → HadTurn b end i (not (strategyAt b k .answered))
+  unfolding starterPass
+  starter-had i p =
+      let q : Starter now k (starterSlot now k) = starter-found now (so-far .valid) k runs-now in
+      let s = so-far .shrinks .entry (starterSlot now k) in
+      let z : starterSlot now k ≡ i =
+      same-slot (v .sound) (starterSlot now k) i (omega (arith, q .live, s .units)) (p .live) (sym (s .number) ∙ q .number ∙ ap (λ (t : Strategy). t .starter) row ∙ sym (p .number)) in
+      let h : HadTurn now first (starterSlot now k) (not (strategyAt now k .answered)) = shared-had (not (strategyAt now k .answered)) (starterSlot now k) now (so-far .valid .sound) in
+      turn-within (so-far .shrinks) (rw (z, row) at h) (shrinks-trans first-second second-end)
+
+  -- an entry that was accepted meanwhile
+  other-had : (i : ℕ) → 0 < entryAt b i .units → entryAt b i .strategy ≡ k → strategyAt b k .starter < entryAt b i .number → HadTurn b end i (not (eqb (entryAt b i .life) 4))
+  unfolding each and-then laterPass later
+  other-had i l st after =
+      let slot : i < 32 = live-slot b (v .sound .entryRows) i l in
+      let c : State = each (laterPass k number) i first .state in
+      let m : length (first .orders) ≡ 32 = first-only .shrinks .orderRows ∙ orders in
+      let to : Shrinks first c = rest-shrinks (laterPass k number) later-shrinks first m 0 i (omega arith) in
+      let all : Shrinks b c = shrinks-trans (so-far .shrinks) (shrinks-trans (first-only .shrinks) to) in
+      let on : Shrinks (laterPass k number i c .state) second = rest-shrinks (laterPass k number) later-shrinks first m (suc i) 32 slot in
+      let legs : Bool = not (eqb (entryAt b i .life) 4) in
+      let same = all .entry i in
+      let o : Only k now c = only-trans first-only (only-each (laterPass k number) first i (λ j _ x s. laterPass-only k number j x (s .orderRows ∙ m))) in
+      ⊎-elim
+      (λ (u : 0 < entryAt c i .units).
+      let t : later k number (entryAt c i) ≡ true =
+      pick-true _ _ _ (live-is k (entryAt c i) u (same .strategy ∙ st)) ∙ lt-ltb number (entryAt c i .number) (omega (arith, same .number, ap (λ (x : Strategy). x .starter) row)) in
+      let x : laterPass k number i c ≡ pass Numbered (not (eqb (entryAt c i .life) 4)) i c = pick-true _ _ _ t in
+      let h : HadTurn c (pass Numbered (not (eqb (entryAt c i .life) 4)) i c .state) i (not (eqb (entryAt c i .life) 4)) = numbered-had (not (eqb (entryAt c i .life) 4)) i c (only-sound o (so-far .valid .sound)) in
+      turn-within all (rw (same .life) at h) (shrinks-trans (rw (x, same .life) at on) second-end))
+      (λ (u : entryAt c i .units ≤ 0). record {
+        moment = c;
+        since = all;
+        until = shrinks-trans (shrinks-trans (later-shrinks i c (to .orderRows ∙ m)) on) second-end;
+        done = inl (omega arith);
+      })
+      (lt-or-le 0 (entryAt c i .units))
+
+-- no fill and no cancel is a record 5
+abbrev NoEnd : Kind → Type 0
+NoEnd k = kindNumber k ≡ 5 → ⊥
+
+pass-noend : (way : Allocation) (legs : Bool) (a : ℕ) (b : State) → All (λ (r : Record). NoEnd (r .kind)) (pass way legs a b .records)
+unfolding kindNumber
+pass-noend way legs a b = pass-kinds NoEnd (λ z. omega arith) (λ z. omega arith) (λ z. omega arith) way legs a b
+
+-- a record 5 is of an auction that is due
+abbrev OfDue : State → Record → Type 0
+OfDue b r = IsKind 5 r → (due b (r .place) ≡ true) × (r ≡ endedRecord b (r .place))
+
+module _ (b c : State) (j : ℕ) (e : Ended b j c) (t : due c j ≡ true) where
+  abbrev others : State
+  others = each (laterPass j (strategyAt c j .starter)) 32 (starterPass j c .state) .state
+
+  abbrev cancelled : State
+  cancelled = each (cancelLapsed j) 32 others .state
+
+  due-running : running c j ≡ true
+  unfolding due
+  due-running = pick-yes (running c j) t .0
+
+  due-b : due b j ≡ true
+  due-b = sym (due-same b c j (e .ahead j (omega arith)) (e .shrinks .clock) (e .shrinks .timer)) ∙ t
+
+  its-record : close j cancelled .records ≡ endedRecord b j ∷ []
+  unfolding close
+  its-record =
+      let o : Only j c others = passed-only j c (e .valid) due-running in
+      let l : Only j others cancelled = only-each (cancelLapsed j) others 32 (λ i _ d _. lapsed-only j i d) in
+      let row : strategyAt cancelled j ≡ strategyAt b j = strategy-same c cancelled (l .strategies ∙ o .strategies) j ∙ e .ahead j (omega arith) in
+      rw row
+
+  noend : {rs : List Record} → All (λ (r : Record). NoEnd (r .kind)) rs → All (OfDue b) rs
+  noend = all-map (λ r h k. absurd (h k))
+
+  auction-fives : All (OfDue b) (endAuction j c .records)
+  unfolding endAuction endUnfilled and-then starterPass laterPass cancelLapsed cancelEntry kindNumber
+  auction-fives =
+      let P : Moved → Type 0 = λ (m : Moved). All (OfDue b) (m .records) in
+      all-append (noend (pass-noend Shared _ (starterSlot c j) c))
+      (all-append (each-all (OfDue b) (laterPass j (strategyAt c j .starter)) (λ i d. pick-all P _ (noend (pass-noend Numbered _ i d)) all-nil) 32 (starterPass j c .state))
+      (all-append (each-all (OfDue b) (cancelLapsed j) (λ i d. pick-all P _ (pick-all P _ all-nil (all-cons (λ k. absurd (omega arith)) all-nil)) all-nil) 32 others)
+      (rw its-record (all-cons (λ _. (due-b, refl)) all-nil))))
+
+  auction-five : List·Memᴰ (endedRecord b j) (endAuction j c .records)
+  unfolding endAuction endUnfilled and-then
+  auction-five =
+      mem-right (starterPass j c .records) _ (mem-right (each (laterPass j (strategyAt c j .starter)) 32 (starterPass j c .state) .records) _
+      (mem-right (each (cancelLapsed j) 32 others .records) _ (rw its-record (List·Memᴰ·head refl))))
+
+module _ (b : State) (v : Valid b) where
+  fives-only : (n : ℕ) → All (OfDue b) (each endDue n b .records)
+  unfolding each and-then endDue
+  fives-only zero = all-nil
+  fives-only (suc n) =
+      let c : State = each endDue n b .state in
+      all-append (fives-only n) (pick-by (λ (m : Moved). All (OfDue b) (m .records)) (due c n) (λ t. auction-fives b c n (all-ended b v n) t) (λ _. all-nil))
+
+  fives-each : (n k : ℕ) → k < n → due b k ≡ true → List·Memᴰ (endedRecord b k) (each endDue n b .records)
+  unfolding each and-then endDue
+  fives-each zero k l d = absurd (omega arith)
+  fives-each (suc n) k l d =
+      let c : State = each endDue n b .state in
+      let e : Ended b n c = all-ended b v n in
+      ⊎-elim
+      (λ (q : k ≡ n).
+      let t : due c n ≡ true = due-same b c n (e .ahead n (omega arith)) (e .shrinks .clock) (e .shrinks .timer) ∙ (rw q at d) in
+      rw (q, pick-true _ (endAuction n c) (still c) t) (mem-right (each endDue n b .records) _ (auction-five b c n e t)))
+      (λ (m : k < n). mem-left (each endDue n b .records) _ (fives-each n k m d))
+      (below l)
+
 -- due or not, in numbers
 is-due : (b : State) (k : ℕ) → Runs b k → strategyAt b k .begun + b .timer ≤ b .clock → due b k ≡ true
 unfolding due
@@ -170,6 +358,10 @@ is-due b k r h = pick-true _ _ _ (runs b k r) ∙ le-leb _ _ h
 not-due : (b : State) (k : ℕ) → b .clock < strategyAt b k .begun + b .timer → due b k ≡ false
 unfolding due
 not-due b k h = pick-by (λ (t : Bool). t ≡ false) (running b k) (λ _. lt-leb _ _ h) (λ _. refl)
+
+due-is : (b : State) (k : ℕ) → due b k ≡ true → Runs b k × (strategyAt b k .begun + b .timer ≤ b .clock)
+unfolding due
+due-is b k h = let p = pick-yes (running b k) h in (positive _ (not-true _ (p .0)), leb-true _ _ (p .1))
 
 none-due : (b : State) (k : ℕ) → strategyAt b k .starter ≡ 0 → due b k ≡ false
 unfolding due
@@ -192,5 +384,15 @@ clock-sentence b e a =
           (λ (l : 16 ≤ k). rw (d .ahead k l) z)
           (lt-or-le k 16);
       clock = d .shrinks .clock;
+      starterPass = λ k r h i p. starter-had (withClock b t) v k (low k r) (runs b k r) (is-due (withClock b t) k r h) i (starter-at k i p);
+      otherPasses = λ k r h. other-had (withClock b t) v k (low k r) (runs b k r) (is-due (withClock b t) k r h);
+      dayLeft = λ k r h i st l.
+          let m = d .shrinks .entry i in
+          sym (m .life) ∙ d .valid .settled k .day (runs-not (each endDue 16 (withClock b t) .state) k (d .ended k (low k r) (is-due (withClock b t) k r h))) i l (m .strategy ∙ st);
+      fiveEach = λ k r h. fives-each (withClock b t) v 16 k (low k r) (is-due (withClock b t) k r h);
+      fiveOnly = all-map (λ x h q. let z = h q in let w = due-is (withClock b t) (x .place) (z .0) in (w .0, w .1, z .1)) (fives-only (withClock b t) v 16);
       barred = λ k r answered. due-of (withClock b t) v k (runs b k r) answered 16;
     }
+  where
+    starter-at : (k i : ℕ) → Starter b k i → Starter (withClock b (e .time)) k i
+    starter-at k i p = record { slot = p .slot; live = p .live; strategy = p .strategy; number = p .number; class = p .class; life = p .life }

@@ -2,7 +2,7 @@
 use mathlib.Core.Path.{_≡_, refl, sym, _∙_, ap}
 use mathlib.Core.Bool.{Bool, true, false, not}
 use mathlib.Core.Logic.{_⊎_, inl, inr, ⊎-elim}
-use mathlib.Core.List.{List, [], _∷_, _++_, append-nil, List·Memᴰ, List·Memᴰ·head, List·Memᴰ·tail, List·Memᴰ·not-nil, List·Memᴰ·cases-cons}
+use mathlib.Core.List.{List, [], _∷_, _++_, append-nil, List·Memᴰ, List·Memᴰ·head}
 use Prim.Native.Nat.{ℕ, zero, suc, _+_, _≤_, _<_}
 use native.Mathlib.Omega.{arith}
 use borrow.Author.Tests.{eqb-true, eqb-false, eq-eqb, ne-eqb, not-true, not-false}
@@ -27,7 +27,7 @@ use Rattle.rules.specs.Events.{cancelNumber, closeRunning, lowestLive, c
 use Rattle.rules.specs.Step.{accept}
 use Rattle.rules.specs.Valid.{Sound}
 use Rattle.rules.specs.Sentences.{Accepted, Runs, IsKind, endedRecord, cancelledRecord, cancelledLegRecord, DayEndSentence}
-use Rattle.rules.proofs.Tables.{positive}
+use Rattle.rules.proofs.Tables.{positive, mem-left, mem-right}
 use Rattle.rules.proofs.Shrinks.{Shrinks, shrinks-refl, shrinks-trans, auction-shrinks, close-shrinks, cancel-shrinks, cancelOrder-shrinks}
 use Rattle.rules.proofs.Entering.{sound-auctions, sound-shrinks, auctions-same}
 use Rattle.rules.proofs.Settled.{same-or, cancel-other, cancel-dead, strategy-same}
@@ -37,15 +37,6 @@ use Rattle.rules.proofs.Firsts.{live-slot, order-slot}
 use Rattle.rules.proofs.Cancels.{same-slot, same-order-slot, number-entry, number-order, number-strategies, cancel-orders, cancelOrder-other, cancelOrder-dead, cancelOrder-entries}
 use Rattle.rules.proofs.Endings.{running-low}
 use Rattle.rules.proofs.Clocks.{runs}
-
--- MEMBERS of two lists
-mem-left : {r : Record} (xs ys : List Record) → List·Memᴰ r xs → List·Memᴰ r (xs ++ ys)
-mem-left [] ys m = absurd (List·Memᴰ·not-nil m)
-mem-left (x ∷ xs) ys m = ⊎-elim (λ e. List·Memᴰ·head e) (λ k. List·Memᴰ·tail (mem-left xs ys k)) (List·Memᴰ·cases-cons m)
-
-mem-right : {r : Record} (xs ys : List Record) → List·Memᴰ r ys → List·Memᴰ r (xs ++ ys)
-mem-right [] ys m = m
-mem-right (x ∷ xs) ys m = List·Memᴰ·tail (mem-right xs ys m)
 
 -- RECORDS 5, of the first n strategies
 record Closed (b : State) (n : ℕ) (rs : List Record) (c : State) : Type 0 where

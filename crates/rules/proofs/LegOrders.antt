@@ -48,6 +48,7 @@ use Rattle.rules.proofs.Finishes.{trade-all}
 use Rattle.rules.proofs.Gives.{cutLeg-other, other-apart}
 use Rattle.rules.proofs.Validity.{legOrder-clear}
 use Rattle.rules.proofs.Groups.{legs-others}
+use Rattle.rules.proofs.PassEnds.{sides-two}
 
 -- ALL OPEN, by its series
 pub open-all : (b : State) (k : ℕ) → allOpen b k ≡ true → Open b k
@@ -268,14 +269,6 @@ module _ (s : ℕ) (b : State) (rows : length (b .orders) ≡ 32) where
   passing-all = each-keeps (Passing s b) (legPassesIn s) 16 (λ k _ c. passing-in k c) b (record { quiet = quiet-refl b; only = λ i l. absurd (omega arith) })
 
 -- THE TRADES
--- of two sides one is the other
-pub sides-two : (x y : ℕ) → x ≤ 1 → y ≤ 1 → (x ≡ y → ⊥) → x ≡ other y
-unfolding other
-sides-two x y h k d =
-    pick-by (λ (n : ℕ). x ≡ n) (eqb y 0)
-    (λ e. let z : y ≡ 0 = eqb-true y 0 e in omega arith)
-    (λ e. let z : ¬ (y ≡ 0) = eqb-false y 0 e in omega arith)
-
 met-meeting : (c : State) → Sound c → (a i : ℕ) → Met (orderAt c a) (orderAt c i) → Meeting c (orderAt c a) i
 met-meeting c v a i m = record {
   live = m .live;

@@ -38,6 +38,7 @@ pub mod Totals
 pub mod Sample
 pub mod WholeFills
 pub mod Groups
+pub mod PassEnds
 pub mod Cancels
 pub mod Bars
 pub mod Clocks

@@ -25,29 +25,27 @@ use Rattle.rules.specs.Sides.{other, meets, better}
 use Rattle.rules.specs.Nets.{legNet, offerNet, bidNet}
 use Rattle.rules.specs.Strategies.{shutSet, allOpen}
 use Rattle.rules.specs.Fills.{cut, cancelEntry}
-use Rattle.rules.specs.Passes.{opposes, bestOpposite, readyNet, opposite, pass}
+use Rattle.rules.specs.Passes.{opposite, pass}
 use Rattle.rules.specs.Auctions.{running, putAuction, begin, answer}
 use Rattle.rules.specs.Events.{enter, freeSlot, restOrCancel, mayStart, starts, waits, trades, arrive, onOrder}
 use Rattle.rules.specs.Given.{orderGiven}
 use Rattle.rules.specs.Step.{accept}
 use Rattle.rules.specs.Valid.{Sound, Valid}
-use Rattle.rules.specs.Sentences.{Accepted, Runs, Open, AheadShared, NonePassed, CancelsIt, StartsOne, a-buy, a-sell, Begins, PassesIt, OrderSentence}
+use Rattle.rules.specs.Sentences.{Accepted, Runs, Open, MeetsNone, LegsMeetNone, AheadShared, NonePassed, CancelsIt, StartsOne, a-buy, a-sell, Begins, PassesIt, OrderSentence}
 use Rattle.rules.proofs.Tables.{positive}
 use Rattle.rules.proofs.Shrinks.{Shrinks, shrinks-refl, cancel-shrinks}
 use Rattle.rules.proofs.Entering.{Entering, fit-entry-at}
 use Rattle.rules.proofs.Settled.{cancel-other, cancel-dead, cancel-strategies, only-sound}
 use Rattle.rules.proofs.Only.{Only, pass-only}
 use Rattle.rules.proofs.Arrivals.{put-at, put-entries, answer-entries, may-class, may-life, Arrived, enter-arrived}
-use Rattle.rules.proofs.Control.{opposes-is}
-use Rattle.rules.proofs.Ends.{Ended, no-better-fails, pass-why}
-use Rattle.rules.proofs.Gives.{opposed}
-use Rattle.rules.proofs.Firsts.{live-slot}
+use Rattle.rules.proofs.Ends.{pass-why}
 use Rattle.rules.proofs.Validity.{order-clear}
 use Rattle.rules.proofs.Cancels.{cancel-orders}
-use Rattle.rules.proofs.Groups.{best-opposite, better-other, shared-static, none-alone, none-trans, shared-pass}
+use Rattle.rules.proofs.Groups.{shared-static, none-alone, none-trans, shared-pass}
 use Rattle.rules.proofs.Clocks.{runs, runs-not}
 use Rattle.rules.proofs.Sweeps.{answers-at}
-use Rattle.rules.proofs.LegOrders.{open-all, all-open, sides-two}
+use Rattle.rules.proofs.LegOrders.{open-all, all-open}
+use Rattle.rules.proofs.PassEnds.{meets-none, turn-within, shared-had}
 
 -- a test that is not true
 not-so : {t : Bool} → (t ≡ true → ⊥) → t ≡ false
@@ -161,28 +159,9 @@ module _ (b : State) (v : Sound b) (a : ℕ) where
   sound-c : Sound c
   sound-c = only-sound passed v
 
-  rests-apart : 0 < entryAt c a .units → (i : ℕ) → 0 < entryAt c i .units → entryAt b i .strategy ≡ entryAt b a .strategy → (entryAt b i .side ≡ entryAt b a .side → ⊥) →
-      meets (entryAt b a .side) (entryAt b a .level) (entryAt b i .level) ≡ false
+  rests-apart : 0 < entryAt c a .units → MeetsNone c a × LegsMeetNone c a
   unfolding opposite
-  rests-apart left i l s d =
-      let ea = passed .shrinks .entry a in
-      let ei = passed .shrinks .entry i in
-      let o : opposes (entryAt c a) (entryAt c i) ≡ true =
-      opposes-is (entryAt c a) (entryAt c i) l (ei .strategy ∙ s ∙ sym (ea .strategy))
-      (sides-two (entryAt c i .side) (entryAt c a .side) (fit-entry-at c sound-c i .side) (fit-entry-at c sound-c a .side) (λ q. d (sym (ei .side) ∙ q ∙ ea .side))) in
-      let z = best-opposite (c .entries) (entryAt c a) (λ k ok. sound-c .live k (opposed (entryAt c a) (entryAt c k) ok .live) .level) i (live-slot c (sound-c .entryRows) i l) o in
-      let w : better (entryAt c a .side) (entryAt c i .level) (bestOpposite (c .entries) (entryAt c a)) ≡ false =
-      sym (better-other (entryAt c a .side) (bestOpposite (c .entries) (entryAt c a)) (entryAt c i .level)) ∙ z .1 in
-      let f : meets (entryAt c a .side) (entryAt c a .level) (entryAt c i .level) ≡ false =
-      ⊎-elim (λ u. absurd (omega arith))
-      (λ n. ⊎-elim (λ u. absurd (omega (arith, z .0))) (λ m. no-better-fails (entryAt c a .side) (entryAt c a .level) (entryAt c i .level) (bestOpposite (c .entries) (entryAt c a)) w m) (n .limit))
-      (pass-why Shared true a b) in
-      rw (ea .side, ea .level, ei .level) at f
-
-  rests-legs : 0 < entryAt c a .units → (readyNet true a c ≡ 0) ⊎ (meets (entryAt b a .side) (entryAt b a .level) (readyNet true a c) ≡ false)
-  rests-legs left =
-      let ea = passed .shrinks .entry a in
-      ⊎-elim (λ u. absurd (omega arith)) (λ n. rw (ea .side, ea .level) at (n .legs)) (pass-why Shared true a b)
+  rests-apart left = ⊎-elim (λ u. absurd (omega arith)) (λ n. (meets-none a c sound-c (n .limit), n .legs)) (pass-why Shared true a b)
 
   passes-it : PassesIt b a (trades a b)
   unfolding trades and-then
@@ -194,8 +173,8 @@ module _ (b : State) (v : Sound b) (a : ℕ) where
             (none-alone AheadShared shared-static a c (restOrCancel a c .state) (rest-alone c a));
         strategies = rest-strategies c a ∙ passed .strategies;
         cancelled = λ h. rw (rest-other c a (λ q. h (sym same ∙ q))) (cancel-dead c a);
+        had = turn-within (shrinks-refl b) (shared-had true a b v) (rest-shrinks c a);
         rests = λ e. rw (day e) rests-apart;
-        legsLeft = λ e. rw (day e) rests-legs;
       }
 
 -- THE SENTENCE, of an order that has arrived

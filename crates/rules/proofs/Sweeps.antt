@@ -37,7 +37,7 @@ use Rattle.rules.proofs.Gives.{other-apart}
 use Rattle.rules.proofs.Firsts.{live-slot}
 use Rattle.rules.proofs.Validity.{sweep-clear}
 use Rattle.rules.proofs.Bars.{starter-is}
-use Rattle.rules.proofs.LegOrders.{sides-two}
+use Rattle.rules.proofs.PassEnds.{sides-two}
 
 -- AN ANSWER
 -- an auction's starter stands on where an entry enters

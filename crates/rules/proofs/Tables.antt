@@ -2,7 +2,7 @@
 use mathlib.Core.Path.{_≡_, refl, _∙_, ap}
 use mathlib.Core.Bool.{Bool, true, false}
 use mathlib.Core.Logic.{⊎-elim}
-use mathlib.Core.List.{List, [], _∷_, _++_}
+use mathlib.Core.List.{List, [], _∷_, _++_, List·Memᴰ, List·Memᴰ·head, List·Memᴰ·tail, List·Memᴰ·not-nil, List·Memᴰ·cases-cons}
 use Prim.Native.Nat.{ℕ, zero, suc, _+_, _≤_, _<_}
 use native.Mathlib.Omega.{arith}
 use borrow.Author.Tests.{eqb-false}
@@ -116,6 +116,15 @@ other-row P d x h m all-nil (suc n) (suc j) e = all-at {P = P} d h (all-take (al
 other-row P d x h m (all-cons p a) zero j e = h
 other-row P d x h m (all-cons p a) (suc n) zero e = p
 other-row P d x h m (all-cons p a) (suc n) (suc j) e = other-row P d x h m a n j (λ q. e (ap suc q))
+
+-- members of two lists
+pub mem-left : {A : Type 0} {x : A} (xs ys : List A) → List·Memᴰ x xs → List·Memᴰ x (xs ++ ys)
+mem-left [] ys m = absurd (List·Memᴰ·not-nil m)
+mem-left (y ∷ xs) ys m = ⊎-elim (λ e. List·Memᴰ·head e) (λ k. List·Memᴰ·tail (mem-left xs ys k)) (List·Memᴰ·cases-cons m)
+
+pub mem-right : {A : Type 0} {x : A} (xs ys : List A) → List·Memᴰ x ys → List·Memᴰ x (xs ++ ys)
+mem-right [] ys m = m
+mem-right (y ∷ xs) ys m = List·Memᴰ·tail (mem-right xs ys m)
 
 -- x stands in a list
 pub record Stands {A : Type 0} (d : A) (l : List A) (x : A) : Type 0 where

@@ -2,7 +2,7 @@
 -- after it and its records. Each holds of every accepted event in every valid state (proofs Sentences.sentences). A rule that is changed in
 -- its definition and in the code alike is refused here.
 use mathlib.Core.Path.{_≡_}
-use mathlib.Core.Bool.{Bool, true, false}
+use mathlib.Core.Bool.{Bool, true, false, not}
 use mathlib.Core.Logic.{_⊎_}
 use mathlib.Core.List.{List, [], _∷_, _++_, List·Memᴰ}
 use Prim.Native.Nat.{ℕ, _+_, _*_, _^_, _≤_, _<_}
@@ -22,7 +22,7 @@ use Rattle.rules.specs.declared.LegOrder.{LegOrder}
 use Rattle.rules.specs.declared.State.{State}
 use Rattle.rules.specs.declared.Record.{Record}
 use Rattle.rules.specs.declared.Kind.the-variants.{LegFill, LegOrderFill, Cancelled, LegOrderCancelled, AuctionBegun, AuctionEnded}
-use Rattle.rules.specs.State.{noLeg, fresh, entryAt, orderAt, strategyAt, legAt, withOpened}
+use Rattle.rules.specs.State.{noLeg, fresh, entryAt, orderAt, strategyAt, legAt, withOpened, withClock}
 use Rattle.rules.specs.Moves.{Moved, still, each}
 use Rattle.rules.specs.Records.{kindNumber}
 use Rattle.rules.specs.Sides.{other, meets, better}
@@ -56,6 +56,16 @@ Runs b k = 0 < strategyAt b k .starter
 -- a record of that kind, as it is read: 1 to 5
 abbrev pub IsKind : ℕ → Record → Type 0
 IsKind n r = kindNumber (r .kind) ≡ n
+
+-- the record 5 of strategy k's auction, and the records 3 of an entry and of a leg order
+abbrev pub endedRecord : State → ℕ → Record
+endedRecord b k = record { kind = AuctionEnded; number = strategyAt b k .starter; place = k; side = 0; quantity = 0; level = 10_000_000 }
+
+abbrev pub cancelledRecord : Entry → Record
+cancelledRecord e = record { kind = Cancelled; number = e .number; place = 0; side = e .side; quantity = e .units; level = 10_000_000 }
+
+abbrev pub cancelledLegRecord : LegOrder → Record
+cancelledLegRecord o = record { kind = LegOrderCancelled; number = o .number; place = 0; side = o .side; quantity = o .contracts; level = 10_000_000 }
 
 -- "price 0 where whole met whole": a record 2 that shows price 0
 abbrev pub Unpriced : Record → Type 0
@@ -102,6 +112,23 @@ abbrev pub NonePassed : (Entry → Entry → Type 0) → ℕ → State → State
 NonePassed Ahead a b c =
     (i j : ℕ) → (j ≡ a → ⊥) → Beside (entryAt b i) (entryAt b j) → Ahead (entryAt b i) (entryAt b j) → entryAt c j .units < entryAt b j .units → entryAt c i .units ≡ 0
 
+-- no live entry opposite the one at slot i meets its limit
+abbrev pub MeetsNone : State → ℕ → Type 0
+MeetsNone b i =
+    (j : ℕ) → 0 < entryAt b j .units → entryAt b j .strategy ≡ entryAt b i .strategy → (entryAt b j .side ≡ entryAt b i .side → ⊥) → meets (entryAt b i .side) (entryAt b i .level) (entryAt b j .level) ≡ false
+
+-- the legs are not ready for it, or do not meet its limit
+abbrev pub LegsMeetNone : State → ℕ → Type 0
+LegsMeetNone b i = (readyNet true i b ≡ 0) ⊎ (meets (entryAt b i .side) (entryAt b i .level) (readyNet true i b) ≡ false)
+
+-- "Repeat while units of it remain .. Stop when neither meets its limit": the entry at slot i has had its pass between b and c. At a moment between
+-- them nothing of it was left, or nothing met its limit, legs included where it may use them.
+pub record HadTurn (b c : State) (i : ℕ) (legs : Bool) : Type 0 where
+  pub moment : State
+  pub since : Shrinks b moment
+  pub until : Shrinks moment c
+  pub done : (entryAt moment i .units ≡ 0) ⊎ (MeetsNone moment i × (legs ≡ true → LegsMeetNone moment i))
+
 -- THE STARTER'S PASS, x, in the auction of strategy k.
 pub record StarterSentence (b : State) (k : ℕ) (x : Moved) : Type 0 where
   -- "legs barred if any opposite sweep or waiting order was accepted meanwhile"
@@ -109,8 +136,7 @@ pub record StarterSentence (b : State) (k : ℕ) (x : Moved) : Type 0 where
   -- "The starter gets a shared pass"
   pub passesNone : (i : ℕ) → Starter b k i → NonePassed AheadShared i b (x .state)
   -- else they are not: it ends with nothing left, or where the legs are not ready or do not meet its limit
-  pub free : strategyAt b k .answered ≡ false → (i : ℕ) → Starter b k i →
-      (entryAt (x .state) i .units ≡ 0) ⊎ ((readyNet true i (x .state) ≡ 0) ⊎ (meets (entryAt b i .side) (entryAt b i .level) (readyNet true i (x .state)) ≡ false))
+  pub free : strategyAt b k .answered ≡ false → (i : ℕ) → Starter b k i → (entryAt (x .state) i .units ≡ 0) ⊎ LegsMeetNone (x .state) i
 
 -- THE PASS of another entry that was accepted meanwhile, at slot i: "a numbered pass; sweeps never use legs"
 pub record LaterSentence (b : State) (i : ℕ) (x : Moved) : Type 0 where
@@ -127,6 +153,15 @@ pub record ClockSentence (b : State) (t : ℕ) (x : Moved) : Type 0 where
   pub ends : (k : ℕ) → Runs b k → strategyAt b k .begun + b .timer ≤ t → strategyAt (x .state) k .starter ≡ 0
   -- .. and one before that leaves it as it was
   pub goesOn : (k : ℕ) → Runs b k → t < strategyAt b k .begun + b .timer → strategyAt (x .state) k ≡ strategyAt b k
+  -- "The starter gets a shared pass", with the legs if nobody answered; "then each other entry accepted meanwhile", sweeps without legs
+  pub starterPass : (k : ℕ) → Runs b k → strategyAt b k .begun + b .timer ≤ t → (i : ℕ) → Starter b k i → HadTurn (withClock b t) (x .state) i (not (strategyAt b k .answered))
+  pub otherPasses : (k : ℕ) → Runs b k → strategyAt b k .begun + b .timer ≤ t → (i : ℕ) → 0 < entryAt b i .units → entryAt b i .strategy ≡ k → strategyAt b k .starter < entryAt b i .number →
+      HadTurn (withClock b t) (x .state) i (not (eqb (entryAt b i .life) 4))
+  -- "Sweeps, responses and immediates left are cancelled"
+  pub dayLeft : (k : ℕ) → Runs b k → strategyAt b k .begun + b .timer ≤ t → (i : ℕ) → entryAt b i .strategy ≡ k → 0 < entryAt (x .state) i .units → entryAt b i .life ≡ 0
+  -- "record 5": of each auction that ends, and no other
+  pub fiveEach : (k : ℕ) → Runs b k → strategyAt b k .begun + b .timer ≤ t → List·Memᴰ (endedRecord b k) (x .records)
+  pub fiveOnly : All (λ (r : Record). IsKind 5 r → Runs b (r .place) × (strategyAt b (r .place) .begun + b .timer ≤ t) × (r ≡ endedRecord b (r .place))) (x .records)
   -- a clock begins no auction
   pub beginsNone : (k : ℕ) → strategyAt b k .starter ≡ 0 → strategyAt (x .state) k .starter ≡ 0
   pub clock : x .state .clock ≡ t
@@ -298,12 +333,10 @@ pub record Begins (b : State) (a : ℕ) (x : Moved) : Type 0 where
 pub record PassesIt (b : State) (a : ℕ) (x : Moved) : Type 0 where
   pub passesNone : NonePassed AheadShared a b (x .state)
   pub strategies : x .state .strategies ≡ b .strategies
+  pub had : HadTurn b (x .state) a true
   pub cancelled : (entryAt b a .life ≡ 0 → ⊥) → entryAt (x .state) a .units ≡ 0
-  -- a day order rests only where no opposite limit meets its own, and no ready legs
-  pub rests : entryAt b a .life ≡ 0 → 0 < entryAt (x .state) a .units → (i : ℕ) → 0 < entryAt (x .state) i .units → entryAt b i .strategy ≡ entryAt b a .strategy →
-      (entryAt b i .side ≡ entryAt b a .side → ⊥) → meets (entryAt b a .side) (entryAt b a .level) (entryAt b i .level) ≡ false
-  pub legsLeft : entryAt b a .life ≡ 0 → 0 < entryAt (x .state) a .units →
-      (readyNet true a (x .state) ≡ 0) ⊎ (meets (entryAt b a .side) (entryAt b a .level) (readyNet true a (x .state)) ≡ false)
+  -- what is left of a day order rests where nothing meets it
+  pub rests : entryAt b a .life ≡ 0 → 0 < entryAt (x .state) a .units → MeetsNone (x .state) a × LegsMeetNone (x .state) a
 
 -- COMPLEX ORDER, at slot a of the state b that it has entered.
 pub record OrderSentence (b : State) (a : ℕ) (x : Moved) : Type 0 where
@@ -378,16 +411,6 @@ pub record SeriesSentence (b : State) (s state : ℕ) (x : Moved) : Type 0 where
   pub shuts : has (b .opened) s ≡ true → state ≡ 0 → ShutSentence b s x
   pub opens : has (b .opened) s ≡ false → (state ≡ 0 → ⊥) → OpenSentence (withOpened b (b .opened + 2 ^ s)) s (each (matchIn s) 16 (withOpened b (b .opened + 2 ^ s))) (x .state)
   pub isOpen : has (b .opened) s ≡ false → (state ≡ 0 → ⊥) → (t : ℕ) → has (x .state .opened) t ≡ pick (eqb t s) true (has (b .opened) t)
-
--- the record 5 of strategy k's auction, and the records 3 of an entry and of a leg order
-abbrev pub endedRecord : State → ℕ → Record
-endedRecord b k = record { kind = AuctionEnded; number = strategyAt b k .starter; place = k; side = 0; quantity = 0; level = 10_000_000 }
-
-abbrev pub cancelledRecord : Entry → Record
-cancelledRecord e = record { kind = Cancelled; number = e .number; place = 0; side = e .side; quantity = e .units; level = 10_000_000 }
-
-abbrev pub cancelledLegRecord : LegOrder → Record
-cancelledLegRecord o = record { kind = LegOrderCancelled; number = o .number; place = 0; side = o .side; quantity = o .contracts; level = 10_000_000 }
 
 -- DAY END, with the next day's timer.
 pub record DayEndSentence (b : State) (timer : ℕ) (x : Moved) : Type 0 where
