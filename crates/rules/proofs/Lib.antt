@@ -50,3 +50,4 @@ pub mod Openings
 pub mod Matching
 pub mod LastRecords
 pub mod Definitions
+pub mod Sentences

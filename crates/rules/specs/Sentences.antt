@@ -1,5 +1,5 @@
 -- The sentences of "Events" and "Passes" in another form than their definitions have: what can be seen of the state before an event, the state
--- after it and its records. Each holds of every accepted event in every valid state (proofs Sentences.sentences). A rule that is changed in
+-- after it and its records. Each holds of every accepted event in every valid state (proofs Sentences.event-sentence, step-sentence). A rule that is changed in
 -- its definition and in the code alike is refused here.
 use mathlib.Core.Path.{_≡_}
 use mathlib.Core.Bool.{Bool, true, false, not}
@@ -13,6 +13,7 @@ use Rattle.base.specs.All.{All, Sorted}
 use Rattle.base.specs.Sets.{has}
 use Rattle.base.specs.Gcd.{Divides}
 use Rattle.events.specs.declared.Event.{Event}
+use Rattle.events.specs.declared.Event.the-variants as E
 use Rattle.events.specs.declared.Strategy.{Strategy as GivenStrategy}
 use Rattle.events.specs.declared.Sweep.{Sweep as GivenSweep}
 use Rattle.rules.specs.declared.Leg.{Leg}
@@ -31,8 +32,9 @@ use Rattle.rules.specs.Fills.{partyRecords}
 use Rattle.rules.specs.Passes.{readyNet}
 use Rattle.rules.specs.Auctions.{matchIn}
 use Rattle.rules.specs.Refusals.{first, causes}
-use Rattle.rules.specs.Given.{legsGiven}
-use Rattle.rules.specs.Step.{accept}
+use Rattle.rules.specs.Events.{enter, enterOrder, freeSlot, freeOrderSlot, tradeAll}
+use Rattle.rules.specs.Given.{legsGiven, orderGiven, legOrderGiven}
+use Rattle.rules.specs.Step.{valueOf, accept}
 use Rattle.rules.specs.Valid.{Starter, Valid}
 use Rattle.rules.specs.Fits.{FitEvent}
 use Rattle.rules.specs.Shrinks.{Shrinks}
@@ -454,3 +456,20 @@ pub record StrategySentence (b : State) (e : GivenStrategy) (n : ℕ) (c : State
   pub others : (k : ℕ) → (k ≡ n → ⊥) → strategyAt c k ≡ strategyAt b k
   pub entries : c .entries ≡ b .entries
   pub orders : c .orders ≡ b .orders
+
+-- THE SENTENCE OF AN EVENT, from b. An order or leg order is looked at in the state that it has entered.
+abbrev pub Sentence : State → Event → Type 0
+Sentence b (E.Strategy e) = StrategySentence b e (valueOf b (E.Strategy e)) (accept b (E.Strategy e) .state)
+Sentence b (E.Order e) = OrderSentence (enter (orderGiven b e) b) (freeSlot b) (accept b (E.Order e))
+Sentence b (E.Sweep e) = SweepSentence b e (accept b (E.Sweep e))
+Sentence b (E.LegOrder e) =
+    LegOrderSentence (enterOrder (legOrderGiven b e) b) (freeOrderSlot b) (tradeAll (freeOrderSlot b) (enterOrder (legOrderGiven b e) b)) (accept b (E.LegOrder e) .state)
+Sentence b (E.Cancel e) = CancelSentence b (e .member) (e .number) (accept b (E.Cancel e))
+Sentence b (E.Series e) = SeriesSentence b (e .series) (e .state) (accept b (E.Series e))
+Sentence b (E.Clock e) = ClockSentence b (e .time) (accept b (E.Clock e))
+Sentence b (E.DayEnd e) = DayEndSentence b (e .timer) (accept b (E.DayEnd e))
+
+-- A STATE OF THE BOOK: valid, and without two sweeps of one member, strategy, side and limit. Every state that frames lead to is one.
+pub record Reached (b : State) : Type 0 where
+  pub valid : Valid b
+  pub sweeps : OneSweep b
