@@ -94,8 +94,11 @@ module _ (b : State) (s : Sound b) (n i : ℕ) (low : i < 32) (number : entryAt 
   pub number-entry : cancelNumber n b ≡ ended
   unfolding cancelNumber
   number-entry =
-      rw (each-one (cancelEntryOf n) b i 32 low (λ j q. idle-entry n j b (λ l e. q (entry-alone j l e)))
-      (λ j q. rw entry-is (idle-entry n j (ended .state) (rw (cancel-other b i j q) (λ l e. q (entry-alone j l e))))), entry-is)
+      rw (
+        each-one (cancelEntryOf n) b i 32 low (λ j q. idle-entry n j b (λ l e. q (entry-alone j l e)))
+            (λ j q. rw entry-is (idle-entry n j (ended .state) (rw (cancel-other b i j q) (λ l e. q (entry-alone j l e))))),
+        entry-is,
+      )
       (then-still ended (each (cancelOrderOf n) 32)
       (each-still (cancelOrderOf n) (ended .state) 32 (λ j _. idle-order n j (ended .state) (rw (cancel-orders b i) (λ l e. s .apart i j some l (number ∙ sym e))))))
 
@@ -137,9 +140,12 @@ module _ (b : State) (s : Sound b) (n i : ℕ) (low : i < 32) (number : orderAt 
   pub number-order : cancelNumber n b ≡ endedOrder
   unfolding cancelNumber and-then
   number-order =
-      rw (each-still (cancelEntryOf n) b 32 (λ j _. idle-entry n j b (λ l e. s .apart j i l some (e ∙ sym number))),
-      each-one (cancelOrderOf n) b i 32 low (λ j q. idle-order n j b (λ l e. q (order-alone j l e)))
-      (λ j q. rw order-is (idle-order n j (endedOrder .state) (rw (cancelOrder-other b i j q) (λ l e. q (order-alone j l e))))), order-is)
+      rw (
+        each-still (cancelEntryOf n) b 32 (λ j _. idle-entry n j b (λ l e. s .apart j i l some (e ∙ sym number))),
+        each-one (cancelOrderOf n) b i 32 low (λ j q. idle-order n j b (λ l e. q (order-alone j l e)))
+            (λ j q. rw order-is (idle-order n j (endedOrder .state) (rw (cancelOrder-other b i j q) (λ l e. q (order-alone j l e))))),
+        order-is,
+      )
 
   endedOrder-records : endedOrder .records ≡ record { kind = LegOrderCancelled; number = n; place = 0; side = orderAt b i .side; quantity = orderAt b i .contracts; level = 10_000_000 } ∷ []
   unfolding cancelOrder

@@ -110,9 +110,9 @@ module _ (legs : List Leg) (count : ℕ) (def : Definition legs count) where
   unfolding divisor
   left-alone t h =
       let all : (i : ℕ) → i < count → Divides (t * d) (ratioOf legs i) = λ i l.
-          let q = leg-placed i l in
-          let u = h (q .at) (q .row) in
-          record { times = u .times; is = sym (mul-assoc (u .times) t d) ∙ ap (λ (x : ℕ). x * d) (u .is) ∙ mul-comm (legAt given (q .at) .ratio) d ∙ q .ratio } in
+      let q = leg-placed i l in
+      let u = h (q .at) (q .row) in
+      record { times = u .times; is = sym (mul-assoc (u .times) t d) ∙ ap (λ (x : ℕ). x * d) (u .is) ∙ mul-comm (legAt given (q .at) .ratio) d ∙ q .ratio } in
       let most : Divides (t * d) d = divisor-most legs (t * d) count all in
       let le : t * d ≤ 1 * d = omega (arith, divides-le most d-some) in
       let few : t ≤ 1 = le-of-mul-le-mul-right {m = t} {n = 1} {k = d} le d-some in

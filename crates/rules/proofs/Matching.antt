@@ -130,10 +130,10 @@ module _ (k n : ℕ) (b : State) (v : Sound b) where
       by false e = absurd (omega (arith, ap (λ (m : Moved). entryAt (m .state) j .units) (match-not e)))
       by true e =
           let z : entryAt b i .units ≡ 0 = same-or (entryAt b i .units ≡ 0) j x
-              (λ q. best-none b v k 0 x i (best-buyer e) (rw q at t) (rw q at w))
-              (λ p. same-or (entryAt b i .units ≡ 0) j y
-              (λ q. best-none b v k 1 y i (best-seller e) (rw q at t) (rw q at w))
-              (λ q. absurd (omega (arith, ap (λ (a : Entry). a .units) (match-others e j p q))))) in
+          (λ q. best-none b v k 0 x i (best-buyer e) (rw q at t) (rw q at w))
+          (λ p. same-or (entryAt b i .units ≡ 0) j y
+          (λ q. best-none b v k 1 y i (best-seller e) (rw q at t) (rw q at w))
+          (λ q. absurd (omega (arith, ap (λ (a : Entry). a .units) (match-others e j p q))))) in
           omega (arith, less .entry i .units)
 
   -- the lower number is active, at its limit
@@ -163,7 +163,7 @@ module _ (k n : ℕ) (b : State) (v : Sound b) where
       }
       by false f =
           let differ : ¬ (entryAt b y .number ≡ entryAt b x .number) = λ q. (let z : y ≡ x = same-slot v y x (c .sell .live) (c .buy .live) q in
-              omega (arith, c .buy .onSide, c .sell .onSide, ap (λ (i : ℕ). entryAt b i .side) z)) in
+          omega (arith, c .buy .onSide, c .sell .onSide, ap (λ (i : ℕ). entryAt b i .side) z)) in
           record {
             number = omega (arith, ltb-false (entryAt b x .number) (entryAt b y .number) f);
             strategy = c .buy .strategy ∙ sym (c .sell .strategy);
@@ -182,8 +182,11 @@ whole-records b i h level q l =
 matched-same : (b c : State) → Quiet b c → (i h level q : ℕ) → matched c i h level q ≡ matched b i h level q
 matched-same b c p i h level q =
     let t : strategyAt c (entryAt c i .strategy) ≡ strategyAt b (entryAt b i .strategy) = ap (λ (x : ℕ). strategyAt c x) (p .shrinks .entry i .strategy) ∙ row (entryAt b i .strategy) in
-    rw (t, same-records (entryAt b i) (entryAt c i) (strategyAt b (entryAt b i .strategy)) q level (replicate 6 0) (p .shrinks .entry i),
-    same-records (entryAt b h) (entryAt c h) (strategyAt b (entryAt b i .strategy)) q level (replicate 6 0) (p .shrinks .entry h))
+    rw (
+      t,
+      same-records (entryAt b i) (entryAt c i) (strategyAt b (entryAt b i .strategy)) q level (replicate 6 0) (p .shrinks .entry i),
+      same-records (entryAt b h) (entryAt c h) (strategyAt b (entryAt b i .strategy)) q level (replicate 6 0) (p .shrinks .entry h),
+    )
   where
     row : (k : ℕ) → strategyAt c k ≡ strategyAt b k
     row k = rw (p .strategies)

@@ -82,9 +82,11 @@ Lapses e = (e .life ≡ 1) ⊎ ((e .life ≡ 2) ⊎ (e .life ≡ 4))
 lapse-life : (k : ℕ) (e : Entry) → lapses k e ≡ true → Lapses e × (e .strategy ≡ k)
 unfolding lapses
 lapse-life k e h =
-    let p = pick-yes (liveIn k e) h in
-    (pick-by (λ (t : Bool). t ≡ true → Lapses e) (eqb (e .life) 1) (λ q _. inl (eqb-true _ _ q))
-    (λ _. pick-by (λ (t : Bool). t ≡ true → Lapses e) (eqb (e .life) 2) (λ q _. inr (inl (eqb-true _ _ q))) (λ _ q. inr (inr (eqb-true _ _ q)))) (p .1), live-in k e (p .0) .1)
+    let p = pick-yes (liveIn k e) h in (
+      pick-by (λ (t : Bool). t ≡ true → Lapses e) (eqb (e .life) 1) (λ q _. inl (eqb-true _ _ q))
+          (λ _. pick-by (λ (t : Bool). t ≡ true → Lapses e) (eqb (e .life) 2) (λ q _. inr (inl (eqb-true _ _ q))) (λ _ q. inr (inr (eqb-true _ _ q)))) (p .1),
+      live-in k e (p .0) .1,
+    )
 
 record Fell (k : ℕ) (b c : State) (i : ℕ) : Type 0 where
   zero : entryAt c i .units ≡ 0
@@ -205,9 +207,9 @@ shut-sentence s b v h =
     let p : Shut s (withOpened b o) 16 (shut s b .state) = shut-each s (withOpened b o) (v .sound .orderRows) (v .sound .strategyRows) 16 (omega arith) in
     let w : Valid (shut s b .state) = shut-valid s b h v in
     let ends : (k : ℕ) → has (strategyAt b k .series) s ≡ true → strategyAt (shut s b .state) k .starter ≡ 0 = λ k t. ⊎-elim
-        (λ (l : k < 16). p .ended k l t)
-        (λ (l : 16 ≤ k). rw (p .ahead k l) (v .sound .undefined k (omega (arith, v .sound .defined)) .2))
-        (lt-or-le k 16) in
+    (λ (l : k < 16). p .ended k l t)
+    (λ (l : 16 ≤ k). rw (p .ahead k l) (v .sound .undefined k (omega (arith, v .sound .defined)) .2))
+    (lt-or-le k 16) in
     record {
       ends = ends;
       goesOn = λ k t. p .left k t;

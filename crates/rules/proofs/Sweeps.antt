@@ -285,5 +285,6 @@ sweep-sentence b e a o =
   where
     sweep-life : (b : State) (e : GivenSweep) → sweepGiven b e .life ≡ 4
     sweep-life b e = refl
+
     sweep-some : (b : State) (e : GivenSweep) → 0 < e .units → live (sweepGiven b e) ≡ true
     sweep-some b e l = pos-live (sweepGiven b e) l
