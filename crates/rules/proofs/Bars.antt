@@ -26,8 +26,8 @@ use Rattle.rules.specs.Moves.{Moved, still, and-then, each}
 use Rattle.rules.specs.Records.{kindNumber}
 use Rattle.rules.specs.Sides.{meets}
 use Rattle.rules.specs.Nets.{prices, netOf, unitsOf}
-use Rattle.rules.specs.Fills.{legRecordAt, partyRecords, orderRow, orderRows, orderRecords, quotasAt, wholeFill, takeLegs, legFill, cancelEntry}
-use Rattle.rules.specs.Passes.{giveAt, give, giveInTurn, giveGroup, giveShared, meetLimit, turnOf, take, turn, pass}
+use Rattle.rules.specs.Fills.{legRecordAt, partyRecords, orderRow, orderRows, orderRecordsAt, takesAt, legQuotas, wholeFill, takeLegs, legFill, cancelEntry}
+use Rattle.rules.specs.Passes.{giveAt, give, giveInTurn, giveGroup, giveShared, meetLimit, turnOf, takeTurn, turn, pass}
 use Rattle.rules.specs.Auctions.{running, starterSlot, lapses, cancelLapsed, close, endUnfilled, starterPass, later, laterPass}
 use Rattle.rules.specs.Valid.{Sound, Starter, HasStarter, Valid}
 use Rattle.rules.specs.Sentences.{Unpriced, UnpricedOf, WithoutLegs, LegsMeetNone, AheadShared, AheadNumbered, NonePassed, StarterSentence, LaterSentence}
@@ -95,12 +95,12 @@ module _ (n : ℕ) where
       let ps : List ℕ = prices (b .orders) (e .side) (s .legs) in
       let q : ℕ = unitsOf (b .orders) (e .side) s ps (e .units) in
       all-append (other-party e s q (netOf s ps) ps d)
-      (all-join (orderRecords (b .orders) (e .side) q (s .legs) ps) (s .count)
-      (λ i _. all-join (orderRows (b .orders) (quotasAt (b .orders) (e .side) q (s .legs) ps i) (slot ps i)) 32
-      (λ j _. order-row (getD (b .orders) j noOrder) (slot (quotasAt (b .orders) (e .side) q (s .legs) ps i) j) (slot ps i))))
+      (all-join (orderRecordsAt (b .orders) (takesAt (e .side) q (s .legs) ps)) (s .count)
+      (λ i _. all-join (orderRows (b .orders) (legQuotas (b .orders) (takesAt (e .side) q (s .legs) ps i)) (slot ps i)) 32
+      (λ j _. order-row (getD (b .orders) j noOrder) (slot (legQuotas (b .orders) (takesAt (e .side) q (s .legs) ps i)) j) (slot ps i))))
 
-  other-take : (way : Allocation) (a : ℕ) (t : Turn) (b : State) → (entryAt b a .number ≡ n → ⊥) → All (UnpricedOf n) (take way a t b .records)
-  unfolding take
+  other-take : (way : Allocation) (a : ℕ) (t : Turn) (b : State) → (entryAt b a .number ≡ n → ⊥) → All (UnpricedOf n) (takeTurn way a t b .records)
+  unfolding takeTurn
   other-take way a Stop b d = all-nil
   other-take way a ByLegs b d = other-legs b a d
   other-take way a (AtLimit level) b d = unpriced-of (limit-without way a level b .prices)
@@ -157,9 +157,9 @@ module _ (K : Kind → Type 0) (whole : K WholeFill) (leg : K LegFill) (order : 
       let ps : List ℕ = prices (b .orders) (e .side) (s .legs) in
       let q : ℕ = unitsOf (b .orders) (e .side) s ps (e .units) in
       all-append (party-kinds e s q (netOf s ps) ps)
-      (all-join (orderRecords (b .orders) (e .side) q (s .legs) ps) (s .count)
-      (λ i _. all-join (orderRows (b .orders) (quotasAt (b .orders) (e .side) q (s .legs) ps i) (slot ps i)) 32
-      (λ j _. row-kinds (getD (b .orders) j noOrder) (slot (quotasAt (b .orders) (e .side) q (s .legs) ps i) j) (slot ps i))))
+      (all-join (orderRecordsAt (b .orders) (takesAt (e .side) q (s .legs) ps)) (s .count)
+      (λ i _. all-join (orderRows (b .orders) (legQuotas (b .orders) (takesAt (e .side) q (s .legs) ps i)) (slot ps i)) 32
+      (λ j _. row-kinds (getD (b .orders) j noOrder) (slot (legQuotas (b .orders) (takesAt (e .side) q (s .legs) ps i)) j) (slot ps i))))
 
   give-kinds : (a level : ℕ) (qs : List ℕ) (b : State) → All P (give a level qs b .records)
   unfolding give wholeFill
@@ -172,8 +172,8 @@ module _ (K : Kind → Type 0) (whole : K WholeFill) (leg : K LegFill) (order : 
   limit-kinds Shared a level b = all-append (give-kinds a level _ b) (all-append (give-kinds a level _ _) (give-kinds a level _ _))
   limit-kinds Numbered a level b = give-kinds a level _ b
 
-  take-kinds : (way : Allocation) (a : ℕ) (t : Turn) (b : State) → All P (take way a t b .records)
-  unfolding take
+  take-kinds : (way : Allocation) (a : ℕ) (t : Turn) (b : State) → All P (takeTurn way a t b .records)
+  unfolding takeTurn
   take-kinds way a Stop b = all-nil
   take-kinds way a ByLegs b = legs-kinds a b
   take-kinds way a (AtLimit level) b = limit-kinds way a level b

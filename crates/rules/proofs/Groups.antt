@@ -23,7 +23,7 @@ use Rattle.rules.specs.Moves.{Moved, still, and-then, each}
 use Rattle.rules.specs.Sides.{other, meets, better, bestPrice}
 use Rattle.rules.specs.Quotas.{inTurnAt, inTurn, share}
 use Rattle.rules.specs.Fills.{cutEntry, takeLegs, legFill}
-use Rattle.rules.specs.Passes.{opposes, limitWith, limitStep, bestOpposite, groupOf, within, holding, sizes, giveInTurn, giveGroup, giveShared, meetLimit, opposite, turnAt, turnOf, take, turn, pass}
+use Rattle.rules.specs.Passes.{opposes, limitWith, limitStep, bestOpposite, groupOf, within, holding, sizes, giveInTurn, giveGroup, giveShared, meetLimit, opposite, turnAt, turnOf, takeTurn, turn, pass}
 use Rattle.rules.specs.Valid.{Sound}
 use Rattle.rules.specs.Sentences.{Customer, SweepOrMaker, Dealer, Beside, BetterLimit, AheadShared, better-limit, customer-before-maker, customer-before-dealer, maker-before-dealer, customers-by-number, AheadNumbered, NonePassed}
 use Rattle.rules.proofs.Turns.{sum-less}
@@ -498,8 +498,8 @@ module _ (A : Entry → Entry → Type 0) (static : Static A) (a : ℕ) where
       (lt-or-le (entryAt c j .units) (entryAt b j .units))
 
   module _ (way : Allocation) (at-best : (b : State) → Ready b → meets (entryAt b a .side) (entryAt b a .level) (opposite way a b) ≡ true → NonePassed A a b (meetLimit way a (opposite way a b) b .state)) where
-    take-none : (t : Turn) (b : State) → Ready b → AtBest way b a t → NonePassed A a b (take way a t b .state)
-    unfolding take
+    take-none : (t : Turn) (b : State) → Ready b → AtBest way b a t → NonePassed A a b (takeTurn way a t b .state)
+    unfolding takeTurn
     take-none Stop b r f = none-refl b
     take-none ByLegs b r f = none-alone b (legFill a b .state) (legs-others a b)
     take-none (AtLimit x) b r f = rw (f .0) (at-best b r (rw (f .0) at (f .1)))

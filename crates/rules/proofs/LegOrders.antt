@@ -28,7 +28,7 @@ use Rattle.rules.specs.Moves.{Moved, still, and-then, each}
 use Rattle.rules.specs.Sides.{other, meets, better}
 use Rattle.rules.specs.Strategies.{shutSet, allOpen, holds}
 use Rattle.rules.specs.Fills.{cutLeg, legTrade, legFill}
-use Rattle.rules.specs.Passes.{readyNet, meetLimit, turnOf, take, turn, pass}
+use Rattle.rules.specs.Passes.{readyNet, meetLimit, turnOf, takeTurn, turn, pass}
 use Rattle.rules.specs.Auctions.{liveIn, running, dayOrder, legPass, legPassesIn, legPasses}
 use Rattle.rules.specs.Events.{liveOrder, enterOrder, freeOrderSlot, bestOrder, tradeOnce, tradeAll, ifRests, onLegOrder}
 use Rattle.rules.specs.Given.{legOrderGiven}
@@ -91,8 +91,8 @@ each-split f b h (suc n) i l =
     upto (suc k) = quiet-trans (upto k) (h k _ (upto k))
 
 -- A PASS BY LEGS ONLY touches the active entry alone
-take-alone : (a : ℕ) (t : Turn) (b : State) (j : ℕ) → (j ≡ a → ⊥) → entryAt (take LegsOnly a t b .state) j ≡ entryAt b j
-unfolding take meetLimit
+take-alone : (a : ℕ) (t : Turn) (b : State) (j : ℕ) → (j ≡ a → ⊥) → entryAt (takeTurn LegsOnly a t b .state) j ≡ entryAt b j
+unfolding takeTurn meetLimit
 take-alone a Stop b j n = refl
 take-alone a ByLegs b j n = legs-others a b j n
 take-alone a (AtLimit level) b j n = refl

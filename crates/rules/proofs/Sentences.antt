@@ -16,7 +16,7 @@ use Rattle.rules.specs.declared.State.{State}
 use Rattle.rules.specs.State.{fresh}
 use Rattle.rules.specs.Moves.{Moved}
 use Rattle.rules.specs.Refusals.{causes, readCauses, tableOf, refusal}
-use Rattle.rules.specs.Step.{Outcome, accept, refused, perform, decide, step}
+use Rattle.rules.specs.Step.{Outcome, accept, refused, perform, refuseOrPerform, step}
 use Rattle.rules.specs.Fits.{FitReading}
 use Rattle.rules.specs.Sentences.{Accepted, Sentence, Reached, OneSweep}
 use Rattle.rules.proofs.Ranges.{reading-fit}
@@ -57,22 +57,22 @@ unfolding perform refused
 sweeps-perform b (R.Refused n) space h f z = h .sweeps
 sweeps-perform b (R.Event e) space h f z = one-sweep-kept b e (no-refusal b (R.Event e) space e refl h f z) (h .sweeps)
 
-sweeps-decide : (b : State) (r : Reading) (space : ℕ) → Reached b → FitReading r → OneSweep (decide b r space .moved .state)
-unfolding decide refused
-sweeps-decide b r space h f =
+sweeps-refuseOrPerform : (b : State) (r : Reading) (space : ℕ) → Reached b → FitReading r → OneSweep (refuseOrPerform b r space .moved .state)
+unfolding refuseOrPerform refused
+sweeps-refuseOrPerform b r space h f =
     pick-by (λ (o : Outcome). OneSweep (o .moved .state)) (eqb (refusal b r space) 0) (λ z. sweeps-perform b r space h f (eqb-true _ _ z)) (λ _. h .sweeps)
 
 pub reached-step : (b : State) → Reached b → (frame : List ℕ) (space : ℕ) → Reached (step b frame space .moved .state)
 unfolding step
-reached-step b h frame space = record { valid = valid-step b (h .valid) frame space; sweeps = sweeps-decide b (readOf frame) space h (reading-fit frame) }
+reached-step b h frame space = record { valid = valid-step b (h .valid) frame space; sweeps = sweeps-refuseOrPerform b (readOf frame) space h (reading-fit frame) }
 
 -- EACH FRAME that reads as an event and is answered 0: what moves is that event's, and the event's sentence holds
 pub record Held (b : State) (e : Event) (x : Moved) : Type 0 where
   pub moves : x ≡ accept b e
   pub sentence : Sentence b e
 
-decide-sentence : (b : State) (r : Reading) (space : ℕ) (e : Event) → r ≡ R.Event e → Reached b → FitReading r → decide b r space .answer ≡ 0 → Held b e (decide b r space .moved)
-unfolding decide perform refused
+decide-sentence : (b : State) (r : Reading) (space : ℕ) (e : Event) → r ≡ R.Event e → Reached b → FitReading r → refuseOrPerform b r space .answer ≡ 0 → Held b e (refuseOrPerform b r space .moved)
+unfolding refuseOrPerform perform refused
 decide-sentence b r space e q h f =
     pick-by (λ (o : Outcome). o .answer ≡ 0 → Held b e (o .moved)) (eqb (refusal b r space) 0)
     (λ z _. record {

@@ -24,7 +24,7 @@ use Rattle.rules.specs.Moves.{Moved, still, and-then, each}
 use Rattle.rules.specs.Records.{kindNumber}
 use Rattle.rules.specs.Sides.{meets}
 use Rattle.rules.specs.Fills.{legRecordAt, partyRecords, noPrices, wholeFill}
-use Rattle.rules.specs.Passes.{giveAt, give, giveInTurn, giveGroup, giveShared, meetLimit, readyNet, opposite, legsFirst, turnAt, turnOf, take, turn, pass}
+use Rattle.rules.specs.Passes.{giveAt, give, giveInTurn, giveGroup, giveShared, meetLimit, readyNet, opposite, legsFirst, turnAt, turnOf, takeTurn, turn, pass}
 use Rattle.rules.specs.Auctions.{matchOnce, matchAll}
 use Rattle.rules.specs.Sentences.{IsKind, Unpriced, WithoutLegs}
 use Rattle.rules.proofs.Control.{first-net}
@@ -79,12 +79,12 @@ unfolding readyNet
 barred-net a b = pick-false _ _ _ refl
 
 turn-without : (way : Allocation) (a i : ℕ) (b : State) → WithoutLegs b (turn way false a i b)
-unfolding turnOf turnAt take
+unfolding turnOf turnAt takeTurn
 turn-without way a i b =
     let e : Entry = entryAt b a in
     let x : ℕ = opposite way a b in
     let net : ℕ = readyNet false a b in
-    let P : Turn → Type 0 = λ (t : Turn). WithoutLegs b (take way a t b) in
+    let P : Turn → Type 0 = λ (t : Turn). WithoutLegs b (takeTurn way a t b) in
     pick-all P _ (still-without b)
     (pick-by P (legsFirst (e .side) net x)
     (λ f. absurd (omega (arith, first-net (e .side) net x f, barred-net a b)))

@@ -31,7 +31,7 @@ use Rattle.rules.specs.Nets.{offerNet, bidNet}
 use Rattle.rules.specs.Fills.{partyRecords}
 use Rattle.rules.specs.Passes.{readyNet}
 use Rattle.rules.specs.Auctions.{matchIn}
-use Rattle.rules.specs.Refusals.{first, causes}
+use Rattle.rules.specs.Refusals.{firstCause, causes}
 use Rattle.rules.specs.Events.{enter, enterOrder, freeSlot, freeOrderSlot, tradeAll}
 use Rattle.rules.specs.Given.{legsGiven, orderGiven, legOrderGiven}
 use Rattle.rules.specs.Step.{valueOf, accept}
@@ -43,7 +43,7 @@ use Rattle.rules.specs.Shrinks.{Shrinks}
 pub record Accepted (b : State) (e : Event) : Type 0 where
   pub valid : Valid b
   pub fit : FitEvent e
-  pub clear : first (causes b e) ≡ 0
+  pub clear : firstCause (causes b e) ≡ 0
 
 -- one of the first n numbers has it
 pub record Any (P : ℕ → Type 0) (n : ℕ) : Type 0 where
