@@ -4,7 +4,7 @@ use mathlib.Core.Path.{_≡_, refl, sym, _∙_, ap}
 use mathlib.Core.Bool.{Bool, true, false}
 use mathlib.Core.Logic.{_⊎_, inl, inr, ⊎-elim, _≢_}
 use mathlib.Core.List.{List}
-use Prim.Native.Nat.{ℕ, zero, suc, _+_, _-_, _≤_, _<_, min}
+use Prim.Native.Nat.{ℕ, zero, suc, _+_, _-_, _*_, _≤_, _<_, min}
 use native.Mathlib.Omega.{arith}
 use borrow.Author.Tests.{eqb-true, eq-eqb, ne-eqb}
 use lib.Dec.{eqb, ltb}
@@ -25,9 +25,10 @@ use Rattle.rules.specs.Quotas.{inTurnAt, inTurn, share}
 use Rattle.rules.specs.Fills.{cutEntry, takeLegs, legFill}
 use Rattle.rules.specs.Passes.{opposes, limitWith, limitStep, bestOpposite, groupOf, within, holding, sizes, giveInTurn, giveGroup, giveShared, meetLimit, opposite, turnAt, turnOf, takeTurn, turn, pass}
 use Rattle.rules.specs.Valid.{Sound}
-use Rattle.rules.specs.Sentences.{Customer, SweepOrMaker, Dealer, Beside, BetterLimit, AheadShared, better-limit, customer-before-maker, customer-before-dealer, maker-before-dealer, customers-by-number, AheadNumbered, NonePassed}
+use Rattle.rules.specs.Sentences.{Customer, SweepOrMaker, Dealer, Beside, BetterLimit, AheadShared, better-limit, customer-before-maker, customer-before-dealer, maker-before-dealer, customers-by-number, AheadNumbered, NonePassed, OneGroup, got, SharedFairly}
 use Rattle.rules.proofs.Turns.{sum-less}
 use Rattle.rules.proofs.Shrinks.{SameEntry, Shrinks, shrinks-refl, shrinks-trans}
+use Rattle.rules.proofs.Sharing.{share-fair, share-earlier}
 use Rattle.rules.proofs.Quotas.{Divides, inTurn-divides, share-divides}
 use Rattle.rules.proofs.Gives.{cut-other, opposed, opposed-apart, holder, sizes-at, Quoted, inTurn-quoted, share-quoted, Given, given}
 use Rattle.rules.proofs.Firsts.{live-slot, by-number, better-turn, better-past, better-alike}
@@ -528,3 +529,172 @@ shared-pass legs a b v = turns-none AheadShared shared-static a Shared (λ c. sh
 pub numbered-pass : (legs : Bool) (a : ℕ) (b : State) → Sound b → NonePassed AheadNumbered a b (pass Numbered legs a b .state)
 unfolding pass meetLimit opposite
 numbered-pass legs a b v = turns-none AheadNumbered numbered-static a Numbered (λ c. numbered-none a c) legs b (v .orderRows) (sound-ready v) (entryAt b a .units)
+
+-- SHARING within the second and the third group
+together-turn : {e f : Entry} → Together e f → Together f e
+together-turn t = record { strategy = sym (t .strategy); side = sym (t .side); limit = sym (t .limit) }
+
+module _ (a level g : ℕ) (b : State) (rows : length (b .entries) ≡ 32) (m : meets (entryAt b a .side) (entryAt b a .level) level ≡ true) where
+  abbrev after : State
+  after = giveGroup a level g b .state
+
+  abbrev sized : List ℕ
+  sized = sizes (b .entries) (entryAt b a) level g
+
+  abbrev given-out : List ℕ
+  given-out = share (entryAt b a .units) sized
+
+  size-slot : (i : ℕ) → i < 32 → slot sized i ≡ holding (entryAt b a) level g (entryAt b i)
+  size-slot i l = sizes-at (b .entries) (entryAt b a) level g i l
+
+  size-most : (i : ℕ) → i < 32 → slot sized i ≤ entryAt b i .units
+  size-most i l = ⊎-elim
+      (λ (p : 0 < slot sized i). let h = holder (entryAt b a) level g (entryAt b i) (omega (arith, size-slot i l)) in omega (arith, size-slot i l, h .units))
+      (λ (p : slot sized i ≤ 0). omega arith)
+      (lt-or-le 0 (slot sized i))
+
+  -- what a holder got is its quota
+  group-got : (i : ℕ) → i < 32 → (i ≡ a → ⊥) → got b after i ≡ slot given-out i
+  group-got i l n =
+      let v = group-given a level g b m in
+      let e : entryAt after i .units ≡ entryAt b i .units - slot given-out i = ap (λ (x : Entry). x .units) (v .done i l n) in
+      omega (arith, share-divides .under (entryAt b a .units) sized i, size-most i l)
+
+  -- who stands beside a holder of the group holds all its units too
+  beside-size : (i j : ℕ) → i < 32 → j < 32 → Together (entryAt b i) (entryAt b j) → within g (entryAt b j) ≡ true → 0 < entryAt b j .units → 0 < slot sized i → slot sized j ≡ entryAt b j .units
+  beside-size i j hi hj t w l p =
+      let h = holder (entryAt b a) level g (entryAt b i) (omega (arith, size-slot i hi)) in
+      size-slot j hj ∙ holds-all (entryAt b a) (entryAt b j) level g (also-opposes a j i (shrinks-refl b) (h .opposed) (together-turn t) l) (t .limit ∙ h .limit) w
+
+  module _ (i j : ℕ) (ni : i ≡ a → ⊥) (nj : j ≡ a → ⊥) (t : Together (entryAt b i) (entryAt b j)) (wi : within g (entryAt b i) ≡ true) (wj : within g (entryAt b j) ≡ true)
+      (li : 0 < entryAt b i .units) (lj : 0 < entryAt b j .units) where
+    si : i < 32
+    si = live-slot b rows i li
+
+    sj : j < 32
+    sj = live-slot b rows j lj
+
+    -- both hold all their units, or neither anything
+    both-hold : ((slot sized i ≡ entryAt b i .units) × (slot sized j ≡ entryAt b j .units)) ⊎ ((slot sized i ≡ 0) × (slot sized j ≡ 0))
+    both-hold = ⊎-elim
+        (λ (p : 0 < slot sized i). let e = beside-size i j si sj t wj lj p in inl (beside-size j i sj si (together-turn t) wi li (omega arith), e))
+        (λ (p : slot sized i ≤ 0). ⊎-elim
+        (λ (q : 0 < slot sized j). absurd (omega (arith, beside-size j i sj si (together-turn t) wi li q)))
+        (λ (q : slot sized j ≤ 0). inr (omega arith, omega arith))
+        (lt-or-le 0 (slot sized j)))
+        (lt-or-le 0 (slot sized i))
+
+    none-got : (k : ℕ) → k < 32 → (k ≡ a → ⊥) → slot sized k ≡ 0 → got b after k ≡ 0
+    none-got k l n z = omega (arith, group-got k l n, share-divides .under (entryAt b a .units) sized k)
+
+    group-fair : got b after i * entryAt b j .units < got b after j * entryAt b i .units + entryAt b i .units + entryAt b j .units
+    group-fair = ⊎-elim
+        (λ e. rw (group-got i si ni, group-got j sj nj, sym (e .0), sym (e .1)) (share-fair (entryAt b a .units) sized i j si sj (omega (arith, e .0)) (omega (arith, e .1))))
+        (λ e. rw (none-got i si ni (e .0), none-got j sj nj (e .1)) (omega arith))
+        both-hold
+
+    group-earlier : i < j → entryAt b i .units ≡ entryAt b j .units → got b after j ≤ got b after i
+    group-earlier l q = ⊎-elim
+        (λ e. rw (group-got i si ni, group-got j sj nj) (share-earlier (entryAt b a .units) sized i j l sj (e .0 ∙ q ∙ sym (e .1))))
+        (λ e. omega (arith, none-got j sj nj (e .1)))
+        both-hold
+
+-- a group's fills leave the others
+step-leaves : {x y : State} (a level g j : ℕ) → g < 3 → Step x a level g y → (j ≡ a → ⊥) → (groupOf (entryAt x j) ≡ g → ⊥) → entryAt y j .units ≡ entryAt x j .units
+step-leaves {x} {y} a level g j low s n d = ⊎-elim
+    (λ (l : entryAt y j .units < entryAt x j .units). absurd (d (in-group (entryAt x j) g low (s .met j n l .group))))
+    (λ (l : entryAt x j .units ≤ entryAt y j .units). omega (arith, s .shrinks .entry j .units))
+    (lt-or-le (entryAt y j .units) (entryAt x j .units))
+
+module _ (a level : ℕ) (b : State) (rows : length (b .entries) ≡ 32) (m : meets (entryAt b a .side) (entryAt b a .level) level ≡ true) where
+  abbrev c1 : State
+  c1 = one a level b rows m
+
+  abbrev c2 : State
+  c2 = two a level b rows m
+
+  abbrev c3 : State
+  c3 = three a level b rows m
+
+  s1 : Step b a level 0 c1
+  s1 = step-one a level b rows m
+
+  s2 : Step c1 a level 1 c2
+  s2 = step-two a level b rows m
+
+  s3 : Step c2 a level 2 c3
+  s3 = step-three a level b rows m
+
+  s12 : Shrinks b c2
+  s12 = from-two a level b rows m
+
+  module _ (j : ℕ) (n : j ≡ a → ⊥) where
+    group-one : groupOf (entryAt b j) ≡ 1 → (entryAt c1 j .units ≡ entryAt b j .units) × (entryAt c3 j .units ≡ entryAt c2 j .units)
+    group-one g = (
+      step-leaves a level 0 j (omega arith) s1 n (λ z. omega arith),
+      step-leaves a level 2 j (omega arith) s3 n (λ z. omega (arith, group-same (s12 .entry j))),
+    )
+
+    group-two : groupOf (entryAt b j) ≡ 2 → entryAt c2 j .units ≡ entryAt b j .units
+    group-two g =
+        let x = step-leaves a level 0 j (omega arith) s1 n (λ z. omega arith) in
+        let y = step-leaves a level 1 j (omega arith) s2 n (λ z. omega (arith, group-same (s1 .shrinks .entry j))) in
+        omega arith
+
+  module _ (i j : ℕ) (ni : i ≡ a → ⊥) (nj : j ≡ a → ⊥) (t : Together (entryAt b i) (entryAt b j)) (li : 0 < entryAt b i .units) (lj : 0 < entryAt b j .units) where
+    in-one : (k : ℕ) → groupOf (entryAt b k) ≡ 1 → within 1 (entryAt c1 k) ≡ true
+    in-one k g = group-in (entryAt c1 k) 1 (omega arith) (group-same (s1 .shrinks .entry k) ∙ g)
+
+    in-two : (k : ℕ) → groupOf (entryAt b k) ≡ 2 → within 2 (entryAt c2 k) ≡ true
+    in-two k g = group-in (entryAt c2 k) 2 (omega arith) (group-same (s12 .entry k) ∙ g)
+
+    m1 : meets (entryAt c1 a .side) (entryAt c1 a .level) level ≡ true
+    m1 = still-meets a level (s1 .shrinks) m
+
+    m2 : meets (entryAt c2 a .side) (entryAt c2 a .level) level ≡ true
+    m2 = still-meets a level s12 m
+
+    fair-one : groupOf (entryAt b i) ≡ 1 → groupOf (entryAt b j) ≡ 1 → got b c3 i * entryAt b j .units < got b c3 j * entryAt b i .units + entryAt b i .units + entryAt b j .units
+    fair-one gi gj =
+        let ui = group-one i ni gi in
+        let uj = group-one j nj gj in
+        rw (sym (ui .0), sym (uj .0), ui .1, uj .1)
+        (group-fair a level 1 c1 (s1 .shrinks .entryRows ∙ rows) m1 i j ni nj (beside-same (s1 .shrinks) i j t) (in-one i gi) (in-one j gj) (omega (arith, ui .0)) (omega (arith, uj .0)))
+
+    fair-two : groupOf (entryAt b i) ≡ 2 → groupOf (entryAt b j) ≡ 2 → got b c3 i * entryAt b j .units < got b c3 j * entryAt b i .units + entryAt b i .units + entryAt b j .units
+    fair-two gi gj =
+        let ui = group-two i ni gi in
+        let uj = group-two j nj gj in
+        rw (sym ui, sym uj)
+        (group-fair a level 2 c2 (s12 .entryRows ∙ rows) m2 i j ni nj (beside-same s12 i j t) (in-two i gi) (in-two j gj) (omega arith) (omega arith))
+
+    earlier-one : groupOf (entryAt b i) ≡ 1 → groupOf (entryAt b j) ≡ 1 → i < j → entryAt b i .units ≡ entryAt b j .units → got b c3 j ≤ got b c3 i
+    earlier-one gi gj l q =
+        let ui = group-one i ni gi in
+        let uj = group-one j nj gj in
+        let h = group-earlier a level 1 c1 (s1 .shrinks .entryRows ∙ rows) m1 i j ni nj (beside-same (s1 .shrinks) i j t) (in-one i gi) (in-one j gj) (omega (arith, ui .0)) (omega (arith, uj .0)) l (omega (arith, ui .0, uj .0)) in
+        omega (arith, ui .0, uj .0, ui .1, uj .1)
+
+    earlier-two : groupOf (entryAt b i) ≡ 2 → groupOf (entryAt b j) ≡ 2 → i < j → entryAt b i .units ≡ entryAt b j .units → got b c3 j ≤ got b c3 i
+    earlier-two gi gj l q =
+        let ui = group-two i ni gi in
+        let uj = group-two j nj gj in
+        let h = group-earlier a level 2 c2 (s12 .entryRows ∙ rows) m2 i j ni nj (beside-same s12 i j t) (in-two i gi) (in-two j gj) (omega arith) (omega arith) l (omega arith) in
+        omega (arith, ui, uj)
+
+-- at one limit the second and the third group are shared
+pub shared-fairly : (a level : ℕ) (b : State) → Sound b → meets (entryAt b a .side) (entryAt b a .level) level ≡ true → SharedFairly a b (giveShared a level b .state)
+unfolding giveShared and-then
+shared-fairly a level b v m = record {
+  bySize = λ i j ni nj t l g li lj. ⊎-elim
+      (λ h. fair-one a level b (v .entryRows) m i j ni nj (together t l) li lj (maker-group (entryAt b i) (h .0)) (maker-group (entryAt b j) (h .1)))
+      (λ h. fair-two a level b (v .entryRows) m i j ni nj (together t l) li lj (dealer-group (entryAt b i) (h .0)) (dealer-group (entryAt b j) (h .1)))
+      g;
+  byNumber = λ i j ni nj t l g li q n.
+      let lj : 0 < entryAt b j .units = omega arith in
+      let o : i < j = by-number v i j li lj n in
+      ⊎-elim
+      (λ h. earlier-one a level b (v .entryRows) m i j ni nj (together t l) li lj (maker-group (entryAt b i) (h .0)) (maker-group (entryAt b j) (h .1)) o q)
+      (λ h. earlier-two a level b (v .entryRows) m i j ni nj (together t l) li lj (dealer-group (entryAt b i) (h .0)) (dealer-group (entryAt b j) (h .1)) o q)
+      g;
+}

@@ -39,6 +39,7 @@ pub mod Sample
 pub mod WholeFills
 pub mod Groups
 pub mod PassEnds
+pub mod Sharing
 pub mod Cancels
 pub mod Bars
 pub mod Clocks

@@ -5,7 +5,7 @@ use mathlib.Core.Path.{_≡_}
 use mathlib.Core.Bool.{Bool, true, false, not}
 use mathlib.Core.Logic.{_⊎_}
 use mathlib.Core.List.{List, [], _∷_, _++_, List·Memᴰ}
-use Prim.Native.Nat.{ℕ, _+_, _*_, _^_, _≤_, _<_}
+use Prim.Native.Nat.{ℕ, _+_, _-_, _*_, _^_, _≤_, _<_}
 use lib.Dec.{eqb}
 use lib.ListN.{getD, replicate}
 use Rattle.base.specs.Pick.{pick}
@@ -113,6 +113,23 @@ AheadNumbered e f = BetterLimit e f ⊎ ((f .level ≡ e .level) × (e .number <
 abbrev pub NonePassed : (Entry → Entry → Type 0) → ℕ → State → State → Type 0
 NonePassed Ahead a b c =
     (i j : ℕ) → (j ≡ a → ⊥) → Beside (entryAt b i) (entryAt b j) → Ahead (entryAt b i) (entryAt b j) → entryAt c j .units < entryAt b j .units → entryAt c i .units ≡ 0
+
+-- two of the second group, or two of the third
+abbrev pub OneGroup : Entry → Entry → Type 0
+OneGroup e f = (SweepOrMaker e × SweepOrMaker f) ⊎ (Dealer e × Dealer f)
+
+-- what the entry at slot i got between b and c
+abbrev pub got : State → State → ℕ → ℕ
+got b c i = entryAt b i .units - entryAt c i .units
+
+-- "remaining × size / group total, rounded down, then one unit each by number": two of a group at one limit, neither the active entry, at slot a
+pub record SharedFairly (a : ℕ) (b c : State) : Type 0 where
+  -- what they got is as their sizes, but for less than a unit each
+  pub bySize : (i j : ℕ) → (i ≡ a → ⊥) → (j ≡ a → ⊥) → Beside (entryAt b i) (entryAt b j) → entryAt b j .level ≡ entryAt b i .level → OneGroup (entryAt b i) (entryAt b j) →
+      0 < entryAt b i .units → 0 < entryAt b j .units → got b c i * entryAt b j .units < got b c j * entryAt b i .units + entryAt b i .units + entryAt b j .units
+  -- and of two of one size the one with the smaller number got no less
+  pub byNumber : (i j : ℕ) → (i ≡ a → ⊥) → (j ≡ a → ⊥) → Beside (entryAt b i) (entryAt b j) → entryAt b j .level ≡ entryAt b i .level → OneGroup (entryAt b i) (entryAt b j) →
+      0 < entryAt b i .units → entryAt b i .units ≡ entryAt b j .units → entryAt b i .number < entryAt b j .number → got b c j ≤ got b c i
 
 -- no live entry opposite the one at slot i meets its limit
 abbrev pub MeetsNone : State → ℕ → Type 0
@@ -379,7 +396,7 @@ pub record ShutSentence (b : State) (s : ℕ) (x : Moved) : Type 0 where
   pub isShut : has (x .state .opened) s ≡ false
   pub others : (t : ℕ) → (t ≡ s → ⊥) → has (x .state .opened) t ≡ has (b .opened) t
 
--- "its whole fill, its leg fills by leg, then the other side's likewise", "price 0 where whole met whole"
+-- "the active order's whole fill, its leg fills by leg, then the other side's likewise", "price 0 where whole met whole"
 abbrev pub matched : State → ℕ → ℕ → ℕ → ℕ → List Record
 matched b i h level q =
     partyRecords (entryAt b i) (strategyAt b (entryAt b i .strategy)) q level (replicate 6 0)
