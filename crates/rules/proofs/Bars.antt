@@ -1,13 +1,13 @@
 -- "The starter gets a shared pass, legs barred if any opposite sweep or waiting order was accepted meanwhile."
 use mathlib.Core.Path.{_≡_, refl, sym, _∙_, ap}
-use mathlib.Core.Bool.{Bool, true, false, not}
+use mathlib.Core.Bool.{Bool, true, not}
 use mathlib.Core.Logic.{_⊎_, inl, inr, ⊎-elim}
-use mathlib.Core.List.{List, [], _∷_, _++_}
-use Prim.Native.Nat.{ℕ, zero, suc, _+_, _≤_, _<_}
+use mathlib.Core.List.{List}
+use Prim.Native.Nat.{ℕ, zero, suc, _<_}
 use native.Mathlib.Omega.{arith}
 use lib.Dec.{eqb}
 use lib.ListN.{getD, length}
-use Rattle.base.specs.Pick.{pick, pick-all, pick-by, pick-yes}
+use Rattle.base.specs.Pick.{pick-all, pick-by}
 use Rattle.base.specs.All.{All, all-nil, all-cons, all-append, all-map}
 use Rattle.base.specs.Walks.{slot, all-join}
 use Rattle.rules.specs.declared.Strategy.{Strategy}
@@ -16,23 +16,22 @@ use Rattle.rules.specs.declared.LegOrder.{LegOrder}
 use Rattle.rules.specs.declared.State.{State}
 use Rattle.rules.specs.declared.Record.{Record}
 use Rattle.rules.specs.declared.Kind.{Kind}
-use Rattle.rules.specs.declared.Kind.the-variants.{WholeFill, LegFill, LegOrderFill, Cancelled, AuctionEnded}
+use Rattle.rules.specs.declared.Kind.the-variants.{WholeFill, LegFill, LegOrderFill}
 use Rattle.rules.specs.declared.Allocation.{Allocation}
 use Rattle.rules.specs.declared.Allocation.the-variants.{LegsOnly, Shared, Numbered}
 use Rattle.rules.specs.declared.Turn.{Turn}
 use Rattle.rules.specs.declared.Turn.the-variants.{Stop, ByLegs, AtLimit}
-use Rattle.rules.specs.State.{noOrder, entryAt, orderAt, strategyAt, strategyOf}
-use Rattle.rules.specs.Moves.{Moved, still, and-then, each}
+use Rattle.rules.specs.State.{noOrder, entryAt, strategyAt, strategyOf}
+use Rattle.rules.specs.Moves.{Moved, and-then, each}
 use Rattle.rules.specs.Records.{kindNumber}
-use Rattle.rules.specs.Sides.{meets}
 use Rattle.rules.specs.Nets.{prices, netOf, unitsOf}
 use Rattle.rules.specs.Fills.{legRecordAt, partyRecords, orderRow, orderRows, orderRecordsAt, takesAt, legQuotas, wholeFill, takeLegs, legFill, cancelEntry}
 use Rattle.rules.specs.Passes.{giveAt, give, giveInTurn, giveGroup, giveShared, meetLimit, turnOf, takeTurn, turn, pass}
-use Rattle.rules.specs.Auctions.{running, starterSlot, lapses, cancelLapsed, close, endUnfilled, starterPass, later, laterPass}
-use Rattle.rules.specs.Valid.{Sound, Starter, HasStarter, Valid}
-use Rattle.rules.specs.Sentences.{Unpriced, UnpricedOf, WithoutLegs, LegsMeetNone, AheadShared, AheadNumbered, NonePassed, StarterSentence, LaterSentence}
+use Rattle.rules.specs.Auctions.{starterSlot, cancelLapsed, close, endUnfilled, starterPass, later, laterPass}
+use Rattle.rules.specs.Valid.{Sound, Starter}
+use Rattle.rules.specs.Sentences.{Unpriced, UnpricedOf, WithoutLegs, LegsMeetNone, AheadNumbered, NonePassed, StarterSentence, LaterSentence}
 use Rattle.rules.proofs.Shrinks.{Shrinks, shrinks-refl, shrinks-trans}
-use Rattle.rules.proofs.Control.{turn-kept, shrinks-kept, pass-kept}
+use Rattle.rules.proofs.Control.{turn-kept, shrinks-kept}
 use Rattle.rules.proofs.Ends.{pass-why}
 use Rattle.rules.proofs.Validity.{starter-slot}
 use Rattle.rules.proofs.WholeFills.{limit-without, pass-without}

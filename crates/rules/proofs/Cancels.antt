@@ -1,29 +1,26 @@
 -- "Cancel: one record 3 for what is live."
-use mathlib.Core.Path.{_≡_, refl, sym, _∙_, ap}
+use mathlib.Core.Path.{_≡_, refl, sym, _∙_}
 use mathlib.Core.Bool.{Bool, true, false, not}
 use mathlib.Core.Logic.{_⊎_, inl, inr, ⊎-elim}
-use mathlib.Core.List.{List, [], _∷_, append-nil}
-use Prim.Native.Nat.{ℕ, zero, suc, _+_, _≤_, _<_}
+use mathlib.Core.List.{[], _∷_}
+use Prim.Native.Nat.{ℕ, zero, suc, _≤_, _<_}
 use native.Mathlib.Nat.{eq-or-lt-of-le}
 use native.Mathlib.Omega.{arith}
-use borrow.Author.Tests.{eqb-true, eqb-false, eq-eqb, ne-eqb, not-true, not-false}
+use borrow.Author.Tests.{eqb-true, eqb-false, eq-eqb, not-true, not-false}
 use lib.Dec.{eqb}
-use lib.ListN.{getD}
 use Rattle.base.specs.Pick.{pick, pick-all, pick-by, pick-true, pick-false, pick-yes, pick-no}
-use Rattle.base.specs.Walks.{below, lt-or-le, clash, anyN, firstN, any-where, first-holds}
+use Rattle.base.specs.Walks.{below, lt-or-le, anyN, any-where, first-holds}
 use Rattle.events.specs.declared.Cancel.{Cancel}
 use Rattle.events.specs.declared.Event.the-variants as E
-use Rattle.rules.specs.declared.Entry.{Entry}
-use Rattle.rules.specs.declared.LegOrder.{LegOrder}
 use Rattle.rules.specs.declared.State.{State}
 use Rattle.rules.specs.declared.Kind.the-variants.{Cancelled, LegOrderCancelled}
-use Rattle.rules.specs.State.{noEntry, noOrder, entryAt, orderAt, strategyAt, withEntries, withOrders}
+use Rattle.rules.specs.State.{entryAt, orderAt, withEntries, withOrders}
 use Rattle.rules.specs.Moves.{Moved, still, and-then, each}
 use Rattle.rules.specs.Fills.{cut, cutLeg, cancelEntry, cancelOrder}
 use Rattle.rules.specs.Events.{live, liveOrder, cancelEntryOf, cancelOrderOf, cancelNumber}
 use Rattle.rules.specs.Refusals.{isOrderOf, isLegOrderOf, orderAtIs, legOrderAtIs, notFound, startedBy, isStarter, causes}
 use Rattle.rules.specs.Step.{accept}
-use Rattle.rules.specs.Valid.{Sound, Valid}
+use Rattle.rules.specs.Valid.{Sound}
 use Rattle.rules.specs.Sentences.{Accepted, OrderCancelled, LegOrderEnded, CancelSentence}
 use Rattle.rules.proofs.Tables.{positive}
 use Rattle.rules.proofs.Turns.{then-still}

@@ -5,10 +5,10 @@ use mathlib.Core.Logic.{inl, ⊎-elim}
 use mathlib.Core.List.{List, [], _∷_, List·Memᴰ, List·Memᴰ·head}
 use Prim.Native.Nat.{ℕ, zero, suc, _+_, _≤_, _<_}
 use native.Mathlib.Omega.{arith}
-use borrow.Author.Tests.{eqb-true, eq-eqb, ne-eqb, leb-true, leb-false, le-leb, lt-leb, lt-ltb, ltb-true, ltb-false, not-true}
-use lib.Dec.{eqb, leb, ltb}
+use borrow.Author.Tests.{eq-eqb, ne-eqb, leb-true, le-leb, lt-leb, lt-ltb, ltb-true, ltb-false, not-true}
+use lib.Dec.{eqb, ltb}
 use lib.ListN.{length}
-use Rattle.base.specs.Pick.{pick, pick-all, pick-by, pick-true, pick-false, pick-yes}
+use Rattle.base.specs.Pick.{pick-all, pick-by, pick-true, pick-false, pick-yes}
 use Rattle.base.specs.All.{All, all-nil, all-cons, all-append, all-map}
 use Rattle.base.specs.Walks.{below, lt-or-le, clash}
 use Rattle.events.specs.declared.Clock.{Clock}
@@ -28,7 +28,7 @@ use Rattle.rules.specs.Passes.{pass}
 use Rattle.rules.specs.Events.{onClock}
 use Rattle.rules.specs.Refusals.{causes}
 use Rattle.rules.specs.Step.{accept}
-use Rattle.rules.specs.Valid.{Sound, Starter, Valid}
+use Rattle.rules.specs.Valid.{Starter, Valid}
 use Rattle.rules.specs.Sentences.{Accepted, Runs, IsKind, UnpricedOf, HadTurn, endedRecord, ClockSentence}
 use Rattle.rules.proofs.Tables.{positive, mem-left, mem-right}
 use Rattle.rules.proofs.Shrinks.{Shrinks, shrinks-trans, shrinks-refl}

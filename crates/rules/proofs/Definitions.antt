@@ -8,11 +8,11 @@ use Prim.Native.Nat.{ℕ, zero, suc, _+_, _-_, _*_, _/_, _≤_, _<_}
 use native.Mathlib.Nat.{mul-comm, mul-assoc, mul-div-cancel, le-of-mul-le-mul-right}
 use native.Mathlib.Omega.{arith}
 use borrow.Author.Tests.{eqb-true, eq-eqb, ltb-true, ltb-false, lt-ltb, leb-false}
-use lib.Dec.{eqb, ltb}
+use lib.Dec.{eqb}
 use lib.ListN.{length, getD, length-append, List·getD-append}
 use lib.Seq.{getD-set-same, getD-set-other}
-use Rattle.base.specs.Pick.{pick, pick-all, pick-by, pick-true, pick-false, pick-yes}
-use Rattle.base.specs.Walks.{walk, joinN, firstN, all-holds, all-every, first-holds, first-is, first-le, first-before, below, clash, lt-or-le}
+use Rattle.base.specs.Pick.{pick-all, pick-true, pick-false, pick-yes}
+use Rattle.base.specs.Walks.{walk, joinN, all-holds, all-every, first-holds, first-is, first-le, first-before, below, clash, lt-or-le}
 use Rattle.base.specs.Gcd.{Divides, gcd-most, divides-zero, divides-le, divides-pos}
 use Rattle.events.specs.declared.Strategy.{Strategy as GivenStrategy}
 use Rattle.events.specs.declared.Event.the-variants as E
@@ -20,16 +20,15 @@ use Rattle.rules.specs.declared.Leg.{Leg}
 use Rattle.rules.specs.declared.Strategy.{Strategy}
 use Rattle.rules.specs.declared.State.{State}
 use Rattle.rules.specs.State.{noLeg, noStrategy, strategyAt, legAt, withStrategies}
-use Rattle.rules.specs.Moves.{still}
-use Rattle.rules.specs.Strategies.{ratioOf, seriesOf, divisorStep, divisor, dividedAt, inSeries, placeOf, present, legsOf, bySeries, padded, defined, sameLeg, sameLegAt, sameLegs, sameAt, numberOf, held, added, define}
+use Rattle.rules.specs.Strategies.{ratioOf, seriesOf, divisorStep, divisor, dividedAt, inSeries, placeOf, legsOf, bySeries, defined, sameLeg, sameLegAt, sameLegs, sameAt, numberOf, held, added, define}
 use Rattle.rules.specs.Given.{legsGiven, strategyGiven}
 use Rattle.rules.specs.Refusals.{causes, illFormed, strategiesFull}
 use Rattle.rules.specs.Step.{accept, valueOf}
-use Rattle.rules.specs.Valid.{FitStrategy, Sound}
+use Rattle.rules.specs.Valid.{Sound}
 use Rattle.rules.specs.Sentences.{Accepted, Any, Placed, StrategySentence}
 use Rattle.rules.proofs.Tables.{Stands, stands-more, all-within}
-use Rattle.rules.proofs.Strategies.{Definition, divides-trans, divisor-divides, divided-pos, lowest, lowest-at, place-same, rows, rows-are, rows-le, length-is, padded-at, defined-fit}
-use Rattle.rules.proofs.Ratios.{once, in-place, Padded, given-padded}
+use Rattle.rules.proofs.Strategies.{Definition, divisor-divides, lowest, lowest-at, place-same, rows, rows-are, rows-le, length-is, padded-at, defined-fit}
+use Rattle.rules.proofs.Ratios.{once, Padded, given-padded}
 use Rattle.rules.proofs.Validity.{clear, then-no, given-definition}
 
 -- WHERE A LEG STANDS

@@ -2,7 +2,7 @@
 -- pass they go by number alone."
 use mathlib.Core.Path.{_≡_, refl, sym, _∙_, ap}
 use mathlib.Core.Bool.{Bool, true, false}
-use mathlib.Core.Logic.{_⊎_, inl, inr, ⊎-elim, _≢_}
+use mathlib.Core.Logic.{_⊎_, inl, inr, ⊎-elim}
 use mathlib.Core.List.{List}
 use Prim.Native.Nat.{ℕ, zero, suc, _+_, _-_, _*_, _≤_, _<_, min}
 use native.Mathlib.Omega.{arith}
@@ -11,26 +11,25 @@ use lib.Dec.{eqb, ltb}
 use lib.ListN.{length, getD}
 use Rattle.base.specs.Pick.{pick, pick-all, pick-by, pick-true, pick-false}
 use Rattle.base.specs.Walks.{sumN, slot, walk, sum-one, table-slot, lt-or-le, below, clash}
-use Rattle.rules.specs.declared.Strategy.{Strategy}
 use Rattle.rules.specs.declared.Entry.{Entry}
 use Rattle.rules.specs.declared.State.{State}
 use Rattle.rules.specs.declared.Allocation.{Allocation}
-use Rattle.rules.specs.declared.Allocation.the-variants.{LegsOnly, Shared, Numbered}
+use Rattle.rules.specs.declared.Allocation.the-variants.{Shared, Numbered}
 use Rattle.rules.specs.declared.Turn.{Turn}
 use Rattle.rules.specs.declared.Turn.the-variants.{Stop, ByLegs, AtLimit}
 use Rattle.rules.specs.State.{noEntry, entryAt, withOrders}
-use Rattle.rules.specs.Moves.{Moved, still, and-then, each}
+use Rattle.rules.specs.Moves.{and-then, each}
 use Rattle.rules.specs.Sides.{other, meets, better, bestPrice}
 use Rattle.rules.specs.Quotas.{inTurnAt, inTurn, share}
-use Rattle.rules.specs.Fills.{cutEntry, takeLegs, legFill}
+use Rattle.rules.specs.Fills.{takeLegs, legFill}
 use Rattle.rules.specs.Passes.{opposes, limitWith, limitStep, bestOpposite, groupOf, within, holding, sizes, giveInTurn, giveGroup, giveShared, meetLimit, opposite, turnAt, turnOf, takeTurn, turn, pass}
 use Rattle.rules.specs.Valid.{Sound}
-use Rattle.rules.specs.Sentences.{Customer, SweepOrMaker, Dealer, Beside, BetterLimit, AheadShared, better-limit, customer-before-maker, customer-before-dealer, maker-before-dealer, customers-by-number, AheadNumbered, NonePassed, OneGroup, got, SharedFairly}
+use Rattle.rules.specs.Sentences.{Customer, SweepOrMaker, Dealer, Beside, BetterLimit, AheadShared, better-limit, customer-before-maker, customer-before-dealer, maker-before-dealer, customers-by-number, AheadNumbered, NonePassed, got, SharedFairly}
 use Rattle.rules.proofs.Turns.{sum-less}
 use Rattle.rules.proofs.Shrinks.{SameEntry, Shrinks, shrinks-refl, shrinks-trans}
 use Rattle.rules.proofs.Sharing.{share-fair, share-earlier}
 use Rattle.rules.proofs.Quotas.{Divides, inTurn-divides, share-divides}
-use Rattle.rules.proofs.Gives.{cut-other, opposed, opposed-apart, holder, sizes-at, Quoted, inTurn-quoted, share-quoted, Given, given}
+use Rattle.rules.proofs.Gives.{cut-other, opposed, opposed-apart, holder, sizes-at, Quoted, inTurn-quoted, share-quoted, Given}
 use Rattle.rules.proofs.Firsts.{live-slot, by-number, better-turn, better-past, better-alike}
 use Rattle.rules.proofs.Tables.{positive}
 use Rattle.rules.proofs.Control.{sum-part, opposes-is, turn-kept, each-kept, shrinks-kept, inTurn-given, group-given}

@@ -1,25 +1,24 @@
 -- "Day end: records 5 by strategy, 3 by number, then a fresh book with the new timer."
 use mathlib.Core.Path.{_≡_, refl, sym, _∙_, ap}
-use mathlib.Core.Bool.{Bool, true, false, not}
+use mathlib.Core.Bool.{Bool, true, false}
 use mathlib.Core.Logic.{_⊎_, inl, inr, ⊎-elim}
 use mathlib.Core.List.{List, [], _∷_, _++_, append-nil, List·Memᴰ, List·Memᴰ·head}
 use Prim.Native.Nat.{ℕ, zero, suc, _+_, _≤_, _<_}
 use native.Mathlib.Omega.{arith}
-use borrow.Author.Tests.{eqb-true, eqb-false, eq-eqb, ne-eqb, not-true, not-false}
+use borrow.Author.Tests.{eqb-true, eqb-false, not-true, not-false}
 use lib.Dec.{eqb}
-use lib.ListN.{length, getD}
-use Rattle.base.specs.Pick.{pick, pick-all, pick-by, pick-true, pick-false}
+use lib.ListN.{getD}
+use Rattle.base.specs.Pick.{pick-by}
 use Rattle.base.specs.All.{All, all-nil, all-cons, all-append, all-map, Sorted, sort-nil, sort-cons, sorted-append}
-use Rattle.base.specs.Walks.{below, clash, lt-or-le}
+use Rattle.base.specs.Walks.{below}
 use Rattle.events.specs.declared.DayEnd.{DayEnd}
 use Rattle.events.specs.declared.Event.the-variants as E
-use Rattle.rules.specs.declared.Strategy.{Strategy}
 use Rattle.rules.specs.declared.Entry.{Entry}
 use Rattle.rules.specs.declared.LegOrder.{LegOrder}
 use Rattle.rules.specs.declared.State.{State}
 use Rattle.rules.specs.declared.Record.{Record}
-use Rattle.rules.specs.State.{noEntry, noOrder, fresh, entryAt, orderAt, strategyAt, withStrategies}
-use Rattle.rules.specs.Moves.{Moved, still, and-then, each}
+use Rattle.rules.specs.State.{noEntry, noOrder, entryAt, orderAt, strategyAt, withStrategies}
+use Rattle.rules.specs.Moves.{Moved, and-then, each}
 use Rattle.rules.specs.Records.{kindNumber}
 use Rattle.rules.specs.Fills.{cancelEntry, cancelOrder}
 use Rattle.rules.specs.Auctions.{running, putAuction, close}
@@ -30,10 +29,9 @@ use Rattle.rules.specs.Sentences.{Accepted, Runs, IsKind, endedRecord, c
 use Rattle.rules.proofs.Tables.{positive, mem-left, mem-right}
 use Rattle.rules.proofs.Shrinks.{Shrinks, shrinks-refl, shrinks-trans, auction-shrinks, close-shrinks, cancel-shrinks, cancelOrder-shrinks}
 use Rattle.rules.proofs.Entering.{sound-auctions, sound-shrinks, auctions-same}
-use Rattle.rules.proofs.Settled.{same-or, cancel-other, cancel-dead, strategy-same}
-use Rattle.rules.proofs.Arrivals.{put-other, put-entries, put-auctions}
-use Rattle.rules.proofs.DayEnd.{Named, an-entry, an-order, left, lowest-named, cancel-stops, lowest-first, lowest-none, numbered-sound, number-shrinks, running-shrinks, Finished, day-ends}
-use Rattle.rules.proofs.Firsts.{live-slot, order-slot}
+use Rattle.rules.proofs.Settled.{same-or, cancel-other, cancel-dead}
+use Rattle.rules.proofs.Arrivals.{put-other, put-auctions}
+use Rattle.rules.proofs.DayEnd.{Named, an-entry, an-order, left, lowest-named, cancel-stops, lowest-first, number-shrinks, Finished, day-ends}
 use Rattle.rules.proofs.Cancels.{same-slot, same-order-slot, number-entry, number-order, number-strategies, cancel-orders, cancelOrder-other, cancelOrder-dead, cancelOrder-entries}
 use Rattle.rules.proofs.Endings.{running-low}
 use Rattle.rules.proofs.Clocks.{runs}

@@ -6,16 +6,13 @@ use mathlib.Core.Logic.{_⊎_, inl, inr, ⊎-elim}
 use mathlib.Core.List.{List, _++_, append-nil}
 use Prim.Native.Nat.{ℕ, zero, suc, _+_, _≤_, _<_, min}
 use native.Mathlib.Omega.{arith}
-use borrow.Author.Tests.{eqb-true, eqb-false, eq-eqb, ne-eqb, ltb-true, not-true, not-false}
-use lib.Dec.{eqb}
-use lib.ListN.{length, getD}
-use Rattle.base.specs.Pick.{pick, pick-all, pick-by, pick-true, pick-false, pick-yes}
-use Rattle.base.specs.Sets.{has}
+use borrow.Author.Tests.{eqb-true, eq-eqb, ne-eqb, ltb-true, not-false}
+use lib.ListN.{length}
+use Rattle.base.specs.Pick.{pick-all, pick-by, pick-true, pick-false, pick-yes}
 use Rattle.base.specs.SetLaws.{minus-none, minus-zero}
 use Rattle.base.specs.Walks.{below, clash, lt-or-le}
 use Rattle.events.specs.declared.LegOrder.{LegOrder as GivenLegOrder}
 use Rattle.events.specs.declared.Event.the-variants as E
-use Rattle.rules.specs.declared.Strategy.{Strategy}
 use Rattle.rules.specs.declared.Entry.{Entry}
 use Rattle.rules.specs.declared.LegOrder.{LegOrder}
 use Rattle.rules.specs.declared.State.{State}
@@ -25,10 +22,9 @@ use Rattle.rules.specs.declared.Turn.{Turn}
 use Rattle.rules.specs.declared.Turn.the-variants.{Stop, ByLegs, AtLimit}
 use Rattle.rules.specs.State.{noOrder, entryAt, orderAt, strategyAt, withOrders, withLast}
 use Rattle.rules.specs.Moves.{Moved, still, and-then, each}
-use Rattle.rules.specs.Sides.{other, meets, better}
 use Rattle.rules.specs.Strategies.{shutSet, allOpen, holds}
-use Rattle.rules.specs.Fills.{cutLeg, legTrade, legFill}
-use Rattle.rules.specs.Passes.{readyNet, meetLimit, turnOf, takeTurn, turn, pass}
+use Rattle.rules.specs.Fills.{cutLeg, legTrade}
+use Rattle.rules.specs.Passes.{meetLimit, takeTurn, turn, pass}
 use Rattle.rules.specs.Auctions.{liveIn, running, dayOrder, legPass, legPassesIn, legPasses}
 use Rattle.rules.specs.Events.{liveOrder, enterOrder, freeOrderSlot, bestOrder, tradeOnce, tradeAll, ifRests, onLegOrder}
 use Rattle.rules.specs.Given.{legOrderGiven}
@@ -37,7 +33,7 @@ use Rattle.rules.specs.Valid.{Sound}
 use Rattle.rules.specs.Sentences.{Accepted, Open, GetsPass, HadPass, Met, AheadOrder, Trades, no-trade, and-trade, LegOrderSentence}
 use Rattle.rules.proofs.Tables.{positive, behind-slot}
 use Rattle.rules.proofs.Shrinks.{Shrinks, shrinks-refl, shrinks-trans}
-use Rattle.rules.proofs.Control.{pass-kept, legPass-kept, legPassesIn-kept, shrinks-kept}
+use Rattle.rules.proofs.Control.{pass-kept, shrinks-kept}
 use Rattle.rules.proofs.Only.{Only, only-refl, only-trans, live-in, legPass-only, legPasses-only, tradeOnce-only}
 use Rattle.rules.proofs.Ends.{pass-why}
 use Rattle.rules.proofs.Endings.{live-is}

@@ -1,47 +1,44 @@
 -- "Opening one that was shut: each all-open strategy holding it, by strategy, matches best buy with best sell (price, then number) while they meet, at
 -- the lower number's limit, its order active; when all have matched, the legs-only passes. No change of state does nothing."
 use mathlib.Core.Path.{_≡_, refl, sym, _∙_, ap}
-use mathlib.Core.Bool.{Bool, true, false, not}
-use mathlib.Core.Logic.{_⊎_, inl, inr, ⊎-elim}
-use mathlib.Core.List.{List, [], _∷_, _++_, append-nil, append-assoc}
+use mathlib.Core.Bool.{Bool, true, false}
+use mathlib.Core.Logic.{_⊎_, ⊎-elim}
+use mathlib.Core.List.{List, [], _++_, append-nil, append-assoc}
 use Prim.Native.Nat.{ℕ, zero, suc, _+_, _-_, _^_, _≤_, _<_, min}
 use native.Mathlib.Omega.{arith}
-use borrow.Author.Tests.{eqb-true, eqb-false, eq-eqb, ne-eqb, ltb-true, ltb-false}
+use borrow.Author.Tests.{eqb-true, eq-eqb, ne-eqb, ltb-true, ltb-false}
 use lib.Dec.{eqb, ltb}
-use lib.ListN.{length, getD, replicate}
+use lib.ListN.{length, replicate}
 use Rattle.base.specs.Pick.{pick, pick-all, pick-by, pick-true, pick-false, pick-yes}
 use Rattle.base.specs.Sets.{has}
 use Rattle.base.specs.SetLaws.{has-add, add-lt}
-use Rattle.base.specs.Walks.{below, clash, lt-or-le}
+use Rattle.base.specs.Walks.{clash, lt-or-le}
 use Rattle.events.specs.declared.Series.{Series}
 use Rattle.events.specs.declared.Event.the-variants as E
 use Rattle.rules.specs.declared.Strategy.{Strategy}
 use Rattle.rules.specs.declared.Entry.{Entry}
 use Rattle.rules.specs.declared.State.{State}
 use Rattle.rules.specs.declared.Record.{Record}
-use Rattle.rules.specs.State.{entryAt, strategyAt, strategyOf, withOpened}
+use Rattle.rules.specs.State.{entryAt, strategyAt, withOpened}
 use Rattle.rules.specs.Moves.{Moved, still, and-then, each}
-use Rattle.rules.specs.Sides.{other, meets, better}
-use Rattle.rules.specs.Strategies.{shutSet, allOpen, holds}
-use Rattle.rules.specs.Fills.{cutEntry, legRecordAt, partyRecords, noPrices, wholeFill}
+use Rattle.rules.specs.Sides.{meets}
+use Rattle.rules.specs.Fills.{cutEntry, partyRecords, wholeFill}
 use Rattle.rules.specs.Auctions.{bestSlot, crossed, matchOnce, matchAll, matchIn, legPasses}
 use Rattle.rules.specs.Events.{shut, reopen, onSeries}
 use Rattle.rules.specs.Step.{accept}
-use Rattle.rules.specs.Valid.{Sound, Valid}
-use Rattle.rules.specs.Sentences.{Accepted, Open, Beside, BetterLimit, AheadNumbered, NonePassed, matched, Matches, no-match, and-match, OpenSentence, SeriesSentence}
-use Rattle.rules.proofs.Tables.{positive}
-use Rattle.rules.proofs.Shrinks.{SameEntry, Shrinks, shrinks-refl, shrinks-trans, whole-shrinks}
+use Rattle.rules.specs.Valid.{Sound}
+use Rattle.rules.specs.Sentences.{Accepted, Open, Beside, AheadNumbered, NonePassed, matched, Matches, no-match, and-match, OpenSentence, SeriesSentence}
+use Rattle.rules.proofs.Shrinks.{SameEntry, Shrinks, shrinks-trans}
 use Rattle.rules.proofs.Entering.{sound-opened}
 use Rattle.rules.proofs.Control.{reopen-kept, shrinks-kept, Crossed, crossed-best, buy-proper, sell-proper}
 use Rattle.rules.proofs.Firsts.{Resting, BestEntry, best-first, live-slot}
 use Rattle.rules.proofs.Finishes.{match-apart, match-shrinks}
 use Rattle.rules.proofs.Gives.{whole-other, whole-orders}
-use Rattle.rules.proofs.Only.{Only, only-refl, only-trans, matchOnce-only, matchAll-only}
-use Rattle.rules.proofs.Settled.{same-or, each-keeps, only-sound, shut-same}
+use Rattle.rules.proofs.Only.{Only, matchOnce-only, matchAll-only}
+use Rattle.rules.proofs.Settled.{same-or, only-sound, shut-same}
 use Rattle.rules.proofs.Cancels.{same-slot}
 use Rattle.rules.proofs.Groups.{numbered-static, none-refl, none-trans}
-use Rattle.rules.proofs.WholeFills.{match-without}
-use Rattle.rules.proofs.LegOrders.{open-all, all-open, Quiet, quiet-refl, quiet-trans, Split, each-split, passes-had, Passing, passing-all}
+use Rattle.rules.proofs.LegOrders.{all-open, Quiet, quiet-refl, quiet-trans, Split, each-split, passes-had, Passing, passing-all}
 use Rattle.rules.proofs.Openings.{shut-sentence}
 
 -- an entry that has lost units at most is that entry, cut
@@ -63,12 +60,6 @@ unfolding partyRecords
 same-records e f s q level ps h = rw (same-cut e f h)
 
 -- ONE MATCH
-abbrev buyer : State → ℕ → ℕ
-buyer b k = bestSlot b k 0
-
-abbrev seller : State → ℕ → ℕ
-seller b k = bestSlot b k 1
-
 -- nobody is better, nor first at the same limit
 best-none : (b : State) → Sound b → (k s x i : ℕ) → BestEntry b k s x → Beside (entryAt b i) (entryAt b x) → AheadNumbered (entryAt b i) (entryAt b x) → entryAt b i .units ≡ 0
 best-none b v k s x i best t w = ⊎-elim

@@ -1,20 +1,15 @@
 -- No two sweeps of one member, strategy, side and limit are ever live: so of a fresh book, and of every state that accepted events lead to.
 use mathlib.Core.Path.{_≡_, refl, sym, _∙_, ap}
-use mathlib.Core.Bool.{Bool, true, false}
 use mathlib.Core.Logic.{⊎-elim}
-use mathlib.Core.List.{List}
 use Prim.Native.Nat.{ℕ, _+_, _-_, _^_, _≤_, _<_}
 use native.Mathlib.Omega.{arith}
-use lib.Dec.{eqb}
 use lib.ListN.{length}
-use Rattle.base.specs.Pick.{pick, pick-all}
-use Rattle.base.specs.Sets.{has}
+use Rattle.base.specs.Pick.{pick-all}
 use Rattle.base.specs.Walks.{lt-or-le}
 use Rattle.events.specs.declared.Event.{Event}
 use Rattle.events.specs.declared.Event.the-variants as E
 use Rattle.events.specs.declared.Order.{Order as GivenOrder}
 use Rattle.events.specs.declared.Sweep.{Sweep as GivenSweep}
-use Rattle.events.specs.declared.LegOrder.{LegOrder as GivenLegOrder}
 use Rattle.rules.specs.declared.Strategy.{Strategy}
 use Rattle.rules.specs.declared.Entry.{Entry}
 use Rattle.rules.specs.declared.LegOrder.{LegOrder}
@@ -22,10 +17,10 @@ use Rattle.rules.specs.declared.State.{State}
 use Rattle.rules.specs.State.{noEntry, noOrder, fresh, entryAt, withEntries, withOrders, withStrategies, withOpened, withClock, withLast}
 use Rattle.rules.specs.Moves.{Moved, and-then}
 use Rattle.rules.specs.Strategies.{added, define}
-use Rattle.rules.specs.Events.{live, liveOrder, enter, enterOrder, shut, reopen, onSweep, onSeries, restart, onDayEnd}
+use Rattle.rules.specs.Events.{live, liveOrder, enter, enterOrder, onSweep, onSeries, restart, onDayEnd}
 use Rattle.rules.specs.Given.{strategyGiven, orderGiven, sweepGiven, legOrderGiven}
 use Rattle.rules.specs.Step.{accept}
-use Rattle.rules.specs.Valid.{Sound, Valid}
+use Rattle.rules.specs.Valid.{Valid}
 use Rattle.rules.specs.Sentences.{Accepted, SweepOf, Alike, OneSweep}
 use Rattle.rules.proofs.Tables.{behind-length, behind-ordered}
 use Rattle.rules.proofs.Shrinks.{Shrinks, cancel-shrinks, answer-shrinks}

@@ -3,39 +3,37 @@
 use mathlib.Core.Path.{_≡_, refl, sym, _∙_, ap}
 use mathlib.Core.Bool.{Bool, true, false, not}
 use mathlib.Core.Logic.{_⊎_, inl, inr, ⊎-elim}
-use mathlib.Core.List.{List, [], _∷_, _++_, append-nil}
-use Prim.Native.Nat.{ℕ, zero, suc, _+_, _-_, _^_, _≤_, _<_, min}
+use Prim.Native.Nat.{ℕ, zero, suc, _-_, _^_, _≤_, _<_}
 use native.Mathlib.Omega.{arith}
-use borrow.Author.Tests.{eqb-true, eqb-false, eq-eqb, ne-eqb, not-true, not-false, ltb-true, ltb-false}
-use lib.Dec.{eqb, ltb}
-use lib.ListN.{length, getD}
-use Rattle.base.specs.Pick.{pick, pick-all, pick-by, pick-true, pick-false, pick-yes}
+use borrow.Author.Tests.{eqb-true, eq-eqb, ne-eqb, not-true, not-false}
+use lib.Dec.{eqb}
+use lib.ListN.{length}
+use Rattle.base.specs.Pick.{pick-all, pick-by, pick-true, pick-false, pick-yes}
 use Rattle.base.specs.All.{All, all-nil, all-cons, all-append}
 use Rattle.base.specs.Sets.{has}
-use Rattle.base.specs.SetLaws.{has-add, has-sub}
+use Rattle.base.specs.SetLaws.{has-sub}
 use Rattle.base.specs.Walks.{below, clash, lt-or-le}
 use Rattle.rules.specs.declared.Strategy.{Strategy}
 use Rattle.rules.specs.declared.Entry.{Entry}
 use Rattle.rules.specs.declared.State.{State}
-use Rattle.rules.specs.declared.Record.{Record}
-use Rattle.rules.specs.State.{entryAt, orderAt, strategyAt, withEntries, withStrategies, withOpened}
-use Rattle.rules.specs.Moves.{Moved, still, and-then, each}
+use Rattle.rules.specs.State.{entryAt, strategyAt, withEntries, withStrategies, withOpened}
+use Rattle.rules.specs.Moves.{Moved, and-then, each}
 use Rattle.rules.specs.Records.{kindNumber}
-use Rattle.rules.specs.Strategies.{allOpen, holds}
+use Rattle.rules.specs.Strategies.{holds}
 use Rattle.rules.specs.Fills.{cut, cancelEntry}
-use Rattle.rules.specs.Auctions.{liveIn, running, withAuction, putAuction, close, lapses, cancelLapsed, endUnfilled, endHolding}
-use Rattle.rules.specs.Events.{shut, reopen, onSeries}
-use Rattle.rules.specs.Valid.{Sound, Valid}
-use Rattle.rules.specs.Sentences.{Runs, IsKind, NoFill, Lapsed, ShutSentence}
+use Rattle.rules.specs.Auctions.{liveIn, running, putAuction, close, lapses, cancelLapsed, endUnfilled, endHolding}
+use Rattle.rules.specs.Events.{shut}
+use Rattle.rules.specs.Valid.{Valid}
+use Rattle.rules.specs.Sentences.{NoFill, Lapsed, ShutSentence}
 use Rattle.rules.proofs.Tables.{positive}
 use Rattle.rules.proofs.Shrinks.{Shrinks, shrinks-refl, shrinks-trans}
-use Rattle.rules.proofs.Control.{endHolding-kept, endUnfilled-kept, shrinks-kept}
+use Rattle.rules.proofs.Control.{endUnfilled-kept, shrinks-kept}
 use Rattle.rules.proofs.Only.{Only, only-each, live-in, lapsed-only}
 use Rattle.rules.proofs.Settled.{same-or, each-keeps, strategy-same, cancel-other, cancel-dead}
-use Rattle.rules.proofs.Arrivals.{put-at, put-other, put-entries}
+use Rattle.rules.proofs.Arrivals.{put-at, put-other}
 use Rattle.rules.proofs.Endings.{shut-valid}
 use Rattle.rules.proofs.Bars.{each-all}
-use Rattle.rules.proofs.Clocks.{runs, runs-not}
+use Rattle.rules.proofs.Clocks.{runs-not}
 
 -- THE END WITHOUT FILLS
 module _ (k : ℕ) (b : State) where

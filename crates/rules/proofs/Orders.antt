@@ -1,40 +1,38 @@
 -- "Complex order: if a series is shut, day rests and others are cancelled. If an auction runs, do-not-auction is cancelled and others wait.
 -- Otherwise class 1 or 2 with life 0 or 1 starts an auction if .. Else a shared pass; then day rests, others are cancelled."
 use mathlib.Core.Path.{_≡_, refl, sym, _∙_, ap}
-use mathlib.Core.Bool.{Bool, true, false, not}
+use mathlib.Core.Bool.{Bool, true, false}
 use mathlib.Core.Logic.{_⊎_, inl, inr, ⊎-elim}
-use mathlib.Core.List.{List, [], _∷_}
-use Prim.Native.Nat.{ℕ, zero, suc, _+_, _≤_, _<_}
+use mathlib.Core.List.{[], _∷_}
+use Prim.Native.Nat.{ℕ, _≤_, _<_}
 use native.Mathlib.Omega.{arith}
 use borrow.Author.Tests.{eqb-true, eqb-false, eq-eqb, ne-eqb, ltb-true, lt-ltb}
-use lib.Dec.{eqb, ltb}
-use lib.ListN.{length, getD}
+use lib.Dec.{eqb}
+use lib.ListN.{length}
 use Rattle.base.specs.Pick.{pick, pick-all, pick-by, pick-true, pick-false, pick-yes, pick-no}
-use Rattle.base.specs.Walks.{clash, lt-or-le}
+use Rattle.base.specs.Walks.{lt-or-le}
 use Rattle.events.specs.declared.Order.{Order as GivenOrder}
 use Rattle.events.specs.declared.Event.the-variants as E
 use Rattle.rules.specs.declared.Strategy.{Strategy}
 use Rattle.rules.specs.declared.Entry.{Entry}
 use Rattle.rules.specs.declared.State.{State}
-use Rattle.rules.specs.declared.Record.{Record}
-use Rattle.rules.specs.declared.Kind.the-variants.{Cancelled, AuctionBegun}
+use Rattle.rules.specs.declared.Kind.the-variants.{Cancelled}
 use Rattle.rules.specs.declared.Allocation.the-variants.{Shared}
-use Rattle.rules.specs.State.{noEntry, entryAt, strategyAt, withEntries, withStrategies}
+use Rattle.rules.specs.State.{entryAt, strategyAt, withStrategies}
 use Rattle.rules.specs.Moves.{Moved, still, and-then}
-use Rattle.rules.specs.Sides.{other, meets, better}
-use Rattle.rules.specs.Nets.{legNet, offerNet, bidNet}
-use Rattle.rules.specs.Strategies.{shutSet, allOpen}
-use Rattle.rules.specs.Fills.{cut, cancelEntry}
+use Rattle.rules.specs.Sides.{other, better}
+use Rattle.rules.specs.Nets.{offerNet, bidNet}
+use Rattle.rules.specs.Fills.{cancelEntry}
 use Rattle.rules.specs.Passes.{opposite, pass}
-use Rattle.rules.specs.Auctions.{running, putAuction, begin, answer}
+use Rattle.rules.specs.Auctions.{putAuction, begin, answer}
 use Rattle.rules.specs.Events.{enter, freeSlot, restOrCancel, mayStart, starts, waits, trades, arrive, onOrder}
 use Rattle.rules.specs.Given.{orderGiven}
 use Rattle.rules.specs.Step.{accept}
-use Rattle.rules.specs.Valid.{Sound, Valid}
-use Rattle.rules.specs.Sentences.{Accepted, Runs, Open, MeetsNone, LegsMeetNone, AheadShared, NonePassed, CancelsIt, StartsOne, a-buy, a-sell, Begins, PassesIt, OrderSentence}
+use Rattle.rules.specs.Valid.{Sound}
+use Rattle.rules.specs.Sentences.{Accepted, Runs, Open, MeetsNone, LegsMeetNone, AheadShared, CancelsIt, StartsOne, a-buy, a-sell, Begins, PassesIt, OrderSentence}
 use Rattle.rules.proofs.Tables.{positive}
 use Rattle.rules.proofs.Shrinks.{Shrinks, shrinks-refl, cancel-shrinks}
-use Rattle.rules.proofs.Entering.{Entering, fit-entry-at}
+use Rattle.rules.proofs.Entering.{fit-entry-at}
 use Rattle.rules.proofs.Settled.{cancel-other, cancel-dead, cancel-strategies, only-sound}
 use Rattle.rules.proofs.Only.{Only, pass-only}
 use Rattle.rules.proofs.Arrivals.{put-at, put-entries, answer-entries, may-class, may-life, Arrived, enter-arrived}

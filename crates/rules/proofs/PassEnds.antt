@@ -1,8 +1,8 @@
 -- "Repeat while units of it remain .. Stop when neither meets its limit": what a pass leaves.
-use mathlib.Core.Path.{_≡_, refl, sym, _∙_, ap}
+use mathlib.Core.Path.{_≡_, refl, sym, _∙_}
 use mathlib.Core.Bool.{Bool, true, false}
 use mathlib.Core.Logic.{_⊎_, inl, inr, ⊎-elim}
-use Prim.Native.Nat.{ℕ, _≤_, _<_}
+use Prim.Native.Nat.{ℕ, _≤_}
 use native.Mathlib.Omega.{arith}
 use borrow.Author.Tests.{eqb-true, eqb-false}
 use lib.Dec.{eqb}
@@ -18,8 +18,8 @@ use Rattle.rules.specs.Valid.{Sound}
 use Rattle.rules.specs.Sentences.{MeetsNone, LegsMeetNone, HadTurn}
 use Rattle.rules.proofs.Shrinks.{Shrinks, shrinks-refl, shrinks-trans}
 use Rattle.rules.proofs.Entering.{fit-entry-at}
-use Rattle.rules.proofs.Control.{opposes-is, pass-kept, shrinks-kept}
-use Rattle.rules.proofs.Ends.{Neither, no-better-fails, pass-why}
+use Rattle.rules.proofs.Control.{opposes-is}
+use Rattle.rules.proofs.Ends.{no-better-fails, pass-why}
 use Rattle.rules.proofs.Gives.{opposed}
 use Rattle.rules.proofs.Firsts.{live-slot}
 use Rattle.rules.proofs.Only.{Only, pass-only}

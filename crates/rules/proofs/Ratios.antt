@@ -93,7 +93,7 @@ module _ (legs : List Leg) (count : ℕ) (def : Definition legs count) (s : ℕ)
   low-series : (x : ℕ) → place x < count → getD low (place x) noLeg ≡ dividedAt legs (divisor legs count) (place x)
   low-series x h = lowest-at legs count def (place x) h
 
-  pub in-place : (x : ℕ) → place x < count → seriesOf legs (place x) ≡ x
+  in-place : (x : ℕ) → place x < count → seriesOf legs (place x) ≡ x
   unfolding placeOf
   in-place x h = eqb-true _ _ (first-holds (inSeries legs x) count h)
 

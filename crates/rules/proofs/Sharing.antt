@@ -1,20 +1,15 @@
 -- "The second or third group, when larger than what remains, is shared: remaining × size / group total, rounded down, then one unit each by number until
 -- none is left."
-use mathlib.Core.Path.{_≡_, refl, sym, _∙_, ap}
-use mathlib.Core.Bool.{Bool, true, false}
-use mathlib.Core.Logic.{_⊎_, inl, inr, ⊎-elim}
+use mathlib.Core.Path.{_≡_, _∙_, ap}
+use mathlib.Core.Logic.{_⊎_, ⊎-elim}
 use mathlib.Core.List.{List}
-use Prim.Native.Nat.{ℕ, zero, suc, _+_, _-_, _*_, _/_, _≤_, _<_, min}
-use native.Mathlib.Nat.{mul-comm, mul-assoc, add-mul, mul-right-comm, mul-le-mul-right, one-mul, mul-lt-mul-of-pos-right, div-mul-le-self, lt-div-mul-add, lt-of-mul-lt-mul-right}
+use Prim.Native.Nat.{ℕ, _+_, _-_, _*_, _/_, _≤_, _<_}
+use native.Mathlib.Nat.{mul-comm, add-mul, mul-right-comm, mul-le-mul-right, one-mul, mul-lt-mul-of-pos-right, div-mul-le-self, lt-div-mul-add, lt-of-mul-lt-mul-right}
 use native.Mathlib.Omega.{arith}
-use borrow.Author.Tests.{eqb-true, eq-eqb, lt-leb}
+use borrow.Author.Tests.{lt-leb}
 use lib.Dec.{eqb}
-use lib.ListN.{length}
-use Rattle.base.specs.Pick.{pick, pick-all, pick-both, pick-by, pick-true, pick-false}
+use Rattle.base.specs.Pick.{pick-all, pick-both, pick-false}
 use Rattle.base.specs.Walks.{sumN, slot, table, table-slot, sum-rise, lt-or-le}
-use Rattle.rules.specs.declared.Entry.{Entry}
-use Rattle.rules.specs.declared.State.{State}
-use Rattle.rules.specs.State.{entryAt}
 use Rattle.rules.specs.Quotas.{portion, portionAt, oneOf, holderAt, sharedAt, share}
 use Rattle.rules.proofs.Quotas.{share-all}
 

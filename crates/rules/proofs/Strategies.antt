@@ -24,7 +24,7 @@ use Rattle.rules.proofs.Tables.{all-within, sorted-at, all-take}
 
 -- Divisors.
 
-pub divides-trans : {a b c : ℕ} → Divides a b → Divides b c → Divides a c
+divides-trans : {a b c : ℕ} → Divides a b → Divides b c → Divides a c
 divides-trans {a} {b} {c} u v = record {
   times = v .times * u .times;
   is = mul-assoc (v .times) (u .times) a ∙ ap (λ (x : ℕ). v .times * x) (u .is) ∙ v .is;
@@ -39,7 +39,7 @@ divisor-divides legs (suc n) i h =
     (λ l. divides-trans (gcd-right (ratioOf legs n) (walk (divisorStep legs) 0 n)) (divisor-divides legs n i l)) (below h)
 
 -- a number that is not 0, by a divisor
-pub divided-pos : {d r : ℕ} → 0 < r → Divides d r → 0 < r / d
+divided-pos : {d r : ℕ} → 0 < r → Divides d r → 0 < r / d
 divided-pos {d} {r} h u = le-div-iff-mul-le (divides-pos u h) .1 (rw one-mul (divides-le u h))
 
 -- Sums of tests.

@@ -1,38 +1,37 @@
 -- "Sweep: same member, strategy, side and limit: the old one is cancelled by record first; 0 units enters nothing." And when an auction is
 -- answered: "if any opposite sweep or waiting order was accepted meanwhile".
 use mathlib.Core.Path.{_≡_, refl, sym, _∙_, ap}
-use mathlib.Core.Bool.{Bool, true, false, not}
-use mathlib.Core.Logic.{_⊎_, inl, inr, ⊎-elim}
+use mathlib.Core.Bool.{true, not}
+use mathlib.Core.Logic.{_⊎_, ⊎-elim}
 use mathlib.Core.List.{List, [], _∷_, append-nil}
-use Prim.Native.Nat.{ℕ, zero, suc, _+_, _≤_, _<_}
+use Prim.Native.Nat.{ℕ, _+_, _≤_, _<_}
 use native.Mathlib.Omega.{arith}
-use borrow.Author.Tests.{eqb-true, eqb-false, eq-eqb, ne-eqb, ltb-true}
+use borrow.Author.Tests.{eqb-true, eqb-false, eq-eqb, ne-eqb}
 use lib.Dec.{eqb}
-use lib.ListN.{length, getD, List·getD-eq-default}
-use Rattle.base.specs.Pick.{pick, pick-all, pick-by, pick-true, pick-false, pick-yes}
-use Rattle.base.specs.Walks.{clash, lt-or-le, firstN, any-holds, any-where, first-holds, first-none, first-le}
+use lib.ListN.{length, List·getD-eq-default}
+use Rattle.base.specs.Pick.{pick-all, pick-by, pick-true, pick-false, pick-yes}
+use Rattle.base.specs.Walks.{lt-or-le, any-holds, any-where, first-holds}
 use Rattle.events.specs.declared.Sweep.{Sweep as GivenSweep}
 use Rattle.events.specs.declared.Event.the-variants as E
 use Rattle.rules.specs.declared.Strategy.{Strategy}
 use Rattle.rules.specs.declared.Entry.{Entry}
 use Rattle.rules.specs.declared.State.{State}
-use Rattle.rules.specs.declared.Record.{Record}
 use Rattle.rules.specs.declared.Kind.the-variants.{Cancelled}
 use Rattle.rules.specs.State.{noEntry, entryAt, strategyAt, withEntries, withLast}
 use Rattle.rules.specs.Moves.{Moved, still, and-then}
 use Rattle.rules.specs.Sides.{other}
-use Rattle.rules.specs.Fills.{cut, cancelEntry}
-use Rattle.rules.specs.Auctions.{running, withAuction, putAuction, starterSlot, answer}
+use Rattle.rules.specs.Fills.{cancelEntry}
+use Rattle.rules.specs.Auctions.{putAuction, starterSlot, answer}
 use Rattle.rules.specs.Events.{live, enter, freeSlot, sameSweep, sameSweepAt, oldSweep, enterSweep, onSweep}
-use Rattle.rules.specs.Given.{next, sweepGiven}
+use Rattle.rules.specs.Given.{sweepGiven}
 use Rattle.rules.specs.Step.{accept}
 use Rattle.rules.specs.Valid.{Sound, Starter, Valid}
 use Rattle.rules.specs.Sentences.{Accepted, Answers, SweepOf, Alike, OneSweep, NewSweep, SweepSentence}
-use Rattle.rules.proofs.Tables.{Stands, positive}
-use Rattle.rules.proofs.Shrinks.{Shrinks, same-entry, cancel-shrinks, answer-shrinks}
-use Rattle.rules.proofs.Entering.{pos-live, live-pos, Entering, sound-enter, enter-slot, enter-free, enter-other, enter-stands, fit-entry-at}
+use Rattle.rules.proofs.Tables.{Stands}
+use Rattle.rules.proofs.Shrinks.{same-entry, cancel-shrinks, answer-shrinks}
+use Rattle.rules.proofs.Entering.{pos-live, live-pos, Entering, sound-enter, enter-slot, enter-other, enter-stands, fit-entry-at}
 use Rattle.rules.proofs.Settled.{same-or, starter-moves, strategy-same, cancel-other, cancel-dead, cancel-strategies}
-use Rattle.rules.proofs.Arrivals.{put-at, put-other, answer-entry, old-sweep, Sweeping, swept, swept-shrinks, swept-valid, swept-entering}
+use Rattle.rules.proofs.Arrivals.{put-at, put-other, answer-entry, old-sweep, swept-valid, swept-entering}
 use Rattle.rules.proofs.Gives.{other-apart}
 use Rattle.rules.proofs.Firsts.{live-slot}
 use Rattle.rules.proofs.Validity.{sweep-clear}

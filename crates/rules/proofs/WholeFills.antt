@@ -1,32 +1,26 @@
 -- "price 0 where whole met whole", and passes for which the legs are barred.
-use mathlib.Core.Path.{_≡_, refl, sym, _∙_, ap}
-use mathlib.Core.Bool.{Bool, true, false}
-use mathlib.Core.List.{List, [], _∷_, _++_}
-use Prim.Native.Nat.{ℕ, zero, suc, _+_, _*_, _≤_, _<_}
+use mathlib.Core.Path.{_≡_, refl, _∙_}
+use mathlib.Core.Bool.{false}
+use mathlib.Core.List.{List}
+use Prim.Native.Nat.{ℕ, zero, suc}
 use native.Mathlib.Omega.{arith}
 use lib.Dec.{eqb}
-use lib.ListN.{getD, replicate}
-use Rattle.base.specs.Pick.{pick, pick-all, pick-by, pick-true, pick-false}
-use Rattle.base.specs.All.{All, all-nil, all-cons, all-append, all-map, all-at, all-replicate}
+use Rattle.base.specs.Pick.{pick-all, pick-by, pick-false}
+use Rattle.base.specs.All.{All, all-nil, all-cons, all-append, all-at, all-replicate}
 use Rattle.base.specs.Walks.{slot, all-join}
 use Rattle.rules.specs.declared.Strategy.{Strategy}
 use Rattle.rules.specs.declared.Entry.{Entry}
 use Rattle.rules.specs.declared.State.{State}
-use Rattle.rules.specs.declared.Record.{Record}
-use Rattle.rules.specs.declared.Kind.{Kind}
-use Rattle.rules.specs.declared.Kind.the-variants.{WholeFill, LegFill}
 use Rattle.rules.specs.declared.Allocation.{Allocation}
 use Rattle.rules.specs.declared.Allocation.the-variants.{LegsOnly, Shared, Numbered}
 use Rattle.rules.specs.declared.Turn.{Turn}
-use Rattle.rules.specs.declared.Turn.the-variants.{Stop, ByLegs, AtLimit}
-use Rattle.rules.specs.State.{entryAt, strategyOf}
+use Rattle.rules.specs.State.{entryAt}
 use Rattle.rules.specs.Moves.{Moved, still, and-then, each}
 use Rattle.rules.specs.Records.{kindNumber}
-use Rattle.rules.specs.Sides.{meets}
 use Rattle.rules.specs.Fills.{legRecordAt, partyRecords, noPrices, wholeFill}
 use Rattle.rules.specs.Passes.{giveAt, give, giveInTurn, giveGroup, giveShared, meetLimit, readyNet, opposite, legsFirst, turnAt, turnOf, takeTurn, turn, pass}
 use Rattle.rules.specs.Auctions.{matchOnce, matchAll}
-use Rattle.rules.specs.Sentences.{IsKind, Unpriced, WithoutLegs}
+use Rattle.rules.specs.Sentences.{Unpriced, WithoutLegs}
 use Rattle.rules.proofs.Control.{first-net}
 use Rattle.rules.proofs.Gives.{whole-orders}
 
