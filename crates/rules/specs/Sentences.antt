@@ -1,6 +1,6 @@
 -- The sentences of "Events" and "Passes" in another form than their definitions have: what can be seen of the state before an event, the state
--- after it and its records. Each holds of every accepted event in every valid state (proofs Sentences.event-sentence, step-sentence). A rule that is changed in
--- its definition and in the code alike is refused here.
+-- after it and its records. Each holds of every accepted event in every state that frames lead to (proofs Sentences.event-sentence, step-sentence; of the
+-- passes: Groups, PassEnds, Bars, WholeFills). A rule that is changed in its definition and in the code alike is refused here. A price of 0 is the level 10,000,000.
 use mathlib.Core.Path.{_≡_}
 use mathlib.Core.Bool.{Bool, true, false, not}
 use mathlib.Core.Logic.{_⊎_}
