@@ -114,7 +114,7 @@ text-laid index o s h l =
     (λ k. refl)
     h
 
--- "1 space too small": there are no records
+-- where the space is too short the event is refused 1: there are no records
 answer-short : (b : State) (frame : List ℕ) (n : ℕ) → n < 15360 → answerOf (step b frame n) ≡ A.Refused 1
 unfolding step refuseOrPerform refused answerOf pick
 answer-short b frame n h = let e = refusal-short b (readOf frame) n h in rw e refl
