@@ -1,5 +1,6 @@
 // The book of complex orders. Its state is private, so that no other crate can make a book.
 ghost use mathlib.Core.Path.{_≡_};
+ghost use mathlib.Core.List.{[], _∷_};
 ghost use Rattle.rules.specs.Lookups.{liveQuantity, shutLegs, depthTells, shutTells};
 ghost use Rattle.rules.specs.Valid.{Valid};
 ghost use Rattle.lookups.specs.Lookups.{bookDepth, rowOf};
@@ -9,7 +10,7 @@ ghost use Rattle.base.specs.Pick.{pick};
 ghost use lib.Dec.{eqb};
 ghost use lib.ListN.{length};
 ghost use Prim.Native.Nat.{_≤_, _<_};
-ghost use Rattle.rules.specs.Sizes.{recordSpace};
+ghost use Rattle.rules.specs.Sizes.{strategySlots, orderSlots, sweepSlots, legOrderSlots, recordSpace};
 ghost use Rattle.book.specs.Books.{First, Took, Stepped};
 ghost use Rattle.book.specs.Outcomes.{refuse, admit};
 use cancels::cancel_number;
@@ -94,6 +95,19 @@ impl Book {
     pub const LEG_ORDERS: usize = State::LEG_ORDERS;
 
     pub const RECORD_SPACE: usize = State::RECORD_SPACE;
+
+    // These sizes, in their order.
+    pub fn sizes() -> [usize; 5]
+        ensures { λ r. ⌜ r ≡ strategySlots ∷ (orderSlots ∷ (sweepSlots ∷ (legOrderSlots ∷ (recordSpace ∷ [])))) ⌝ }
+    {
+        [
+            Book::STRATEGIES,
+            Book::ORDERS,
+            Book::SWEEPS,
+            Book::LEG_ORDERS,
+            Book::RECORD_SPACE,
+        ]
+    }
 
     // The first book: timer 5,000, clock 0, all shut, its tables empty and no number given.
     pub fn first() -> Book
