@@ -3,7 +3,7 @@ ghost use mathlib.Core.Path.{_≡_};
 ghost use mathlib.Core.List.{[], _∷_};
 ghost use Rattle.rules.specs.Lookups.{liveQuantity, shutLegs, depthTells, shutTells};
 ghost use Rattle.rules.specs.Valid.{Valid};
-ghost use Rattle.lookups.specs.Lookups.{bookDepth, rowOf};
+ghost use Rattle.lookups.specs.Lookups.{bookDepth, lentRow};
 ghost use Rattle.events.specs.declared.Event.the-variants as E;
 ghost use Rattle.rules.specs.Fits.{FitGiven, FitOrderGiven, FitSweepGiven, FitLegOrderGiven};
 ghost use Rattle.base.specs.Pick.{pick};
@@ -297,7 +297,7 @@ impl Book {
 
     // The leg orders, as a row of order entries to be lent.
     pub fn order_row(self) -> [OrderEntry; Book::LEG_ORDERS]
-        ensures { λ r. ⌜ r ≡ rowOf (self .state .orders) ⌝ }
+        ensures { λ r. ⌜ r ≡ lentRow (self .state .orders) ⌝ }
     {
         let state = self.state;
         let orders = state.orders;

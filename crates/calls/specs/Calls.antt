@@ -38,7 +38,7 @@ itemTurn b index rest =
     (callTurn b index (take (itemOf rest) rest) (drop (itemOf rest) rest))
 
 -- a turn: what the rules say of the rest of the input
-pub record Turned (t : Tape) (index : ℕ) (block s q : List ℕ) (x : Tape) : Type 0 where
+pub record ItemTurned (t : Tape) (index : ℕ) (block s q : List ℕ) (x : Tape) : Type 0 where
   pub state : x .book .state ≡ itemTurn (t .book .state) index (restOf block (t .rest)) .state
   pub text : Printed s q (t .used) (x .used) (itemTurn (t .book .state) index (restOf block (t .rest)) .text)
   pub rest : restOf block (x .rest) ≡ itemTurn (t .book .state) index (restOf block (t .rest)) .rest
@@ -47,8 +47,8 @@ pub record Turned (t : Tape) (index : ℕ) (block s q : List ℕ) (x : Tape) : T
   pub lies : Lies (x .rest) block
 
 -- the last turn, at any index: the book and the rest stay, and no more is to come
-pub record Ended (b : Book) (r : Rest) (used : ℕ) (block s q : List ℕ) (m : ℕ) : Type 0 where
-  pub turned : (index : ℕ) → Turned (record { book = b; rest = r; used = used; on = true }) index block s q (record { book = b; rest = r; used = m; on = false })
+pub record ItemsEnded (b : Book) (r : Rest) (used : ℕ) (block s q : List ℕ) (m : ℕ) : Type 0 where
+  pub turned : (index : ℕ) → ItemTurned (record { book = b; rest = r; used = used; on = true }) index block s q (record { book = b; rest = r; used = m; on = false })
   pub within : m ≤ length q
 
 -- laws
@@ -64,7 +64,7 @@ turn-call b index rest h = pick-false _ _ _ (ne-eqb _ _ h)
 -- the end: `cut` or nothing, then the lookups
 pub ended :
     (b : Book) {r : Rest} {block s q u : List ℕ} {used k m : ℕ} → Valid (b .state) → Lies r block → itemOf (restOf block r) ≡ 0 →
-    Within 86 s q used k (cutLine (r .«end» - r .at)) → Listed q u k m (lookupText (b .state)) → Ended b r used block s u m
+    Within 86 s q used k (cutLine (r .«end» - r .at)) → Listed q u k m (lookupText (b .state)) → ItemsEnded b r used block s u m
 ended b {r} {block} {s} {q} {u} {used} {k} {m} v l e w g =
     let n : length (restOf block r) ≡ r .«end» - r .at = rest-length l in
     let p : Printed s u used m (endText (b .state) (restOf block r)) = rw n (printed-then (printed-one (w .put)) (g .text)) in
@@ -99,7 +99,7 @@ item-long {r} {block} {n} l e h =
 turned-item :
     {t : Tape} (index : ℕ) {block s q : List ℕ} {n : ℕ} {a : Told} {item : List ℕ} → Lies (t .rest) block → n ≡ itemOf (restOf block (t .rest)) → (n ≡ 0 → ⊥) →
     item ≡ take (t .rest .at + n - t .rest .at) (drop (t .rest .at) block) → Tells (t .book .state) index (drop 4 item) (lentOf item) s q (t .used) a →
-    Turned t index block s q (record { book = a .book; rest = record { at = t .rest .at + n; «end» = t .rest .«end» }; used = a .used; on = true })
+    ItemTurned t index block s q (record { book = a .book; rest = record { at = t .rest .at + n; «end» = t .rest .«end» }; used = a .used; on = true })
 turned-item {t} index {block} {n = n} {item = item} l e h i w =
     let few : n ≤ t .rest .«end» - t .rest .at = omega (arith, item-fits l e) in
     let x = rw (← e) at (turn-call (t .book .state) index (restOf block (t .rest)) (λ z. h (e ∙ z))) in
@@ -116,10 +116,10 @@ turned-item {t} index {block} {n = n} {item = item} l e h i w =
 -- a call: read on, a whole item cut and told, and the text written out where there is no room
 pub running-call :
     {block₀ out₀ : List ℕ} {space₀ : List ℤ} {t : Tape} {index : ℕ} {block next s q : List ℕ} {space sq : List ℤ} {r : Rest} {n : ℕ} {a : Told} {used : ℕ} {on : Bool} {item : List ℕ} →
-    Running Turned block₀ space₀ out₀ t index block space s → More block next (t .rest) r → n ≡ itemOf (restOf next r) → (n ≡ 0 → ⊥) →
+    Running ItemTurned block₀ space₀ out₀ t index block space s → More block next (t .rest) r → n ≡ itemOf (restOf next r) → (n ≡ 0 → ⊥) →
     item ≡ take (r .at + n - r .at) (drop (r .at) next) → Tells (t .book .state) index (drop 4 item) (lentOf item) s q (t .used) a →
     used + 189526 ≤ length q → length sq ≡ length space → length q ≡ length s →
-    Running Turned block₀ space₀ out₀ (record { book = a .book; rest = record { at = r .at + n; «end» = r .«end» }; used = used; on = on }) (index + 1) next sq q
+    Running ItemTurned block₀ space₀ out₀ (record { book = a .book; rest = record { at = r .at + n; «end» = r .«end» }; used = used; on = on }) (index + 1) next sq q
 running-call {t = t} {index} {r = r} g m e h z w room i o =
     let u = turned-item {t = record { book = t .book; rest = r; used = t .used; on = true }} index (m .lies) e h z w in
     running-next g m u (u .valid) (u .lies) room i o

@@ -15,8 +15,8 @@ abbrev pub toldItem : List ℕ → ℕ
 toldItem rest = 4 + number 2 rest 0
 
 -- the bytes that must be there to judge the first item
-unfoldable pub neededOf : List ℕ → ℕ
-neededOf rest = pick (ltb (length rest) 4) 4 (toldItem rest)
+unfoldable pub itemNeeded : List ℕ → ℕ
+itemNeeded rest = pick (ltb (length rest) 4) 4 (toldItem rest)
 
 -- the length of the first item; one that is cut short counts as 0
 unfoldable pub itemOf : List ℕ → ℕ
@@ -28,8 +28,8 @@ lentOf item = pick (ltb recordSpace (number 2 item 2)) recordSpace (number 2 ite
 
 -- laws
 
-pub needed-more : (rest : List ℕ) {n : ℕ} → n ≡ number 2 rest 0 → 4 ≤ length rest → 4 + n ≡ neededOf rest
-unfolding neededOf
+pub needed-more : (rest : List ℕ) {n : ℕ} → n ≡ number 2 rest 0 → 4 ≤ length rest → 4 + n ≡ itemNeeded rest
+unfolding itemNeeded
 needed-more rest e l = rw e (search tests)
 
 pub item-short : (rest : List ℕ) → length rest < 4 → 0 ≡ itemOf rest

@@ -19,7 +19,7 @@ use Rattle.rules.specs.declared.Shut.{Shut}
 use Rattle.rules.specs.declared.Shut.the-variants as S
 use Rattle.rules.specs.Lookups.{LookedUp, values, refusedBy, liveQuantity, shutLegs, rowDepth, depthTells, shutTells}
 use Rattle.rules.specs.Valid.{Valid}
-use Rattle.lookups.specs.Lookups.{bookDepth, rowOf}
+use Rattle.lookups.specs.Lookups.{bookDepth, lentRow}
 use Rattle.depths.specs.Rows.{row-depth-book}
 use Rattle.lines.specs.Lines.{textLine}
 use Rattle.lines.specs.Puts.{Put, Within, put-nil, put-then}
@@ -163,7 +163,7 @@ depth-refused s side e = rw e
 
 -- the depth of the row that a valid book hands out is the book's
 pub lent-depth :
-    (b : State) (s side : ℕ) {row : List OrderEntry} {x : LookedUp} → Valid b × (row ≡ rowOf (b .orders)) → x ≡ rowDepth row s side → x ≡ bookDepth (b .orders) s side
+    (b : State) (s side : ℕ) {row : List OrderEntry} {x : LookedUp} → Valid b × (row ≡ lentRow (b .orders)) → x ≡ rowDepth row s side → x ≡ bookDepth (b .orders) s side
 lent-depth b s side (v, e) h = h ∙ ap (λ (r : List OrderEntry). rowDepth r s side) e ∙ row-depth-book b s side v
 
 -- the two lookups of a depth are one, so they do not differ

@@ -6,13 +6,13 @@ ghost use lib.ListN.{length, drop};
 ghost use Rattle.rules.specs.Sizes.{recordSpace};
 ghost use Rattle.rules.specs.Valid.{Valid};
 ghost use Rattle.lines.specs.Puts.{Within};
-ghost use Rattle.lookups.specs.Lookups.{rowOf};
+ghost use Rattle.lookups.specs.Lookups.{lentRow};
 ghost use Rattle.streams.specs.Rests.{Lies, restOf, More};
 ghost use Rattle.turns.specs.Turns.{Tells};
-ghost use Rattle.calls.specs.Items.{neededOf, itemOf, lentOf};
+ghost use Rattle.calls.specs.Items.{itemNeeded, itemOf, lentOf};
 ghost use Rattle.calls.specs.Listings.{liveLine, shutLine, depthLine, isBest, liveLines, shutLines, depthLines, lookupText, cutLine};
 ghost use Rattle.calls.specs.Printed.{Listed};
-ghost use Rattle.calls.specs.Calls.{Ended};
+ghost use Rattle.calls.specs.Calls.{ItemsEnded};
 use book::Book;
 use depths::depth_in;
 use libc::STDOUT_FILENO;
@@ -39,7 +39,7 @@ const LINE: usize = 86;
 
 // How many bytes of the rest of the input must be there to judge its first item: the four of its lengths, then the frame.
 fn needed(rest: &[u8]) -> usize
-    ensures { λ r. ⌜ r ≡ neededOf (now (rest .entry)) ⌝ }
+    ensures { λ r. ⌜ r ≡ itemNeeded (now (rest .entry)) ⌝ }
 {
     if rest.len() < 4 {
         return 4;
@@ -165,7 +165,7 @@ fn put_depth(
     out: &mut [u8],
     used: usize,
 ) -> usize
-    requires { ⌜ Valid (book .state) × (row ≡ rowOf (book .state .orders)) ⌝ }
+    requires { ⌜ Valid (book .state) × (row ≡ lentRow (book .state .orders)) ⌝ }
     requires { ⌜ used + 86 ≤ length (now out) ⌝ }
     ensures { λ m. ⌜ Within 86 (now (out .entry)) (now (out .exit)) used m (depthLine (book .state) series side) ⌝ }
 {
@@ -270,7 +270,7 @@ fn tell_end(book: Book, r: Rest, block: &[u8], out: &mut [u8], used: usize) -> u
     requires { ⌜ Valid (book .state) ⌝ }
     requires { ⌜ Lies r (now block) × (itemOf (restOf (now block) r) ≡ 0) ⌝ }
     requires { ⌜ used + 189526 ≤ length (now out) ⌝ }
-    ensures { λ m. ⌜ Ended book r used (now (block .entry)) (now (out .entry)) (now (out .exit)) m ⌝ }
+    ensures { λ m. ⌜ ItemsEnded book r used (now (block .entry)) (now (out .entry)) (now (out .exit)) m ⌝ }
 {
     let left = r.end - r.at;
     let m = put_cut(left, out, used);

@@ -22,7 +22,7 @@ use Rattle.rules.specs.Nets.{stands, priceWith, priceStep, priceOf, lot, lotAt,
 use Rattle.rules.specs.Lookups.{LookedUp, values, refusedBy, depthTells, depthOf, noOrderEntry, asOrder, wellFormed, wellFormedAt, rowDepth}
 use Rattle.rules.specs.Valid.{FitOrder, Valid}
 use Rattle.nets.specs.Best.{Priced}
-use Rattle.lookups.specs.Lookups.{bookDepth, entryOf, rowAt, rowOf}
+use Rattle.lookups.specs.Lookups.{bookDepth, entryOf, lentAt, lentRow}
 use Rattle.depths.specs.declared.RowOrders.{RowOrders}
 
 -- an order entry as a leg order; an empty one, whatever its other fields, as the empty leg order
@@ -254,28 +254,28 @@ entry-formed o f p =
     ∙ pick-false _ _ _ (ne-eqb (o .price) 0 (λ z. omega arith))
     ∙ le-leb (o .price) 99_999 (f .price))
 
-row-like : (os : List LegOrder) → length os ≡ 32 → (i : ℕ) → Alike (getD (map asOrder (rowOf os)) i noOrder) (getD os i noOrder)
-unfolding rowOf entryOf
+row-like : (os : List LegOrder) → length os ≡ 32 → (i : ℕ) → Alike (getD (map asOrder (lentRow os)) i noOrder) (getD os i noOrder)
+unfolding lentRow entryOf
 row-like os l i =
-    rw (List·getD-map asOrder (table (rowAt os) 32) i noOrderEntry)
-    (⊎-elim (λ h. rw (table-slot (rowAt os) noOrderEntry 32 i h) (fields refl refl refl refl))
-    (λ h. let m : length (table (rowAt os) 32) ≤ i = omega (arith, length-table (rowAt os) 32) in
+    rw (List·getD-map asOrder (table (lentAt os) 32) i noOrderEntry)
+    (⊎-elim (λ h. rw (table-slot (lentAt os) noOrderEntry 32 i h) (fields refl refl refl refl))
+    (λ h. let m : length (table (lentAt os) 32) ≤ i = omega (arith, length-table (lentAt os) 32) in
     let k : length os ≤ i = omega arith in
-    rw (List·getD-eq-default (table (rowAt os) 32) noOrderEntry m, List·getD-eq-default os noOrder k) (same refl))
+    rw (List·getD-eq-default (table (lentAt os) 32) noOrderEntry m, List·getD-eq-default os noOrder k) (same refl))
     (lt-or-le i 32))
 
 -- the depth of the table's row is the table's
-row-agrees : (os : List LegOrder) (s side : ℕ) → length os ≡ 32 → All FitOrder os → Priced os → rowDepth (rowOf os) s side ≡ bookDepth os s side
-unfolding rowDepth bookDepth rowOf
+row-agrees : (os : List LegOrder) (s side : ℕ) → length os ≡ 32 → All FitOrder os → Priced os → rowDepth (lentRow os) s side ≡ bookDepth os s side
+unfolding rowDepth bookDepth lentRow
 row-agrees os s side l f p =
-    let n : length (table (rowAt os) 32) ≡ 32 = length-table (rowAt os) 32 in
-    let fine : allN (wellFormedAt (table (rowAt os) 32)) (length (table (rowAt os) 32)) ≡ true =
-    all-every _ _ (λ i h. ap wellFormed (table-slot (rowAt os) noOrderEntry 32 i (omega arith)) ∙ entry-formed (getD os i noOrder) (all-at noOrder (no-order-sound .fit) f i) (p .at i)) in
+    let n : length (table (lentAt os) 32) ≡ 32 = length-table (lentAt os) 32 in
+    let fine : allN (wellFormedAt (table (lentAt os) 32)) (length (table (lentAt os) 32)) ≡ true =
+    all-every _ _ (λ i h. ap wellFormed (table-slot (lentAt os) noOrderEntry 32 i (omega arith)) ∙ entry-formed (getD os i noOrder) (all-at noOrder (no-order-sound .fit) f i) (p .at i)) in
     ap (λ (x : LookedUp). pick (ltb 31 s) (refusedBy 3) (pick (ltb 1 side) (refusedBy 3) x))
-    (pick-false _ _ _ (le-ltb 32 (length (table (rowAt os) 32)) (omega arith)) ∙ pick-true _ _ _ fine ∙ depth-alike _ _ s side (row-like os l))
+    (pick-false _ _ _ (le-ltb 32 (length (table (lentAt os) 32)) (omega arith)) ∙ pick-true _ _ _ fine ∙ depth-alike _ _ s side (row-like os l))
 
 -- the row that a valid book hands out: the depth that is read from it is the book's own
-pub row-depth-book : (b : State) (s side : ℕ) → Valid b → rowDepth (rowOf (b .orders)) s side ≡ bookDepth (b .orders) s side
+pub row-depth-book : (b : State) (s side : ℕ) → Valid b → rowDepth (lentRow (b .orders)) s side ≡ bookDepth (b .orders) s side
 row-depth-book b s side v =
     let w = v .sound in
     row-agrees (b .orders) s side (w .orderRows) (w .orders) (record { at = λ i l. w .liveOrder i l .price })

@@ -40,12 +40,12 @@ unfoldable pub entryOf : LegOrder → OrderEntry
 entryOf o = record { series = o .series; side = o .side; contracts = o .contracts; price = o .price }
 
 -- .. that at slot i
-abbrev pub rowAt : List LegOrder → ℕ → OrderEntry
-rowAt os i = entryOf (getD os i noOrder)
+abbrev pub lentAt : List LegOrder → ℕ → OrderEntry
+lentAt os i = entryOf (getD os i noOrder)
 
 -- the leg orders as a row of order entries
-unfoldable pub rowOf : List LegOrder → List OrderEntry
-rowOf os = table (rowAt os) tableRows
+unfoldable pub lentRow : List LegOrder → List OrderEntry
+lentRow os = table (lentAt os) tableRows
 
 -- laws
 
@@ -121,17 +121,17 @@ unfolding shutLegs shutTells undefined lowestOf shutSet
 shut-legs b k x h e = rw (e, ← size-ones (shutSet b k) (minus-lt _ _)) (search tests)
 
 -- the row by the slots that are stored
-unfoldable pub rowN : List LegOrder → ℕ → List OrderEntry
-rowN os i = seam (rowAt os) (replicate 32 noOrderEntry) i
+unfoldable pub lentN : List LegOrder → ℕ → List OrderEntry
+lentN os i = seam (lentAt os) (replicate 32 noOrderEntry) i
 
-pub row-first : (os : List LegOrder) → replicate 32 noOrderEntry ≡ rowN os 0
-unfolding rowN
-row-first os = sym (seam-first (rowAt os) (replicate 32 noOrderEntry))
+pub row-first : (os : List LegOrder) → replicate 32 noOrderEntry ≡ lentN os 0
+unfolding lentN
+row-first os = sym (seam-first (lentAt os) (replicate 32 noOrderEntry))
 
-pub row-next : (os : List LegOrder) {i : ℕ} {row : List OrderEntry} {e : OrderEntry} → i < 32 → e ≡ rowAt os i → row ≡ rowN os i → set row i e ≡ rowN os (i + 1)
-unfolding rowN
-row-next os {i} h e g = rw (e, g) (seam-next (rowAt os) (replicate 32 noOrderEntry) noOrderEntry i h)
+pub row-next : (os : List LegOrder) {i : ℕ} {row : List OrderEntry} {e : OrderEntry} → i < 32 → e ≡ lentAt os i → row ≡ lentN os i → set row i e ≡ lentN os (i + 1)
+unfolding lentN
+row-next os {i} h e g = rw (e, g) (seam-next (lentAt os) (replicate 32 noOrderEntry) noOrderEntry i h)
 
-pub row-last : (os : List LegOrder) {i : ℕ} {row : List OrderEntry} → i ≡ 32 → row ≡ rowN os i → row ≡ rowOf os
-unfolding rowN rowOf
-row-last os {i} h g = rw (g, h) (seam-last (rowAt os) (replicate 32 noOrderEntry) 32 (omega arith))
+pub row-last : (os : List LegOrder) {i : ℕ} {row : List OrderEntry} → i ≡ 32 → row ≡ lentN os i → row ≡ lentRow os
+unfolding lentN lentRow
+row-last os {i} h g = rw (g, h) (seam-last (lentAt os) (replicate 32 noOrderEntry) 32 (omega arith))

@@ -9,7 +9,7 @@ ghost use Rattle.rules.specs.Strategies.{shutSet};
 ghost use Rattle.rules.specs.Lookups.{liveQuantity, shutLegs, depthTells, shutTells};
 ghost use Rattle.rules.specs.Valid.{FitOrder, Valid};
 ghost use Rattle.nets.specs.Best.{Priced};
-ghost use Rattle.lookups.specs.Lookups.{bookDepth, entryOf, rowOf};
+ghost use Rattle.lookups.specs.Lookups.{bookDepth, entryOf, lentRow};
 use nets::best_of;
 use rules::Depth;
 use rules::LegOrder;
@@ -98,7 +98,7 @@ const NO_ENTRY: OrderEntry = OrderEntry {
 
 // The leg orders as a row of order entries.
 pub fn row_of(os: [LegOrder; State::LEG_ORDERS]) -> [OrderEntry; State::LEG_ORDERS]
-    ensures { λ r. ⌜ r ≡ rowOf os ⌝ }
+    ensures { λ r. ⌜ r ≡ lentRow os ⌝ }
 {
     let mut row = [NO_ENTRY; State::LEG_ORDERS];
     let mut i: usize = 0;

@@ -21,7 +21,7 @@ use Rattle.rules.specs.Events.{live, liveOrder, cancelEntryOf, cancelOrd
 use Rattle.rules.specs.Refusals.{isOrderOf, isLegOrderOf, orderAtIs, legOrderAtIs, notFound, startedBy, isStarter, causes}
 use Rattle.rules.specs.Step.{accept}
 use Rattle.rules.specs.Valid.{Sound}
-use Rattle.rules.specs.Sentences.{Accepted, OrderCancelled, LegOrderEnded, CancelSentence}
+use Rattle.rules.specs.Sentences.{AcceptedEvent, OrderCancelled, LegOrderEnded, CancelSentence}
 use Rattle.rules.proofs.Tables.{positive}
 use Rattle.rules.proofs.Turns.{then-still}
 use Rattle.rules.proofs.DayEnd.{each-still}
@@ -225,7 +225,7 @@ number-strategies n b =
     (each-keeps P (cancelEntryOf n) 32 (λ i _ c h. pick-all (λ (m : Moved). P (m .state)) _ (cancel-tables c i ∙ h) h) b refl)
 
 -- THE SENTENCE
-pub cancel-sentence : (b : State) (e : Cancel) → Accepted b (E.Cancel e) → CancelSentence b (e .member) (e .number) (accept b (E.Cancel e))
+pub cancel-sentence : (b : State) (e : Cancel) → AcceptedEvent b (E.Cancel e) → CancelSentence b (e .member) (e .number) (accept b (E.Cancel e))
 unfolding accept causes isStarter
 cancel-sentence b e a =
     let s : Sound b = a .valid .sound in

@@ -29,7 +29,7 @@ use Rattle.rules.specs.Events.{onClock}
 use Rattle.rules.specs.Refusals.{causes}
 use Rattle.rules.specs.Step.{accept}
 use Rattle.rules.specs.Valid.{Starter, Valid}
-use Rattle.rules.specs.Sentences.{Accepted, Runs, IsKind, UnpricedOf, HadTurn, endedRecord, ClockSentence}
+use Rattle.rules.specs.Sentences.{AcceptedEvent, Runs, IsKind, UnpricedOf, HadTurn, auctionEnded, ClockSentence}
 use Rattle.rules.proofs.Tables.{positive, mem-left, mem-right}
 use Rattle.rules.proofs.Shrinks.{Shrinks, shrinks-trans, shrinks-refl}
 use Rattle.rules.proofs.Control.{laterPass-kept, endUnfilled-kept, endAuction-kept, endDue-kept, shrinks-kept}
@@ -287,7 +287,7 @@ pass-noend way legs a b = pass-kinds NoEnd (λ z. omega arith) (λ z. omega arit
 
 -- a record 5 is of an auction that is due
 abbrev OfDue : State → Record → Type 0
-OfDue b r = IsKind 5 r → (due b (r .place) ≡ true) × (r ≡ endedRecord b (r .place))
+OfDue b r = IsKind 5 r → (due b (r .place) ≡ true) × (r ≡ auctionEnded b (r .place))
 
 module _ (b c : State) (j : ℕ) (e : Ended b j c) (t : due c j ≡ true) where
   abbrev others : State
@@ -303,7 +303,7 @@ module _ (b c : State) (j : ℕ) (e : Ended b j c) (t : due c j ≡ true) where
   due-b : due b j ≡ true
   due-b = sym (due-same b c j (e .ahead j (omega arith)) (e .shrinks .clock) (e .shrinks .timer)) ∙ t
 
-  its-record : close j cancelled .records ≡ endedRecord b j ∷ []
+  its-record : close j cancelled .records ≡ auctionEnded b j ∷ []
   unfolding close
   its-record =
       let o : Only j c others = passed-only j c (e .valid) due-running in
@@ -323,7 +323,7 @@ module _ (b c : State) (j : ℕ) (e : Ended b j c) (t : due c j ≡ true) where
       (all-append (each-all (OfDue b) (cancelLapsed j) (λ i d. pick-all P _ (pick-all P _ all-nil (all-cons (λ k. absurd (omega arith)) all-nil)) all-nil) 32 others)
       (rw its-record (all-cons (λ _. (due-b, refl)) all-nil))))
 
-  auction-five : List·Memᴰ (endedRecord b j) (endAuction j c .records)
+  auction-five : List·Memᴰ (auctionEnded b j) (endAuction j c .records)
   unfolding endAuction endUnfilled and-then
   auction-five =
       mem-right (starterPass j c .records) _ (mem-right (each (laterPass j (strategyAt c j .starter)) 32 (starterPass j c .state) .records) _
@@ -337,7 +337,7 @@ module _ (b : State) (v : Valid b) where
       let c : State = each endDue n b .state in
       all-append (fives-only n) (pick-by (λ (m : Moved). All (OfDue b) (m .records)) (due c n) (λ t. auction-fives b c n (all-ended b v n) t) (λ _. all-nil))
 
-  fives-each : (n k : ℕ) → k < n → due b k ≡ true → List·Memᴰ (endedRecord b k) (each endDue n b .records)
+  fives-each : (n k : ℕ) → k < n → due b k ≡ true → List·Memᴰ (auctionEnded b k) (each endDue n b .records)
   unfolding each and-then endDue
   fives-each zero k l d = absurd (omega arith)
   fives-each (suc n) k l d =
@@ -368,7 +368,7 @@ unfolding due
 none-due b k e = pick-false _ _ _ (runs-not b k e)
 
 -- THE SENTENCE
-pub clock-sentence : (b : State) (e : Clock) → Accepted b (E.Clock e) → ClockSentence b (e .time) (accept b (E.Clock e))
+pub clock-sentence : (b : State) (e : Clock) → AcceptedEvent b (E.Clock e) → ClockSentence b (e .time) (accept b (E.Clock e))
 unfolding accept onClock causes withClock
 clock-sentence b e a =
     let t : ℕ = e .time in

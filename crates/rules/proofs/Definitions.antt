@@ -25,7 +25,7 @@ use Rattle.rules.specs.Given.{legsGiven, strategyGiven}
 use Rattle.rules.specs.Refusals.{causes, illFormed, strategiesFull}
 use Rattle.rules.specs.Step.{accept, valueOf}
 use Rattle.rules.specs.Valid.{Sound}
-use Rattle.rules.specs.Sentences.{Accepted, Any, Placed, StrategySentence}
+use Rattle.rules.specs.Sentences.{AcceptedEvent, Any, Placed, StrategySentence}
 use Rattle.rules.proofs.Tables.{Stands, stands-more, all-within}
 use Rattle.rules.proofs.Strategies.{Definition, divisor-divides, lowest, lowest-at, place-same, rows, rows-are, rows-le, length-is, padded-at, defined-fit}
 use Rattle.rules.proofs.Ratios.{once, Padded, given-padded}
@@ -215,7 +215,7 @@ unfolding define added withStrategies
 define-tables t b = pick-all (λ (c : State). (c .entries ≡ b .entries) × (c .orders ≡ b .orders)) _ (refl, refl) (refl, refl)
 
 -- THE SENTENCE
-pub strategy-sentence : (b : State) (e : GivenStrategy) → Accepted b (E.Strategy e) → StrategySentence b e (valueOf b (E.Strategy e)) (accept b (E.Strategy e) .state)
+pub strategy-sentence : (b : State) (e : GivenStrategy) → AcceptedEvent b (E.Strategy e) → StrategySentence b e (valueOf b (E.Strategy e)) (accept b (E.Strategy e) .state)
 unfolding accept valueOf causes strategyGiven strategiesFull
 strategy-sentence b e a =
     let x = clear 5 (illFormed e) _ (omega arith) (a .clear) in

@@ -25,7 +25,7 @@ use Rattle.rules.specs.Auctions.{running, putAuction, close}
 use Rattle.rules.specs.Events.{cancelNumber, closeRunning, lowestLive, cancelLowest, restart, onDayEnd}
 use Rattle.rules.specs.Step.{accept}
 use Rattle.rules.specs.Valid.{Sound}
-use Rattle.rules.specs.Sentences.{Accepted, Runs, IsKind, endedRecord, cancelledRecord, cancelledLegRecord, DayEndSentence}
+use Rattle.rules.specs.Sentences.{AcceptedEvent, Runs, IsKind, auctionEnded, cancelledRecord, cancelledLegRecord, DayEndSentence}
 use Rattle.rules.proofs.Tables.{positive, mem-left, mem-right}
 use Rattle.rules.proofs.Shrinks.{Shrinks, shrinks-refl, shrinks-trans, auction-shrinks, close-shrinks, cancel-shrinks, cancelOrder-shrinks}
 use Rattle.rules.proofs.Entering.{sound-auctions, sound-shrinks, auctions-same}
@@ -43,8 +43,8 @@ record Closed (b : State) (n : ℕ) (rs : List Record) (c : State) : Type 0 wher
   ahead : (j : ℕ) → n ≤ j → strategyAt c j ≡ strategyAt b j
   entries : c .entries ≡ b .entries
   orders : c .orders ≡ b .orders
-  each-one : (k : ℕ) → k < n → Runs b k → List·Memᴰ (endedRecord b k) rs
-  only : All (λ (r : Record). Runs b (r .place) × (r ≡ endedRecord b (r .place))) rs
+  each-one : (k : ℕ) → k < n → Runs b k → List·Memᴰ (auctionEnded b k) rs
+  only : All (λ (r : Record). Runs b (r .place) × (r ≡ auctionEnded b (r .place))) rs
   low : All (λ (r : Record). r .place < n) rs
   order : Sorted (λ (r s : Record). r .place < s .place) rs
 
@@ -66,7 +66,7 @@ module _ (b : State) (n : ℕ) (rs : List Record) (c : State) (p : Closed b n rs
     order = p .order;
   })
 
-  closed-one : Runs b n → Closed b (suc n) (rs ++ (endedRecord b n ∷ [])) (close n c .state)
+  closed-one : Runs b n → Closed b (suc n) (rs ++ (auctionEnded b n ∷ [])) (close n c .state)
   unfolding close putAuction withStrategies
   closed-one r = record {
     shrinks = shrinks-trans (p .shrinks) (close-shrinks c n);
@@ -74,7 +74,7 @@ module _ (b : State) (n : ℕ) (rs : List Record) (c : State) (p : Closed b n rs
     ahead = λ j l. put-other c n 0 0 false j (λ q. omega arith) ∙ p .ahead j (omega arith);
     entries = p .entries;
     orders = p .orders;
-    each-one = λ k l q. ⊎-elim (λ (e : k ≡ n). rw e (mem-right rs (endedRecord b n ∷ []) (List·Memᴰ·head refl))) (λ (m : k < n). mem-left rs (endedRecord b n ∷ []) (p .each-one k m q)) (below l);
+    each-one = λ k l q. ⊎-elim (λ (e : k ≡ n). rw e (mem-right rs (auctionEnded b n ∷ []) (List·Memᴰ·head refl))) (λ (m : k < n). mem-left rs (auctionEnded b n ∷ []) (p .each-one k m q)) (below l);
     only = all-append (p .only) (all-cons (r, refl) all-nil);
     low = all-append (all-map (λ r h. omega arith) (p .low)) (all-cons (omega arith) all-nil);
     order = sorted-append (p .order) (sort-cons all-nil sort-nil) (all-map (λ r h. all-cons h all-nil) (p .low));
@@ -88,7 +88,7 @@ module _ (b : State) (n : ℕ) (rs : List Record) (c : State) (p : Closed b n rs
       (λ r. rw (line e) (closed-one (positive _ (not-true _ (rw e at r)))))
       (λ r. closed-not (eqb-true _ _ (not-false _ (rw e at r))))
     where
-      line : strategyAt c n ≡ strategyAt b n → close n c .records ≡ endedRecord b n ∷ []
+      line : strategyAt c n ≡ strategyAt b n → close n c .records ≡ auctionEnded b n ∷ []
       line e = rw e
 
 closed-each : (b : State) → Sound b → (n : ℕ) → Closed b n (each closeRunning n b .records) (each closeRunning n b .state)
@@ -238,7 +238,7 @@ emptying-each b v zero = record { shrinks = shrinks-refl b; sound = v; entry = �
 emptying-each b v (suc n) = lowest-next b _ _ (emptying-each b v n) n
 
 -- THE SENTENCE
-pub day-end-sentence : (b : State) (e : DayEnd) → Accepted b (E.DayEnd e) → DayEndSentence b (e .timer) (accept b (E.DayEnd e))
+pub day-end-sentence : (b : State) (e : DayEnd) → AcceptedEvent b (E.DayEnd e) → DayEndSentence b (e .timer) (accept b (E.DayEnd e))
 unfolding accept onDayEnd and-then restart
 day-end-sentence b e a =
     let v : Sound b = a .valid .sound in

@@ -30,7 +30,7 @@ use Rattle.rules.specs.Events.{liveOrder, enterOrder, freeOrderSlot, bes
 use Rattle.rules.specs.Given.{legOrderGiven}
 use Rattle.rules.specs.Step.{accept}
 use Rattle.rules.specs.Valid.{Sound}
-use Rattle.rules.specs.Sentences.{Accepted, Open, GetsPass, HadPass, Met, AheadOrder, Trades, no-trade, and-trade, LegOrderSentence}
+use Rattle.rules.specs.Sentences.{AcceptedEvent, Open, GetsPass, HadPass, Met, AheadOrder, Trades, no-trade, and-trade, LegOrderSentence}
 use Rattle.rules.proofs.Tables.{positive, behind-slot}
 use Rattle.rules.proofs.Shrinks.{Shrinks, shrinks-refl, shrinks-trans}
 use Rattle.rules.proofs.Control.{pass-kept, shrinks-kept}
@@ -438,7 +438,7 @@ module _ (b : State) (v : Sound b) (a : ℕ) where
       }
 
 -- THE SENTENCE
-pub leg-order-sentence : (b : State) (e : GivenLegOrder) → Accepted b (E.LegOrder e) →
+pub leg-order-sentence : (b : State) (e : GivenLegOrder) → AcceptedEvent b (E.LegOrder e) →
     let o : LegOrder = legOrderGiven b e in
     let a : ℕ = freeOrderSlot b in
     LegOrderSentence (enterOrder o b) a (tradeAll a (enterOrder o b)) (accept b (E.LegOrder e) .state)

@@ -27,7 +27,7 @@ use Rattle.rules.specs.Auctions.{bestSlot, crossed, matchOnce, matchAll,
 use Rattle.rules.specs.Events.{shut, reopen, onSeries}
 use Rattle.rules.specs.Step.{accept}
 use Rattle.rules.specs.Valid.{Sound}
-use Rattle.rules.specs.Sentences.{Accepted, Open, Beside, AheadNumbered, NonePassed, matched, Matches, no-match, and-match, OpenSentence, SeriesSentence}
+use Rattle.rules.specs.Sentences.{AcceptedEvent, Open, Beside, AheadNumbered, NonePassed, matchRecords, Matches, no-match, and-match, OpenSentence, SeriesSentence}
 use Rattle.rules.proofs.Shrinks.{SameEntry, Shrinks, shrinks-trans}
 use Rattle.rules.proofs.Entering.{sound-opened}
 use Rattle.rules.proofs.Control.{reopen-kept, shrinks-kept, Crossed, crossed-best, buy-proper, sell-proper}
@@ -165,12 +165,12 @@ module _ (k n : ℕ) (b : State) (v : Sound b) where
           }
 
 -- THE RECORDS
-whole-records : (b : State) (i h level q : ℕ) → 0 < q → wholeFill b i h level q .records ≡ matched b i h level q
+whole-records : (b : State) (i h level q : ℕ) → 0 < q → wholeFill b i h level q .records ≡ matchRecords b i h level q
 unfolding wholeFill
 whole-records b i h level q l =
-    pick-by (λ (m : Moved). m .records ≡ matched b i h level q) (eqb q 0) (λ z. absurd (omega (arith, eqb-true q 0 z))) (λ _. refl)
+    pick-by (λ (m : Moved). m .records ≡ matchRecords b i h level q) (eqb q 0) (λ z. absurd (omega (arith, eqb-true q 0 z))) (λ _. refl)
 
-matched-same : (b c : State) → Quiet b c → (i h level q : ℕ) → matched c i h level q ≡ matched b i h level q
+matched-same : (b c : State) → Quiet b c → (i h level q : ℕ) → matchRecords c i h level q ≡ matchRecords b i h level q
 matched-same b c p i h level q =
     let t : strategyAt c (entryAt c i .strategy) ≡ strategyAt b (entryAt b i .strategy) = ap (λ (x : ℕ). strategyAt c x) (p .shrinks .entry i .strategy) ∙ row (entryAt b i .strategy) in
     rw (
@@ -199,8 +199,8 @@ match-records b c p v k n rs ms = by (crossed c (bestSlot c k 0) (bestSlot c k 1
         let some : 0 < q = omega (arith, w .mine, w .its) in
         let si = p .shrinks .entry i in
         let sh = p .shrinks .entry h in
-        let r : matchOnce k n c .records ≡ matched b i h (entryAt b i .level) q =
-        ap (λ (m : Moved). m .records) (match-is k n c v e) ∙ whole-records c i h (entryAt c i .level) q some ∙ matched-same b c p i h (entryAt c i .level) q ∙ ap (λ (l : ℕ). matched b i h l q) (si .level) in
+        let r : matchOnce k n c .records ≡ matchRecords b i h (entryAt b i .level) q =
+        ap (λ (m : Moved). m .records) (match-is k n c v e) ∙ whole-records c i h (entryAt c i .level) q some ∙ matched-same b c p i h (entryAt c i .level) q ∙ ap (λ (l : ℕ). matchRecords b i h l q) (si .level) in
         rw r (and-match ms i h q (omega (arith, w .number, si .number, sh .number)) (sym (sh .strategy) ∙ w .strategy ∙ si .strategy) (λ z. w .sides (sh .side ∙ z ∙ sym (si .side)))
         (rw (sh .side, sh .level, si .level) at (w .limit)) some)
 
@@ -308,7 +308,7 @@ unfolding withOpened
 reopen-opened s b rows = reopen-kept shrinks-kept s b rows .opened
 
 -- THE SENTENCE
-pub series-sentence : (b : State) (e : Series) → Accepted b (E.Series e) → SeriesSentence b (e .series) (e .state) (accept b (E.Series e))
+pub series-sentence : (b : State) (e : Series) → AcceptedEvent b (E.Series e) → SeriesSentence b (e .series) (e .state) (accept b (E.Series e))
 unfolding accept onSeries reopen and-then
 series-sentence b e a =
     let s : ℕ = e .series in

@@ -21,7 +21,7 @@ use Rattle.rules.specs.Events.{live, liveOrder, enter, enterOrder, onSwe
 use Rattle.rules.specs.Given.{strategyGiven, orderGiven, sweepGiven, legOrderGiven}
 use Rattle.rules.specs.Step.{accept}
 use Rattle.rules.specs.Valid.{Valid}
-use Rattle.rules.specs.Sentences.{Accepted, SweepOf, Alike, OneSweep}
+use Rattle.rules.specs.Sentences.{AcceptedEvent, SweepOf, Alike, OneSweep}
 use Rattle.rules.proofs.Tables.{behind-length, behind-ordered}
 use Rattle.rules.proofs.Shrinks.{Shrinks, cancel-shrinks, answer-shrinks}
 use Rattle.rules.proofs.Entering.{fresh-dead, Entering}
@@ -90,7 +90,7 @@ series-one s state b m o =
 pub one-sweep-fresh : (timer : ℕ) → OneSweep (fresh timer)
 one-sweep-fresh timer i j l p = absurd (omega (arith, fresh-dead timer i))
 
-pub one-sweep-kept : (b : State) (e : Event) → Accepted b e → OneSweep b → OneSweep (accept b e .state)
+pub one-sweep-kept : (b : State) (e : Event) → AcceptedEvent b e → OneSweep b → OneSweep (accept b e .state)
 unfolding accept onDayEnd and-then restart withClock sweepGiven
 one-sweep-kept b (E.Strategy e) a o = one-same b (define (strategyGiven e) b) (define-entries (strategyGiven e) b) o
 one-sweep-kept b (E.Order e) a o =

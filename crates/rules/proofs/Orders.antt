@@ -29,7 +29,7 @@ use Rattle.rules.specs.Events.{enter, freeSlot, restOrCancel, mayStart, 
 use Rattle.rules.specs.Given.{orderGiven}
 use Rattle.rules.specs.Step.{accept}
 use Rattle.rules.specs.Valid.{Sound}
-use Rattle.rules.specs.Sentences.{Accepted, Runs, Open, MeetsNone, LegsMeetNone, AheadShared, CancelsIt, StartsOne, a-buy, a-sell, Begins, PassesIt, OrderSentence}
+use Rattle.rules.specs.Sentences.{AcceptedEvent, Runs, Open, MeetsNone, LegsMeetNone, AheadShared, CancelsIt, StartsOne, a-buy, a-sell, Begins, PassesIt, OrderSentence}
 use Rattle.rules.proofs.Tables.{positive}
 use Rattle.rules.proofs.Shrinks.{Shrinks, shrinks-refl, cancel-shrinks}
 use Rattle.rules.proofs.Entering.{fit-entry-at}
@@ -204,7 +204,7 @@ module _ (b : State) (a : ℕ) (x : Arrived b a) where
   }
 
 -- THE SENTENCE
-pub order-sentence : (b : State) (e : GivenOrder) → Accepted b (E.Order e) → OrderSentence (enter (orderGiven b e) b) (freeSlot b) (accept b (E.Order e))
+pub order-sentence : (b : State) (e : GivenOrder) → AcceptedEvent b (E.Order e) → OrderSentence (enter (orderGiven b e) b) (freeSlot b) (accept b (E.Order e))
 unfolding accept onOrder
 order-sentence b e a =
     arrive-sentence (enter (orderGiven b e) b) (freeSlot b) (enter-arrived b (orderGiven b e) (a .valid) (order-clear b e (a .valid .sound) (a .fit) (a .clear)))

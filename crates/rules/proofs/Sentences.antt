@@ -17,7 +17,7 @@ use Rattle.rules.specs.Moves.{Moved}
 use Rattle.rules.specs.Refusals.{causes, readCauses, tableOf, refusal}
 use Rattle.rules.specs.Step.{Outcome, accept, refused, perform, refuseOrPerform, step}
 use Rattle.rules.specs.Fits.{FitReading}
-use Rattle.rules.specs.Sentences.{Accepted, Sentence, Reached, OneSweep}
+use Rattle.rules.specs.Sentences.{AcceptedEvent, Sentence, ReachedState, OneSweep}
 use Rattle.rules.proofs.Ranges.{reading-fit}
 use Rattle.rules.proofs.Validity.{clear, valid-fresh, valid-step}
 use Rattle.rules.proofs.Definitions.{strategy-sentence}
@@ -31,7 +31,7 @@ use Rattle.rules.proofs.Clocks.{clock-sentence}
 use Rattle.rules.proofs.LastRecords.{day-end-sentence}
 
 -- EACH EVENT
-pub event-sentence : (b : State) (e : Event) → Accepted b e → OneSweep b → Sentence b e
+pub event-sentence : (b : State) (e : Event) → AcceptedEvent b e → OneSweep b → Sentence b e
 event-sentence b (E.Strategy e) a o = strategy-sentence b e a
 event-sentence b (E.Order e) a o = order-sentence b e a
 event-sentence b (E.Sweep e) a o = sweep-sentence b e a o
@@ -42,26 +42,26 @@ event-sentence b (E.Clock e) a o = clock-sentence b e a
 event-sentence b (E.DayEnd e) a o = day-end-sentence b e a
 
 -- EACH STATE
-pub reached-fresh : (timer : ℕ) → 1 ≤ timer → timer ≤ 5000 → Reached (fresh timer)
+pub reached-fresh : (timer : ℕ) → 1 ≤ timer → timer ≤ 5000 → ReachedState (fresh timer)
 reached-fresh timer h m = record { valid = valid-fresh timer h m; sweeps = one-sweep-fresh timer }
 
 -- a reading that nothing refuses
-no-refusal : (b : State) (r : Reading) (space : ℕ) (e : Event) → r ≡ R.Event e → Reached b → FitReading r → refusal b r space ≡ 0 → Accepted b e
+no-refusal : (b : State) (r : Reading) (space : ℕ) (e : Event) → r ≡ R.Event e → ReachedState b → FitReading r → refusal b r space ≡ 0 → AcceptedEvent b e
 unfolding refusal tableOf readCauses
 no-refusal b r space e q h f z =
     record { valid = h .valid; fit = rw q at f; clear = clear 1 (ltb space 15_360) (causes b e) (omega arith) (rw q at z) .1 }
 
-sweeps-perform : (b : State) (r : Reading) (space : ℕ) → Reached b → FitReading r → refusal b r space ≡ 0 → OneSweep (perform b r .moved .state)
+sweeps-perform : (b : State) (r : Reading) (space : ℕ) → ReachedState b → FitReading r → refusal b r space ≡ 0 → OneSweep (perform b r .moved .state)
 unfolding perform refused
 sweeps-perform b (R.Refused n) space h f z = h .sweeps
 sweeps-perform b (R.Event e) space h f z = one-sweep-kept b e (no-refusal b (R.Event e) space e refl h f z) (h .sweeps)
 
-sweeps-refuseOrPerform : (b : State) (r : Reading) (space : ℕ) → Reached b → FitReading r → OneSweep (refuseOrPerform b r space .moved .state)
+sweeps-refuseOrPerform : (b : State) (r : Reading) (space : ℕ) → ReachedState b → FitReading r → OneSweep (refuseOrPerform b r space .moved .state)
 unfolding refuseOrPerform refused
 sweeps-refuseOrPerform b r space h f =
     pick-by (λ (o : Outcome). OneSweep (o .moved .state)) (eqb (refusal b r space) 0) (λ z. sweeps-perform b r space h f (eqb-true _ _ z)) (λ _. h .sweeps)
 
-pub reached-step : (b : State) → Reached b → (frame : List ℕ) (space : ℕ) → Reached (step b frame space .moved .state)
+pub reached-step : (b : State) → ReachedState b → (frame : List ℕ) (space : ℕ) → ReachedState (step b frame space .moved .state)
 unfolding step
 reached-step b h frame space = record { valid = valid-step b (h .valid) frame space; sweeps = sweeps-refuseOrPerform b (readOf frame) space h (reading-fit frame) }
 
@@ -70,7 +70,7 @@ pub record Held (b : State) (e : Event) (x : Moved) : Type 0 where
   pub moves : x ≡ accept b e
   pub sentence : Sentence b e
 
-decide-sentence : (b : State) (r : Reading) (space : ℕ) (e : Event) → r ≡ R.Event e → Reached b → FitReading r → refuseOrPerform b r space .answer ≡ 0 → Held b e (refuseOrPerform b r space .moved)
+decide-sentence : (b : State) (r : Reading) (space : ℕ) (e : Event) → r ≡ R.Event e → ReachedState b → FitReading r → refuseOrPerform b r space .answer ≡ 0 → Held b e (refuseOrPerform b r space .moved)
 unfolding refuseOrPerform perform refused
 decide-sentence b r space e q h f =
     pick-by (λ (o : Outcome). o .answer ≡ 0 → Held b e (o .moved)) (eqb (refusal b r space) 0)
@@ -80,6 +80,6 @@ decide-sentence b r space e q h f =
     })
     (λ z n. absurd (eqb-false _ _ z n))
 
-pub step-sentence : (b : State) → Reached b → (frame : List ℕ) (space : ℕ) (e : Event) → readOf frame ≡ R.Event e → step b frame space .answer ≡ 0 → Held b e (step b frame space .moved)
+pub step-sentence : (b : State) → ReachedState b → (frame : List ℕ) (space : ℕ) (e : Event) → readOf frame ≡ R.Event e → step b frame space .answer ≡ 0 → Held b e (step b frame space .moved)
 unfolding step
 step-sentence b h frame space e q = decide-sentence b (readOf frame) space e q h (reading-fit frame)

@@ -26,7 +26,7 @@ use Rattle.rules.specs.Events.{live, enter, freeSlot, sameSweep, sameSwe
 use Rattle.rules.specs.Given.{sweepGiven}
 use Rattle.rules.specs.Step.{accept}
 use Rattle.rules.specs.Valid.{Sound, Starter, Valid}
-use Rattle.rules.specs.Sentences.{Accepted, Answers, SweepOf, Alike, OneSweep, NewSweep, SweepSentence}
+use Rattle.rules.specs.Sentences.{AcceptedEvent, AnswersAuction, SweepOf, Alike, OneSweep, NewSweep, SweepSentence}
 use Rattle.rules.proofs.Tables.{Stands}
 use Rattle.rules.proofs.Shrinks.{same-entry, cancel-shrinks, answer-shrinks}
 use Rattle.rules.proofs.Entering.{pos-live, live-pos, Entering, sound-enter, enter-slot, enter-other, enter-stands, fit-entry-at}
@@ -71,7 +71,7 @@ unfolding answer
 answer-other b k side j n = pick-all (λ (c : State). strategyAt c j ≡ strategyAt b j) _ (put-other b k _ _ _ j n) refl
 
 -- the answer of an entry that has entered, to the auction whose starter stood at slot i
-pub entered-answers : (b : State) (e : Entry) → Valid b → Entering b e → (k : ℕ) → k < 16 → Answers b k (e .side) (answer k (e .side) (enter e b))
+pub entered-answers : (b : State) (e : Entry) → Valid b → Entering b e → (k : ℕ) → k < 16 → AnswersAuction b k (e .side) (answer k (e .side) (enter e b))
 entered-answers b e v n k low = record {
   opposite = λ i p d. answer-marks (enter e b) k (e .side) (omega (arith, sound-enter b e (v .sound) n .strategyRows))
       (ap (λ (x : Entry). x .side) (starter-stays b e v n k i p) ∙ sides-two (entryAt b i .side) (e .side) (fit-entry-at b (v .sound) i .side) (n .fit .side) d);
@@ -81,7 +81,7 @@ entered-answers b e v n k low = record {
 }
 
 -- the answer of an entry of that side that stands in the table already
-pub answers-at : (b : State) → Sound b → (k s : ℕ) → s ≤ 1 → k < 16 → Answers b k s (answer k s b)
+pub answers-at : (b : State) → Sound b → (k s : ℕ) → s ≤ 1 → k < 16 → AnswersAuction b k s (answer k s b)
 answers-at b v k s one low = record {
   opposite = λ i p d. answer-marks b k s (omega (arith, v .strategyRows)) (rw (starter-is b v k i p) (sides-two (entryAt b i .side) s (fit-entry-at b v i .side) one d));
   sameSide = λ i p q. ap (λ (c : State). strategyAt c k) (answer-none b k s (λ z. other-apart s (sym q ∙ (rw (starter-is b v k i p) at z))));
@@ -246,10 +246,10 @@ module _ (b : State) (e : GivenSweep) where
       still-side : (i : ℕ) → Starter b (e .strategy) i → entryAt gone i .side ≡ entryAt b i .side
       still-side i p = cancel-shrinks b old .entry i .side
 
-      d-answers : Answers b (e .strategy) (e .side) d
+      d-answers : AnswersAuction b (e .strategy) (e .side) d
       unfolding sweepGiven
       d-answers =
-          let a : Answers gone (e .strategy) (e .side) d = entered-answers gone new w r (e .strategy) low in
+          let a : AnswersAuction gone (e .strategy) (e .side) d = entered-answers gone new w r (e .strategy) low in
           record {
             opposite = λ i p n. a .opposite i (still-starter i p) (λ q. n (sym (still-side i p) ∙ q));
             sameSide = λ i p q. a .sameSide i (still-starter i p) (still-side i p ∙ q) ∙ strategy-same b gone (cancel-strategies b old) (e .strategy);
@@ -259,7 +259,7 @@ module _ (b : State) (e : GivenSweep) where
       d-other k n = answer-other (enter new gone) (e .strategy) (e .side) k n ∙ enter-same gone new w r k ∙ strategy-same b gone (cancel-strategies b old) k
 
 -- THE SENTENCE
-pub sweep-sentence : (b : State) (e : GivenSweep) → Accepted b (E.Sweep e) → OneSweep b → SweepSentence b e (accept b (E.Sweep e))
+pub sweep-sentence : (b : State) (e : GivenSweep) → AcceptedEvent b (E.Sweep e) → OneSweep b → SweepSentence b e (accept b (E.Sweep e))
 unfolding accept sweepGiven
 sweep-sentence b e a o =
     let v : Valid b = a .valid in

@@ -40,7 +40,7 @@ use Rattle.rules.specs.Fits.{FitEvent}
 use Rattle.rules.specs.Shrinks.{Shrinks}
 
 -- AN ACCEPTED EVENT: the state is valid, the event's fields are in their ranges, and no cause of a refusal applies.
-pub record Accepted (b : State) (e : Event) : Type 0 where
+pub record AcceptedEvent (b : State) (e : Event) : Type 0 where
   pub valid : Valid b
   pub fit : FitEvent e
   pub clear : firstCause (causes b e) ≡ 0
@@ -60,8 +60,8 @@ abbrev pub IsKind : ℕ → Record → Type 0
 IsKind n r = kindNumber (r .kind) ≡ n
 
 -- the record 5 of strategy k's auction, and the records 3 of an entry and of a leg order
-abbrev pub endedRecord : State → ℕ → Record
-endedRecord b k = record { kind = AuctionEnded; number = strategyAt b k .starter; place = k; side = 0; quantity = 0; level = 10_000_000 }
+abbrev pub auctionEnded : State → ℕ → Record
+auctionEnded b k = record { kind = AuctionEnded; number = strategyAt b k .starter; place = k; side = 0; quantity = 0; level = 10_000_000 }
 
 abbrev pub cancelledRecord : Entry → Record
 cancelledRecord e = record { kind = Cancelled; number = e .number; place = 0; side = e .side; quantity = e .units; level = 10_000_000 }
@@ -179,8 +179,8 @@ pub record ClockSentence (b : State) (t : ℕ) (x : Moved) : Type 0 where
   -- "Sweeps, responses and immediates left are cancelled"
   pub dayLeft : (k : ℕ) → Runs b k → strategyAt b k .begun + b .timer ≤ t → (i : ℕ) → entryAt b i .strategy ≡ k → 0 < entryAt (x .state) i .units → entryAt b i .life ≡ 0
   -- "record 5": of each auction that ends, and no other
-  pub fiveEach : (k : ℕ) → Runs b k → strategyAt b k .begun + b .timer ≤ t → List·Memᴰ (endedRecord b k) (x .records)
-  pub fiveOnly : All (λ (r : Record). IsKind 5 r → Runs b (r .place) × (strategyAt b (r .place) .begun + b .timer ≤ t) × (r ≡ endedRecord b (r .place))) (x .records)
+  pub fiveEach : (k : ℕ) → Runs b k → strategyAt b k .begun + b .timer ≤ t → List·Memᴰ (auctionEnded b k) (x .records)
+  pub fiveOnly : All (λ (r : Record). IsKind 5 r → Runs b (r .place) × (strategyAt b (r .place) .begun + b .timer ≤ t) × (r ≡ auctionEnded b (r .place))) (x .records)
   -- a clock begins no auction
   pub beginsNone : (k : ℕ) → strategyAt b k .starter ≡ 0 → strategyAt (x .state) k .starter ≡ 0
   pub clock : x .state .clock ≡ t
@@ -275,7 +275,7 @@ pub record LegOrderSentence (b : State) (a : ℕ) (x : Moved) (c : State) : Type
   pub noneRests : orderAt (x .state) a .contracts ≡ 0 → c ≡ x .state
 
 -- AN ANSWER to the auction of strategy k, by an entry of that side: it is marked if the entry is opposite its starter, and else it is not.
-pub record Answers (b : State) (k s : ℕ) (c : State) : Type 0 where
+pub record AnswersAuction (b : State) (k s : ℕ) (c : State) : Type 0 where
   pub opposite : (i : ℕ) → Starter b k i → (entryAt b i .side ≡ s → ⊥) → strategyAt c k .answered ≡ true
   pub sameSide : (i : ℕ) → Starter b k i → entryAt b i .side ≡ s → strategyAt c k ≡ strategyAt b k
 
@@ -322,7 +322,7 @@ pub record SweepSentence (b : State) (e : GivenSweep) (x : Moved) : Type 0 where
   pub enters : 0 < e .units → NewSweep b e (x .state)
   pub number : 0 < e .units → x .state .last ≡ b .last + 1
   -- "any opposite sweep .. accepted meanwhile"
-  pub answers : 0 < e .units → Answers b (e .strategy) (e .side) (x .state)
+  pub answers : 0 < e .units → AnswersAuction b (e .strategy) (e .side) (x .state)
   pub notAnswers : e .units ≡ 0 → x .state .strategies ≡ b .strategies
   pub otherAuctions : (k : ℕ) → (k ≡ e .strategy → ⊥) → strategyAt (x .state) k ≡ strategyAt b k
 
@@ -365,7 +365,7 @@ pub record OrderSentence (b : State) (a : ℕ) (x : Moved) : Type 0 where
   -- "If an auction runs, do-not-auction is cancelled and others wait"
   pub auctionCancels : Runs b (entryAt b a .strategy) → entryAt b a .life ≡ 3 → CancelsIt b a x
   pub auctionWaits : Runs b (entryAt b a .strategy) → (entryAt b a .life ≡ 3 → ⊥) → (x .records ≡ []) × (x .state .entries ≡ b .entries) × (x .state .orders ≡ b .orders)
-  pub answers : Runs b (entryAt b a .strategy) → (entryAt b a .life ≡ 3 → ⊥) → Answers b (entryAt b a .strategy) (entryAt b a .side) (x .state)
+  pub answers : Runs b (entryAt b a .strategy) → (entryAt b a .life ≡ 3 → ⊥) → AnswersAuction b (entryAt b a .strategy) (entryAt b a .side) (x .state)
   -- "Otherwise class 1 or 2 with life 0 or 1 starts an auction if .."
   pub begins : Open b (entryAt b a .strategy) → strategyAt b (entryAt b a .strategy) .starter ≡ 0 → StartsOne b (entryAt b a) → Begins b a x
   -- "Else a shared pass; then day rests, others are cancelled"
@@ -397,8 +397,8 @@ pub record ShutSentence (b : State) (s : ℕ) (x : Moved) : Type 0 where
   pub others : (t : ℕ) → (t ≡ s → ⊥) → has (x .state .opened) t ≡ has (b .opened) t
 
 -- "the active order's whole fill, its leg fills by leg, then the other side's likewise", "price 0 where whole met whole"
-abbrev pub matched : State → ℕ → ℕ → ℕ → ℕ → List Record
-matched b i h level q =
+abbrev pub matchRecords : State → ℕ → ℕ → ℕ → ℕ → List Record
+matchRecords b i h level q =
     partyRecords (entryAt b i) (strategyAt b (entryAt b i .strategy)) q level (replicate 6 0)
     ++ partyRecords (entryAt b h) (strategyAt b (entryAt b i .strategy)) q level (replicate 6 0)
 
@@ -406,7 +406,7 @@ matched b i h level q =
 pub data Matches (b : State) : List Record → Type 0 where
   no-match : Matches b []
   and-match : {rs : List Record} → Matches b rs → (i h q : ℕ) → entryAt b i .number < entryAt b h .number → entryAt b h .strategy ≡ entryAt b i .strategy →
-      (entryAt b h .side ≡ entryAt b i .side → ⊥) → meets (entryAt b h .side) (entryAt b h .level) (entryAt b i .level) ≡ true → 0 < q → Matches b (rs ++ matched b i h (entryAt b i .level) q)
+      (entryAt b h .side ≡ entryAt b i .side → ⊥) → meets (entryAt b h .side) (entryAt b h .level) (entryAt b i .level) ≡ true → 0 < q → Matches b (rs ++ matchRecords b i h (entryAt b i .level) q)
 
 -- SERIES s opens: from b, in which it is open already, by the matches x to c.
 pub record OpenSentence (b : State) (s : ℕ) (x : Moved) (c : State) : Type 0 where
@@ -437,8 +437,8 @@ pub record DayEndSentence (b : State) (timer : ℕ) (x : Moved) : Type 0 where
   pub threes : List Record
   pub records : x .records ≡ fives ++ threes
   -- "records 5 by strategy": of each auction that runs, and no other
-  pub fiveEach : (k : ℕ) → Runs b k → List·Memᴰ (endedRecord b k) fives
-  pub fiveOnly : All (λ (r : Record). Runs b (r .place) × (r ≡ endedRecord b (r .place))) fives
+  pub fiveEach : (k : ℕ) → Runs b k → List·Memᴰ (auctionEnded b k) fives
+  pub fiveOnly : All (λ (r : Record). Runs b (r .place) × (r ≡ auctionEnded b (r .place))) fives
   pub fiveOrder : Sorted (λ (r s : Record). r .place < s .place) fives
   -- "3 by number": of each live order, sweep and leg order, and no other
   pub threeEntries : (i : ℕ) → 0 < entryAt b i .units → List·Memᴰ (cancelledRecord (entryAt b i)) threes
@@ -487,6 +487,6 @@ Sentence b (E.Clock e) = ClockSentence b (e .time) (accept b (E.Clock e))
 Sentence b (E.DayEnd e) = DayEndSentence b (e .timer) (accept b (E.DayEnd e))
 
 -- A STATE OF THE BOOK: valid, and without two sweeps of one member, strategy, side and limit. Every state that frames lead to is one.
-pub record Reached (b : State) : Type 0 where
+pub record ReachedState (b : State) : Type 0 where
   pub valid : Valid b
   pub sweeps : OneSweep b

@@ -1,11 +1,11 @@
-use Rattle.calls.specs.Items.{neededOf, needed-more}
+use Rattle.calls.specs.Items.{itemNeeded, needed-more}
 use Rattle.base.specs.Pick.{tests}
 use borrow.Author.Needs.{needs}
 use Rattle.calls.proofs.needed.Statement.{statement}
 use Rattle.calls.proofs.needed.Tie as tie
 
 returns : tie.Need-returns
-unfolding neededOf
+unfolding itemNeeded
 returns c = search tests
 
 two-bytes-requires : tie.Need-two-bytes-requires

@@ -1,4 +1,4 @@
-use Rattle.calls.specs.Calls.{Turned, running-call, item-fits, item-long}
+use Rattle.calls.specs.Calls.{ItemTurned, running-call, item-fits, item-long}
 use Rattle.turns.specs.Turns.{Running, running-first}
 use borrow.Author.Tests.{ltb-true}
 use lib.Seq.{length-take-le}
@@ -10,7 +10,7 @@ use Rattle.calls.proofs.run.Tie as tie
 
 abbrev Inv-loop : tie.InvT-loop
 Inv-loop block₀ space₀ out₀ book₀ rest₀ used₀ on₀ index₀ block space out book rest used on index =
-    Running Turned block₀ space₀ out₀ (record { book = book; rest = rest; used = used; on = on }) index block space out
+    Running ItemTurned block₀ space₀ out₀ (record { book = book; rest = rest; used = used; on = on }) index block space out
 
 abbrev μ-loop : tie.MeasureT-loop
 μ-loop block₀ space₀ out₀ book₀ rest₀ used₀ on₀ index₀ block space out book rest used on index = 18446744073709551615 - index

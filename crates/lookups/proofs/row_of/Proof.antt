@@ -1,4 +1,4 @@
-use Rattle.lookups.specs.Lookups.{rowN, row-first, row-next, row-last}
+use Rattle.lookups.specs.Lookups.{lentN, row-first, row-next, row-last}
 use mathlib.Core.Path.{_≡_}
 use Prim.Native.Nat.{_-_, _≤_}
 use borrow.Author.Needs.{needs}
@@ -7,7 +7,7 @@ use Rattle.lookups.proofs.row_of.Statement.{statement}
 use Rattle.lookups.proofs.row_of.Tie as tie
 
 abbrev Inv-loop : tie.InvT-loop
-Inv-loop os row₀ i₀ row i = (i ≤ 32) × (row ≡ rowN os i)
+Inv-loop os row₀ i₀ row i = (i ≤ 32) × (row ≡ lentN os i)
 
 abbrev μ-loop : tie.MeasureT-loop
 μ-loop os row₀ i₀ row i = 32 - i
