@@ -52,3 +52,4 @@ pub mod Matching
 pub mod LastRecords
 pub mod Definitions
 pub mod Sentences
+pub mod Causes

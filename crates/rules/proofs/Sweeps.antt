@@ -119,11 +119,11 @@ module _ (b : State) (e : GivenSweep) where
       ∙ pick-true _ _ _ (eq-eqb _ _ (s .strategy)) ∙ pick-true _ _ _ (eq-eqb _ _ (s .side)) ∙ eq-eqb _ _ (s .limit)
 
   module _ (v : Valid b) where
-    old-low : (i : ℕ) → SweepOf e (entryAt b i) → old < 32
+    pub old-low : (i : ℕ) → SweepOf e (entryAt b i) → old < 32
     unfolding oldSweep
     old-low i s = any-where (sameSweepAt b new) 32 (any-holds (sameSweepAt b new) 32 i (live-slot b (v .sound .entryRows) i (s .live)) (of-same (entryAt b i) s))
 
-    old-is : old < 32 → SweepOf e (entryAt b old)
+    pub old-is : old < 32 → SweepOf e (entryAt b old)
     unfolding oldSweep
     old-is l = same-of (entryAt b old) (first-holds (sameSweepAt b new) 32 l)
 

@@ -57,11 +57,11 @@ isOrderOf m n e = both (live e) (pick (eqb (e .life) 4) false (both (eqb (e .mem
 unfoldable pub isLegOrderOf : ℕ → ℕ → LegOrder → Bool
 isLegOrderOf m n o = both (liveOrder o) (both (eqb (o .member) m) (eqb (o .number) n))
 
--- .. of the entry at slot i
+-- the entry at slot i is such a complex order
 abbrev pub orderAtIs : State → ℕ → ℕ → ℕ → Bool
 orderAtIs b m n i = isOrderOf m n (entryAt b i)
 
--- .. of the leg order at slot i
+-- the leg order at slot i is such a one
 abbrev pub legOrderAtIs : State → ℕ → ℕ → ℕ → Bool
 legOrderAtIs b m n i = isLegOrderOf m n (orderAt b i)
 
@@ -105,15 +105,15 @@ isSweep e = pick (live e) (pick (eqb (e .life) 4) 1 0) 0
 unfoldable pub isLegOrder : LegOrder → ℕ
 isLegOrder o = pick (liveOrder o) 1 0
 
--- .. at slot i
+-- 1 where the entry at slot i is a live complex order
 abbrev pub isOrderAt : State → ℕ → ℕ
 isOrderAt b i = isOrder (entryAt b i)
 
--- .. at slot i
+-- 1 where it is a live sweep
 abbrev pub isSweepAt : State → ℕ → ℕ
 isSweepAt b i = isSweep (entryAt b i)
 
--- .. at slot i
+-- 1 where the leg order at slot i is live
 abbrev pub isLegOrderAt : State → ℕ → ℕ
 isLegOrderAt b i = isLegOrder (orderAt b i)
 

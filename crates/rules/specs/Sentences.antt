@@ -1,6 +1,7 @@
--- The sentences of "Events" and "Passes" in another form than their definitions have: what can be seen of the state before an event, the state
--- after it and its records. Each holds of every accepted event in every state that frames lead to (proofs Sentences.event-sentence, step-sentence; of the
--- passes: Groups, PassEnds, Bars, WholeFills). A rule that is changed in its definition and in the code alike is refused here. A price of 0 is the level 10,000,000.
+-- Sentences of "Events", "Passes" and "Refusals by cause" in another form than their definitions have: what can be seen of the state before an
+-- event, the state after it and its records. Each holds of every accepted event in every state that frames lead to (proofs
+-- Sentences.event-sentence, step-sentence; of the passes: Groups, PassEnds, Bars, WholeFills; of the causes: Causes). Many a rule that is changed
+-- in its definition and in the code alike is refused here; docs/RULES.md has the list, and what no sentence says.
 use mathlib.Core.Path.{_≡_}
 use mathlib.Core.Bool.{Bool, true, false, not}
 use mathlib.Core.Logic.{_⊎_}
@@ -9,13 +10,16 @@ use Prim.Native.Nat.{ℕ, _+_, _-_, _*_, _^_, _≤_, _<_}
 use lib.Dec.{eqb}
 use lib.ListN.{getD, replicate}
 use Rattle.base.specs.Pick.{pick}
+use Rattle.base.specs.Walks.{sumN}
 use Rattle.base.specs.All.{All, Sorted}
 use Rattle.base.specs.Sets.{has}
 use Rattle.base.specs.Gcd.{Divides}
 use Rattle.events.specs.declared.Event.{Event}
 use Rattle.events.specs.declared.Event.the-variants as E
 use Rattle.events.specs.declared.Strategy.{Strategy as GivenStrategy}
+use Rattle.events.specs.declared.Order.{Order as GivenOrder}
 use Rattle.events.specs.declared.Sweep.{Sweep as GivenSweep}
+use Rattle.events.specs.declared.LegOrder.{LegOrder as GivenLegOrder}
 use Rattle.rules.specs.declared.Leg.{Leg}
 use Rattle.rules.specs.declared.Strategy.{Strategy}
 use Rattle.rules.specs.declared.Entry.{Entry}
@@ -31,7 +35,8 @@ use Rattle.rules.specs.Nets.{offerNet, bidNet}
 use Rattle.rules.specs.Fills.{partyRecords}
 use Rattle.rules.specs.Passes.{readyNet}
 use Rattle.rules.specs.Auctions.{matchIn}
-use Rattle.rules.specs.Refusals.{firstCause, causes}
+use Rattle.rules.specs.Sizes.{orderSlots, sweepSlots, legOrderSlots, tableRows}
+use Rattle.rules.specs.Refusals.{firstCause, causes, isOrderAt, isSweepAt, isLegOrderAt}
 use Rattle.rules.specs.Events.{enter, enterOrder, freeSlot, freeOrderSlot, tradeAll}
 use Rattle.rules.specs.Given.{legsGiven, orderGiven, legOrderGiven}
 use Rattle.rules.specs.Step.{valueOf, accept}
@@ -288,7 +293,7 @@ pub record SweepOf (e : GivenSweep) (f : Entry) : Type 0 where
   pub side : f .side ≡ e .side
   pub limit : f .level ≡ e .level
 
--- no two sweeps of one member, strategy, side and limit are live
+-- two sweeps of one member, strategy, side and limit
 pub record Alike (e f : Entry) : Type 0 where
   pub sweep : e .life ≡ 4
   pub life : f .life ≡ 4
@@ -297,6 +302,7 @@ pub record Alike (e f : Entry) : Type 0 where
   pub side : f .side ≡ e .side
   pub limit : f .level ≡ e .level
 
+-- no two such sweeps are live
 abbrev pub OneSweep : State → Type 0
 OneSweep b = (i j : ℕ) → i < j → 0 < entryAt b i .units → 0 < entryAt b j .units → Alike (entryAt b i) (entryAt b j) → ⊥
 
@@ -490,3 +496,31 @@ Sentence b (E.DayEnd e) = DayEndSentence b (e .timer) (accept b (E.DayEnd e))
 pub record ReachedState (b : State) : Type 0 where
   pub valid : Valid b
   pub sweeps : OneSweep b
+
+-- WHEN AN EVENT IS ACCEPTED: exactly where these hold. "The smallest number that applies is given .., and never otherwise."
+
+-- a complex order: its strategy is defined (4), an auction runs in it if it is a response (9), a slot (12) and a number (13) are left
+pub record OrderMay (b : State) (e : GivenOrder) : Type 0 where
+  pub defined : e .strategy < b .defined
+  pub response : e .life ≡ 2 → Runs b (e .strategy)
+  pub slot : sumN (isOrderAt b) tableRows < orderSlots
+  pub number : b .last < 100_000
+
+-- a sweep: its strategy is defined (4) and an auction runs in it (9); one of 0 units has one to remove (10); one with units replaces one or has
+-- a slot (12), and has a number (13)
+pub record SweepMay (b : State) (e : GivenSweep) : Type 0 where
+  pub defined : e .strategy < b .defined
+  pub auction : Runs b (e .strategy)
+  pub removes : e .units ≡ 0 → Any (λ (i : ℕ). SweepOf e (entryAt b i)) tableRows
+  pub slot : 0 < e .units → Any (λ (i : ℕ). SweepOf e (entryAt b i)) tableRows ⊎ (sumN (isSweepAt b) tableRows < sweepSlots)
+  pub number : 0 < e .units → b .last < 100_000
+
+-- a leg order: its series is open (6), a slot (12) and a number (13) are left
+pub record LegOrderMay (b : State) (e : GivenLegOrder) : Type 0 where
+  pub isOpen : has (b .opened) (e .series) ≡ true
+  pub slot : sumN (isLegOrderAt b) tableRows < legOrderSlots
+  pub number : b .last < 100_000
+
+-- a clock: not below the last accepted one (11)
+abbrev pub ClockMay : State → ℕ → Type 0
+ClockMay b t = b .clock ≤ t

@@ -175,7 +175,7 @@ pub record NotWorse (w : Terms) (l : Line) : Type 0 where
   pub buy : w .side ≡ 0 → l .price ≤ℤ w .limit
   pub sell : w .side ≡ 1 → w .limit ≤ℤ l .price
 
--- "A fill is a record 1, or a leg order's record 2"
+-- what came in is the leg order of that number
 abbrev pub isLeg : ℕ → Brought → Bool
 isLeg n (complex w k) = false
 isLeg n (leg w) = eqb (w .number) n
@@ -186,7 +186,7 @@ unfoldable pub isLegNumber : List Logged → ℕ → Bool
 isLegNumber [] n = false
 isLegNumber (x ∷ xs) n = pick (isLeg n (brought x)) true (isLegNumber xs n)
 
--- a record 1, or a record 2 of such a number
+-- "A fill is a record 1, or a leg order's record 2"
 unfoldable pub isFill : List Logged → Line → Bool
 isFill log l = pick (eqb (l .kind) 1) true (pick (eqb (l .kind) 2) (isLegNumber log (l .number)) false)
 

@@ -86,7 +86,7 @@ pub record Sound (b : State) : Type 0 where
   -- no number stands in both tables
   pub apart : (i j : ℕ) → 0 < entryAt b i .units → 0 < orderAt b j .contracts → entryAt b i .number ≡ orderAt b j .number → ⊥
   pub complexOrders : sumN (isOrderAt b) tableRows ≤ orderSlots
-  pub sweeps : sumN (isSweepAt b) tableRows ≤ orderSlots
+  pub sweeps : sumN (isSweepAt b) tableRows ≤ sweepSlots
 
 -- An auction's starter stands in a slot: live, in its strategy, of class 1 or 2 and of life 0 or 1.
 pub record Starter (b : State) (k i : ℕ) : Type 0 where
