@@ -53,3 +53,4 @@ pub mod LastRecords
 pub mod Definitions
 pub mod Sentences
 pub mod Causes
+pub mod Choices

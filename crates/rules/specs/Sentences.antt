@@ -26,6 +26,8 @@ use Rattle.rules.specs.declared.Entry.{Entry}
 use Rattle.rules.specs.declared.LegOrder.{LegOrder}
 use Rattle.rules.specs.declared.State.{State}
 use Rattle.rules.specs.declared.Record.{Record}
+use Rattle.rules.specs.declared.Turn.{Turn}
+use Rattle.rules.specs.declared.Turn.the-variants.{ByLegs, AtLimit}
 use Rattle.rules.specs.declared.Kind.the-variants.{LegFill, LegOrderFill, Cancelled, LegOrderCancelled, AuctionBegun, AuctionEnded}
 use Rattle.rules.specs.State.{noLeg, fresh, entryAt, orderAt, strategyAt, legAt, withOpened, withClock}
 use Rattle.rules.specs.Moves.{Moved, still, each}
@@ -152,6 +154,18 @@ pub record HadTurn (b c : State) (i : ℕ) (legs : Bool) : Type 0 where
   pub since : Shrinks b moment
   pub until : Shrinks moment c
   pub done : (entryAt moment i .units ≡ 0) ⊎ (MeetsNone moment i × (legs ≡ true → LegsMeetNone moment i))
+
+-- WHAT AN ORDER DOES NEXT, t, between the best opposite limit x and the ready leg net, 0 where there is none. "take the best opposite limit in
+-- the strategy, or the leg net .. if the legs are ready and it is strictly better for the active order or no opposite limit stands."
+pub record TurnSentence (e : Entry) (x net : ℕ) (t : Turn) : Type 0 where
+  -- fills at a limit: at that one, which meets its own; and the legs are not ready, or no better
+  pub atLimit : (level : ℕ) → t ≡ AtLimit level → (level ≡ x) × (0 < x) × (meets (e .side) (e .level) x ≡ true) × ((net ≡ 0) ⊎ (better (e .side) net x ≡ false))
+  -- a fill by the legs: they are ready and meet its limit; and no opposite limit stands, or they are strictly better
+  pub byLegs : t ≡ ByLegs → (0 < net) × (meets (e .side) (e .level) net ≡ true) × ((x ≡ 0) ⊎ (better (e .side) net x ≡ true))
+
+-- "Whole: fill at the opposite limit.": every record 1 of the fills at a limit shows that limit
+abbrev pub AtThatLimit : ℕ → Record → Type 0
+AtThatLimit level r = IsKind 1 r → r .level ≡ level
 
 -- THE STARTER'S PASS, x, in the auction of strategy k.
 pub record StarterSentence (b : State) (k : ℕ) (x : Moved) : Type 0 where
