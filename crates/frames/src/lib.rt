@@ -8,7 +8,7 @@ ghost use Rattle.events.specs.Rows.{fitting, lengthIn};
 ghost use Rattle.frames.specs.Frames.{countAt, judgeOf, readOf, frameOf, Wrote};
 
 mod bodies; // the fields of a frame
-mod numbers; // numbers of some bytes
+pub mod numbers; // numbers of some bytes
 
 use bodies::decode;
 use bodies::encode;

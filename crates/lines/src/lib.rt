@@ -9,20 +9,17 @@ ghost use Rattle.rules.specs.Step.{answerCount};
 ghost use Rattle.lines.specs.Lines.{decimal, signed, spaced, textLine, recordLines, eventText};
 ghost use Rattle.lines.specs.Cuts.{toldLength, neededOf, cutOf};
 ghost use Rattle.lines.specs.Puts.{Put, Within};
+use frames::numbers::wide;
 use rules::Answer;
-
-fn wide(byte: u8) -> usize
-    ensures { λ r. ⌜ (r ≡ byte) × (r < 256) ⌝ }
-{
-    byte as usize
-}
 
 // The number of two bytes at a place.
 pub fn two_bytes(bytes: &[u8], at: usize) -> usize
     requires { ⌜ at + 2 ≤ length (now bytes) ⌝ }
     ensures { λ r. ⌜ (r ≡ number 2 (now (bytes .entry)) at) × (r < 65536) ⌝ }
 {
-    wide(bytes[at]) + 256 * wide(bytes[at + 1])
+    let low = wide(bytes[at]);
+    let high = wide(bytes[at + 1]);
+    (low + 256 * high) as usize
 }
 
 // The length that the first two bytes tell.

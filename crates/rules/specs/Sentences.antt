@@ -37,7 +37,7 @@ use Rattle.rules.specs.Nets.{offerNet, bidNet}
 use Rattle.rules.specs.Fills.{partyRecords}
 use Rattle.rules.specs.Passes.{readyNet}
 use Rattle.rules.specs.Auctions.{matchIn}
-use Rattle.rules.specs.Sizes.{orderSlots, sweepSlots, legOrderSlots, tableRows}
+use Rattle.rules.specs.Sizes.{orderSlots, sweepSlots, legOrderSlots, tableRows, zeroLevel}
 use Rattle.rules.specs.Refusals.{firstCause, causes, isOrderAt, isSweepAt, isLegOrderAt}
 use Rattle.rules.specs.Events.{enter, enterOrder, freeSlot, freeOrderSlot, tradeAll}
 use Rattle.rules.specs.Given.{legsGiven, orderGiven, legOrderGiven}
@@ -68,17 +68,17 @@ IsKind n r = kindNumber (r .kind) ≡ n
 
 -- the record 5 of strategy k's auction, and the records 3 of an entry and of a leg order
 abbrev pub auctionEnded : State → ℕ → Record
-auctionEnded b k = record { kind = AuctionEnded; number = strategyAt b k .starter; place = k; side = 0; quantity = 0; level = 10_000_000 }
+auctionEnded b k = record { kind = AuctionEnded; number = strategyAt b k .starter; place = k; side = 0; quantity = 0; level = zeroLevel }
 
 abbrev pub cancelledRecord : Entry → Record
-cancelledRecord e = record { kind = Cancelled; number = e .number; place = 0; side = e .side; quantity = e .units; level = 10_000_000 }
+cancelledRecord e = record { kind = Cancelled; number = e .number; place = 0; side = e .side; quantity = e .units; level = zeroLevel }
 
 abbrev pub cancelledLegRecord : LegOrder → Record
-cancelledLegRecord o = record { kind = LegOrderCancelled; number = o .number; place = 0; side = o .side; quantity = o .contracts; level = 10_000_000 }
+cancelledLegRecord o = record { kind = LegOrderCancelled; number = o .number; place = 0; side = o .side; quantity = o .contracts; level = zeroLevel }
 
 -- "price 0 where whole met whole": a record 2 that shows price 0
 abbrev pub Unpriced : Record → Type 0
-Unpriced r = IsKind 2 r → r .level ≡ 10_000_000
+Unpriced r = IsKind 2 r → r .level ≡ zeroLevel
 
 -- FILLS AND PASSES THAT USE NO LEGS: every leg order is as it was, and no record 2 shows a price
 pub record WithoutLegs (b : State) (x : Moved) : Type 0 where
@@ -183,7 +183,7 @@ pub record LaterSentence (b : State) (i : ℕ) (x : Moved) : Type 0 where
 
 -- a complex party's leg fill that shows price 0, if it is of that number
 abbrev pub UnpricedOf : ℕ → Record → Type 0
-UnpricedOf n r = r .kind ≡ LegFill → r .number ≡ n → r .level ≡ 10_000_000
+UnpricedOf n r = r .kind ≡ LegFill → r .number ≡ n → r .level ≡ zeroLevel
 
 -- CLOCK, at time t, from b to what x leaves.
 pub record ClockSentence (b : State) (t : ℕ) (x : Moved) : Type 0 where
@@ -214,7 +214,7 @@ pub record OrderCancelled (b : State) (m n : ℕ) (x : Moved) : Type 0 where
   pub noSweep : entryAt b at .life ≡ 4 → ⊥
   pub live : 0 < entryAt b at .units
   pub ended : entryAt (x .state) at .units ≡ 0
-  pub records : x .records ≡ record { kind = Cancelled; number = n; place = 0; side = entryAt b at .side; quantity = entryAt b at .units; level = 10_000_000 } ∷ []
+  pub records : x .records ≡ record { kind = Cancelled; number = n; place = 0; side = entryAt b at .side; quantity = entryAt b at .units; level = zeroLevel } ∷ []
   -- every other row is as it was
   pub others : (j : ℕ) → (j ≡ at → ⊥) → entryAt (x .state) j ≡ entryAt b j
   pub orders : x .state .orders ≡ b .orders
@@ -226,7 +226,7 @@ pub record LegOrderEnded (b : State) (m n : ℕ) (x : Moved) : Type 0 where
   pub number : orderAt b at .number ≡ n
   pub live : 0 < orderAt b at .contracts
   pub ended : orderAt (x .state) at .contracts ≡ 0
-  pub records : x .records ≡ record { kind = LegOrderCancelled; number = n; place = 0; side = orderAt b at .side; quantity = orderAt b at .contracts; level = 10_000_000 } ∷ []
+  pub records : x .records ≡ record { kind = LegOrderCancelled; number = n; place = 0; side = orderAt b at .side; quantity = orderAt b at .contracts; level = zeroLevel } ∷ []
   pub others : (j : ℕ) → (j ≡ at → ⊥) → orderAt (x .state) j ≡ orderAt b j
   pub entries : x .state .entries ≡ b .entries
 
@@ -269,7 +269,7 @@ AheadOrder o p q = (better (o .side) (p .price) (q .price) ≡ true) ⊎ ((p .pr
 
 -- a leg order's record 2
 abbrev pub traded : LegOrder → ℕ → ℕ → Record
-traded o q price = record { kind = LegOrderFill; number = o .number; place = o .series; side = o .side; quantity = q; level = 10_000_000 + price }
+traded o q price = record { kind = LegOrderFill; number = o .number; place = o .series; side = o .side; quantity = q; level = zeroLevel + price }
 
 -- "at the resting price, incoming record first": the records of the trades of the leg order at slot a, two for each, both at the price of one that it met
 pub data Trades (b : State) (a : ℕ) : List Record → Type 0 where
@@ -333,7 +333,7 @@ pub record NewSweep (b : State) (e : GivenSweep) (c : State) : Type 0 where
 pub record SweepSentence (b : State) (e : GivenSweep) (x : Moved) : Type 0 where
   -- "same member, strategy, side and limit: the old one is cancelled by record first"
   pub replaces : (i : ℕ) → SweepOf e (entryAt b i) →
-      x .records ≡ record { kind = Cancelled; number = entryAt b i .number; place = 0; side = e .side; quantity = entryAt b i .units; level = 10_000_000 } ∷ []
+      x .records ≡ record { kind = Cancelled; number = entryAt b i .number; place = 0; side = e .side; quantity = entryAt b i .units; level = zeroLevel } ∷ []
   pub removesNone : ((i : ℕ) → SweepOf e (entryAt b i) → ⊥) → x .records ≡ []
   -- "0 units enters nothing"
   pub withdrawn : e .units ≡ 0 → (i : ℕ) → SweepOf e (entryAt (x .state) i) → ⊥
@@ -348,7 +348,7 @@ pub record SweepSentence (b : State) (e : GivenSweep) (x : Moved) : Type 0 where
 
 -- the order at slot a is cancelled: one record 3 for all of it, and every other row is as it was
 pub record CancelsIt (b : State) (a : ℕ) (x : Moved) : Type 0 where
-  pub records : x .records ≡ record { kind = Cancelled; number = entryAt b a .number; place = 0; side = entryAt b a .side; quantity = entryAt b a .units; level = 10_000_000 } ∷ []
+  pub records : x .records ≡ record { kind = Cancelled; number = entryAt b a .number; place = 0; side = entryAt b a .side; quantity = entryAt b a .units; level = zeroLevel } ∷ []
   pub ended : entryAt (x .state) a .units ≡ 0
   pub others : (j : ℕ) → (j ≡ a → ⊥) → entryAt (x .state) j ≡ entryAt b j
   pub strategies : x .state .strategies ≡ b .strategies

@@ -37,6 +37,9 @@ dividedAt legs d i = record { series = seriesOf legs i; side = getD legs i noLeg
 unfoldable pub lowestTerms : List Leg → ℕ → List Leg
 lowestTerms legs count = table (dividedAt legs (divisor legs count)) 6
 
+-- "Legs stand by rising series": bySeries takes from the legs the one in series 0, if there is one, then the one in series 1, and on to 31.
+-- The four definitions before it find the leg in a series.
+
 -- whether the leg at place i is in series s
 abbrev pub inSeries : List Leg → ℕ → ℕ → Bool
 inSeries legs s i = eqb (seriesOf legs i) s
@@ -53,7 +56,7 @@ present legs count s = ltb (placeOf legs count s) count
 abbrev pub legsOf : List Leg → ℕ → ℕ → List Leg
 legsOf legs count s = pick (present legs count s) (getD legs (placeOf legs count s) noLeg ∷ []) []
 
--- "Legs stand by rising series": the leg in series 0, if there is one, then that in series 1, and on to 31
+-- the legs by rising series
 unfoldable pub bySeries : List Leg → ℕ → List Leg
 bySeries legs count = joinN (legsOf legs count) 32
 

@@ -25,6 +25,9 @@ mul-result c = search needs
 add-result : tie.Need-add-result
 add-result c = search needs
 
+cast-result : tie.Need-cast-result
+cast-result c = search needs
+
 returns : tie.Need-returns
 unfolding number
 returns c = (omega arith, omega arith)
@@ -40,4 +43,5 @@ two-bytes-spec =
     wide-requires-2
     mul-result
     add-result
+    cast-result
     returns)
