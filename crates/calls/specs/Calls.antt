@@ -113,13 +113,14 @@ turned-item {t} index {block} {n = n} {item = item} l e h i w =
       lies = record { order = item-fits l e; inside = l .inside };
     }
 
--- a call: read on, a whole item cut and told, and the text written out where there is no room
+-- a call: read on, a whole item cut and told, and the text written out where there is no room or nothing whole is left
 pub running-call :
     {block₀ out₀ : List ℕ} {space₀ : List ℤ} {t : Tape} {index : ℕ} {block next s q : List ℕ} {space sq : List ℤ} {r : Rest} {n : ℕ} {a : Told} {used : ℕ} {on : Bool} {item : List ℕ} →
-    Running ItemTurned block₀ space₀ out₀ t index block space s → More block next (t .rest) r → n ≡ itemOf (restOf next r) → (n ≡ 0 → ⊥) →
+    Running ItemTurned itemOf block₀ space₀ out₀ t index block space s → More block next (t .rest) r → n ≡ itemOf (restOf next r) → (n ≡ 0 → ⊥) →
     item ≡ take (r .at + n - r .at) (drop (r .at) next) → Tells (t .book .state) index (drop 4 item) (lentOf item) s q (t .used) a →
-    used + 189526 ≤ length q → length sq ≡ length space → length q ≡ length s →
-    Running ItemTurned block₀ space₀ out₀ (record { book = a .book; rest = record { at = r .at + n; «end» = r .«end» }; used = used; on = on }) (index + 1) next sq q
-running-call {t = t} {index} {r = r} g m e h z w room i o =
+    used + 189526 ≤ length q → (itemOf (restOf next (record { at = r .at + n; «end» = r .«end» })) ≡ 0 → used ≡ 0) →
+    length sq ≡ length space → length q ≡ length s →
+    Running ItemTurned itemOf block₀ space₀ out₀ (record { book = a .book; rest = record { at = r .at + n; «end» = r .«end» }; used = used; on = on }) (index + 1) next sq q
+running-call {t = t} {index} {r = r} g m e h z w room none i o =
     let u = turned-item {t = record { book = t .book; rest = r; used = t .used; on = true }} index (m .lies) e h z w in
-    running-next g m u (u .valid) (u .lies) room i o
+    running-next g m u (u .valid) (u .lies) room none i o

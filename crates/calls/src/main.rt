@@ -15,7 +15,6 @@ ghost use Rattle.calls.specs.Printed.{Listed};
 ghost use Rattle.calls.specs.Calls.{ItemsEnded};
 use book::Book;
 use depths::depth_in;
-use libc::STDOUT_FILENO;
 use lines::put_byte;
 use lines::put_four;
 use lines::put_three;
@@ -28,7 +27,9 @@ use streams::Rest;
 use streams::drain;
 use streams::fill;
 use streams::input_block;
+use streams::settle;
 use streams::text_space;
+use streams::write_out;
 use turns::ROOM;
 use turns::Told;
 use turns::record_space;
@@ -81,6 +82,9 @@ fn fill_item(block: &mut [u8], r: Rest) -> Rest
     let q = fill(block, r, 4);
     let at = q.at;
     let end = q.end;
+    if end - at < 4 {
+        return q;
+    }
     let need = needed(&block[at..end]);
     fill(block, q, need)
 }
@@ -294,19 +298,20 @@ fn run(block: &mut [u8], space: &mut [i32], out: &mut [u8])
         let n = item(&block[at..end]);
         if n == 0 {
             let m = tell_end(book, r, block, out, used);
-            io::write_all(STDOUT_FILENO, &out[..m]);
+            write_out(&out[..m]);
             return;
         }
         let next = at + n;
         let told = tell_item(book, index, &block[at..next], space, out, used);
         book = told.book;
         rest = Rest { at: next, end: end };
-        let text = drain(told.used, out, ROOM);
+        let whole = item(&block[next..end]);
+        let text = settle(whole, told.used, out, ROOM);
         used = text.used;
         on = text.on;
         index += 1;
     }
-    io::write_all(STDOUT_FILENO, &out[..used]);
+    write_out(&out[..used]);
 }
 
 fn main() {

@@ -3,7 +3,8 @@ ghost use mathlib.Core.Path.{_≡_};
 ghost use Prim.Native.Nat.{_+_, _≤_};
 ghost use lib.ListN.{length, take, drop};
 ghost use Rattle.streams.specs.Rests.{Lies, More, Added};
-ghost use Rattle.streams.specs.Texts.{Drains};
+ghost use Rattle.streams.specs.Texts.{Drains, Settles};
+use libc::STDERR_FILENO;
 use libc::STDIN_FILENO;
 use libc::STDOUT_FILENO;
 
@@ -25,6 +26,16 @@ fn slide(block: &mut [u8], at: usize, n: usize)
     }
 }
 
+// Says on standard error that a read failed, where it did.
+fn say_unread(got: isize) {
+    if got < 0 {
+        io::write_all(
+            STDERR_FILENO,
+            b"standard input: a read failed; what was read before it is all that was played\n",
+        );
+    }
+}
+
 // One read into the block from n on. Answers the next end, or n where no more comes.
 fn read_on(block: &mut [u8], n: usize) -> usize
     requires { ⌜ n ≤ length (now block) ⌝ }
@@ -32,6 +43,7 @@ fn read_on(block: &mut [u8], n: usize) -> usize
 {
     let part = &mut block[n..];
     let got = libc::read(STDIN_FILENO, part);
+    say_unread(got);
     n + io::count(got, part)
 }
 
@@ -72,6 +84,19 @@ pub struct Text {
     pub on: bool,
 }
 
+// Writes the text out; where it is not taken whole, says so on standard error. A program has no other way to tell: its exit
+// status is always 0.
+pub fn write_out(text: &[u8]) -> bool {
+    let whole = io::write_all(STDOUT_FILENO, text);
+    if !whole {
+        io::write_all(
+            STDERR_FILENO,
+            b"standard output: a write failed; what was printed is not whole\n",
+        );
+    }
+    whole
+}
+
 // Writes the text out where less than the room is left.
 pub fn drain(used: usize, out: &[u8], room: usize) -> Text
     requires { ⌜ (used ≤ length (now out)) × (room ≤ length (now out)) ⌝ }
@@ -83,20 +108,32 @@ pub fn drain(used: usize, out: &[u8], room: usize) -> Text
             on: true,
         };
     }
-    let on = io::write_all(STDOUT_FILENO, &out[..used]);
+    let on = write_out(&out[..used]);
     Text { used: 0, on: on }
 }
 
-// The block that the input is read into: a whole frame, and as much again.
-pub fn input_block() -> [u8; 131072]
-    ensures { λ r. ⌜ 131072 ≡ length r ⌝ }
+// Writes the text out where less than the room is left, and all of it where nothing whole is left of the input: what is
+// printed goes out before the wait for more.
+pub fn settle(whole: usize, used: usize, out: &[u8], room: usize) -> Text
+    requires { ⌜ (used ≤ length (now out)) × (room ≤ length (now out)) ⌝ }
+    ensures { λ x. ⌜ Settles whole used room (length (now (out .entry))) x ⌝ }
 {
-    [0; 131072]
+    if whole == 0 {
+        return drain(used, out, out.len());
+    }
+    drain(used, out, room)
 }
 
-// The space of the text: that of an event, and more.
-pub fn text_space() -> [u8; 262144]
-    ensures { λ r. ⌜ 262144 ≡ length r ⌝ }
+// The block that the input is read into: the longest frame, with the two lengths of an item before it, and some more.
+pub fn input_block() -> [u8; 69632]
+    ensures { λ r. ⌜ 69632 ≡ length r ⌝ }
 {
-    [0; 262144]
+    [0; 69632]
+}
+
+// The space of the text: that of an event, and some more.
+pub fn text_space() -> [u8; 204800]
+    ensures { λ r. ⌜ 204800 ≡ length r ⌝ }
+{
+    [0; 204800]
 }

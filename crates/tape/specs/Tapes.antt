@@ -131,13 +131,14 @@ ended-cut {r} index {block} {s} {q} space {used} {m} l z h e k w =
           (record { valid = v; lies = l; size = z; room = h }) e (sym k) refl w;
     }
 
--- an event: read on, a whole frame cut and told, and the text written out where there is no room
+-- an event: read on, a whole frame cut and told, and the text written out where there is no room or nothing whole is left
 pub running-event :
     {block₀ out₀ : List ℕ} {space₀ : List ℤ} {t : Tape} {index : ℕ} {block next s q : List ℕ} {space sq : List ℤ} {r : Rest} {n : ℕ} {a : Told} {used : ℕ} {on : Bool} →
-    Running Turned block₀ space₀ out₀ t index block space s → More block next (t .rest) r → n ≡ cutOf (restOf next r) → (n ≡ 0 → ⊥) →
+    Running Turned cutOf block₀ space₀ out₀ t index block space s → More block next (t .rest) r → n ≡ cutOf (restOf next r) → (n ≡ 0 → ⊥) →
     Tells (t .book .state) index (take (r .at + n - r .at) (drop (r .at) next)) (length space) s q (t .used) a →
-    used + 189526 ≤ length q → length sq ≡ length space → length q ≡ length s →
-    Running Turned block₀ space₀ out₀ (record { book = a .book; rest = record { at = r .at + n; «end» = r .«end» }; used = used; on = on }) (index + 1) next sq q
-running-event {t = t} {index} {r = r} g m e h w room i o =
+    used + 189526 ≤ length q → (cutOf (restOf next (record { at = r .at + n; «end» = r .«end» })) ≡ 0 → used ≡ 0) →
+    length sq ≡ length space → length q ≡ length s →
+    Running Turned cutOf block₀ space₀ out₀ (record { book = a .book; rest = record { at = r .at + n; «end» = r .«end» }; used = used; on = on }) (index + 1) next sq q
+running-event {t = t} {index} {r = r} g m e h w room none i o =
     let u = turned-event {t = record { book = t .book; rest = r; used = t .used; on = true }} index (ready-filled (g .ready) m) e h (rw (g .ready .size) at w) in
-    running-next g m u (u .valid) (u .lies) room i o
+    running-next g m u (u .valid) (u .lies) room none i o

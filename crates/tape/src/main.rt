@@ -8,16 +8,16 @@ ghost use Rattle.lines.specs.Puts.{Within};
 ghost use Rattle.streams.specs.Rests.{Lies, restOf, More};
 ghost use Rattle.tape.specs.Tapes.{Ended};
 use book::Book;
-use libc::STDOUT_FILENO;
 use lines::cut;
 use lines::needed;
 use lines::put_event;
 use rules::Answer;
 use streams::Rest;
-use streams::drain;
 use streams::fill;
 use streams::input_block;
+use streams::settle;
 use streams::text_space;
+use streams::write_out;
 use turns::ROOM;
 use turns::record_space;
 use turns::tell;
@@ -30,6 +30,9 @@ fn fill_frame(block: &mut [u8], r: Rest) -> Rest
     let q = fill(block, r, 2);
     let at = q.at;
     let end = q.end;
+    if end - at < 2 {
+        return q;
+    }
     let need = needed(&block[at..end]);
     fill(block, q, need)
 }
@@ -74,19 +77,20 @@ fn run(block: &mut [u8], space: &mut [i32], out: &mut [u8])
         let n = cut(&block[at..end]);
         if n == 0 {
             let m = tell_end(r, index, block, space, out, used);
-            io::write_all(STDOUT_FILENO, &out[..m]);
+            write_out(&out[..m]);
             return;
         }
         let next = at + n;
         let told = tell(book, index, &block[at..next], space, out, used);
         book = told.book;
         rest = Rest { at: next, end: end };
-        let text = drain(told.used, out, ROOM);
+        let whole = cut(&block[next..end]);
+        let text = settle(whole, told.used, out, ROOM);
         used = text.used;
         on = text.on;
         index += 1;
     }
-    io::write_all(STDOUT_FILENO, &out[..used]);
+    write_out(&out[..used]);
 }
 
 fn main() {

@@ -26,7 +26,7 @@ use Rattle.book.specs.Outcomes.{refusal-short}
 use Rattle.lines.specs.Lines.{textLine, eventLine, recordLines, recordTexts, eventText, outcomeText}
 use Rattle.lines.specs.Puts.{Within}
 use Rattle.streams.specs.declared.Rest.{Rest}
-use Rattle.streams.specs.Rests.{Lies, More}
+use Rattle.streams.specs.Rests.{Lies, More, restOf}
 use Rattle.turns.specs.declared.Told.{Told}
 
 -- what the program keeps from event to event: the book, the rest of the input, the end of the text, and whether more is to come
@@ -71,7 +71,7 @@ abbrev pub Turning : Type 1
 Turning = Tape → ℕ → List ℕ → List ℕ → List ℕ → Tape → Type 0
 
 -- the tape, the index, the block and the text after some turns from the first book on. Each reads on, takes a turn of the bytes that are
--- then there, and writes the text out where there is no room.
+-- then there, and writes the text out where there is no room, or nothing whole is left of the input.
 pub data Reached (Turned : Turning) : Tape → ℕ → List ℕ → List ℕ → Type 0 where
   reached-first : (b : Book) (block out : List ℕ) → First b → Reached Turned (record { book = b; rest = record { at = 0; «end» = 0 }; used = 0; on = true }) 0 block out
   reached-next :
@@ -141,21 +141,24 @@ tells {b} index {frame} {s} {q} {sp} {sq} {used} {m} {x} h w =
     rw (h .answer, h .space) (⊎-elim (λ l. text-short index o _ (answer-short b frame (length sp) l)) (λ l. text-laid index o sp k l) (lt-or-le (length sp) 15360)) in
     record { state = h .state; valid = h .valid; text = record { put = rw t at (w .put); few = omega (arith, w .few, h .few) } }
 
--- the loop: the tape was reached by turns, it is ready for the next event, and no length has changed
-pub record Running (Turned : Turning) (block₀ : List ℕ) (space₀ : List ℤ) (out₀ : List ℕ) (t : Tape) (index : ℕ) (block : List ℕ) (space : List ℤ) (out : List ℕ) : Type 0 where
+-- the loop: the tape was reached by turns, it is ready for the next event, no text waits where the next read may (the first of what is
+-- left, by its length, is not whole), and no length has changed
+pub record Running (Turned : Turning) (firstOf : List ℕ → ℕ) (block₀ : List ℕ) (space₀ : List ℤ) (out₀ : List ℕ) (t : Tape) (index : ℕ) (block : List ℕ) (space : List ℤ) (out : List ℕ) : Type 0 where
   pub reached : Reached Turned t index block out
   pub ready : Ready t block space out
+  pub out-before : firstOf (restOf block (t .rest)) ≡ 0 → t .used ≡ 0
   pub blocks : length block ≡ length block₀
   pub spaces : length space ≡ length space₀
   pub outs : length out ≡ length out₀
 
 pub running-first :
-    (Turned : Turning) (b : Book) (block : List ℕ) (space : List ℤ) (out : List ℕ) → First b → length space ≡ 15360 → 189526 ≤ length out →
-    Running Turned block space out (record { book = b; rest = record { at = 0; «end» = 0 }; used = 0; on = true }) 0 block space out
-running-first Turned b block space out f l h =
+    (Turned : Turning) (firstOf : List ℕ → ℕ) (b : Book) (block : List ℕ) (space : List ℤ) (out : List ℕ) → First b → length space ≡ 15360 → 189526 ≤ length out →
+    Running Turned firstOf block space out (record { book = b; rest = record { at = 0; «end» = 0 }; used = 0; on = true }) 0 block space out
+running-first Turned firstOf b block space out f l h =
     record {
       reached = reached-first b block out f;
       ready = record { valid = f .valid; lies = record { order = omega arith; inside = omega arith }; size = l; room = omega arith };
+      out-before = λ _. refl;
       blocks = refl;
       spaces = refl;
       outs = refl;
@@ -169,15 +172,16 @@ ready-filled y m = record { valid = y .valid; lies = m .lies; size = y .size; ro
 
 -- an event: read on, a turn, and the text written out where there is no room
 pub running-next :
-    {Turned : Turning} {block₀ out₀ : List ℕ} {space₀ : List ℤ} {t x : Tape} {index : ℕ} {block next s q : List ℕ} {space sq : List ℤ} {r : Rest} {used : ℕ} {on : Bool} →
-    Running Turned block₀ space₀ out₀ t index block space s → More block next (t .rest) r →
+    {Turned : Turning} {firstOf : List ℕ → ℕ} {block₀ out₀ : List ℕ} {space₀ : List ℤ} {t x : Tape} {index : ℕ} {block next s q : List ℕ} {space sq : List ℤ} {r : Rest} {used : ℕ} {on : Bool} →
+    Running Turned firstOf block₀ space₀ out₀ t index block space s → More block next (t .rest) r →
     Turned (record { book = t .book; rest = r; used = t .used; on = true }) index next s q x → Valid (x .book .state) → Lies (x .rest) next →
-    used + 189526 ≤ length q → length sq ≡ length space → length q ≡ length s →
-    Running Turned block₀ space₀ out₀ (record { book = x .book; rest = x .rest; used = used; on = on }) (index + 1) next sq q
-running-next g m u v l room i o =
+    used + 189526 ≤ length q → (firstOf (restOf next (x .rest)) ≡ 0 → used ≡ 0) → length sq ≡ length space → length q ≡ length s →
+    Running Turned firstOf block₀ space₀ out₀ (record { book = x .book; rest = x .rest; used = used; on = on }) (index + 1) next sq q
+running-next g m u v l room none i o =
     record {
       reached = reached-next (g .reached) m u (record { book = refl; rest = refl; room = room });
       ready = record { valid = v; lies = l; size = i ∙ g .ready .size; room = room };
+      out-before = none;
       blocks = m .same ∙ g .blocks;
       spaces = i ∙ g .spaces;
       outs = o ∙ g .outs;

@@ -1,5 +1,7 @@
 use Rattle.calls.specs.Calls.{ItemTurned, running-call, item-fits, item-long}
 use Rattle.turns.specs.Turns.{Running, running-first}
+use Rattle.calls.specs.Items.{itemOf}
+use Rattle.streams.specs.Texts.{settled-none}
 use borrow.Author.Tests.{ltb-true}
 use lib.Seq.{length-take-le}
 use native.Mathlib.Omega.{arith}
@@ -10,7 +12,7 @@ use Rattle.calls.proofs.run.Tie as tie
 
 abbrev Inv-loop : tie.InvT-loop
 Inv-loop block₀ space₀ out₀ book₀ rest₀ used₀ on₀ index₀ block space out book rest used on index =
-    Running ItemTurned block₀ space₀ out₀ (record { book = book; rest = rest; used = used; on = on }) index block space out
+    Running ItemTurned itemOf block₀ space₀ out₀ (record { book = book; rest = rest; used = used; on = on }) index block space out
 
 abbrev μ-loop : tie.MeasureT-loop
 μ-loop block₀ space₀ out₀ book₀ rest₀ used₀ on₀ index₀ block space out book rest used on index = 18446744073709551615 - index
@@ -19,7 +21,7 @@ first-requires : tie.Need-first-requires Inv-loop μ-loop
 first-requires c κs = tt
 
 loop-holds : tie.Need-loop-holds Inv-loop μ-loop
-loop-holds c = running-first _ _ _ _ _ (c .first .ensures) (omega arith) (omega arith)
+loop-holds c = running-first _ _ _ _ _ _ (c .first .ensures) (omega arith) (omega arith)
 
 fill-item-requires : tie.Need-fill-item-requires Inv-loop μ-loop
 fill-item-requires c κs = c .before .before .before .loop .inv .ready .lies
@@ -39,14 +41,14 @@ item-requires c κs = tt
 tell-end-requires : tie.Need-tell-end-requires Inv-loop μ-loop
 tell-end-requires c κs = (c .before .before .before .before .before .before .before .before .before .before .before .before .loop .inv .ready .valid, ((c .before .before .before .before .before .before .before .before .fill-item .ensures .lies, sym (c .before .before .before .item .ensures) ∙ c .before .before .if2 .taken), c .before .before .before .before .before .before .before .before .before .before .before .before .loop .inv .ready .room))
 
-slice-reshare-prefix-write-all : tie.Need-slice-reshare-prefix-write-all Inv-loop μ-loop
-slice-reshare-prefix-write-all c = c .before .before .tell-end .ensures .within
+slice-reshare-prefix-write-out : tie.Need-slice-reshare-prefix-write-out Inv-loop μ-loop
+slice-reshare-prefix-write-out c = c .before .before .tell-end .ensures .within
 
-slice-aggregate-write-all : tie.Need-slice-aggregate-write-all Inv-loop μ-loop
-slice-aggregate-write-all c = sym (length-take-le _ _ (c .before .before .before .tell-end .ensures .within))
+slice-aggregate-write-out : tie.Need-slice-aggregate-write-out Inv-loop μ-loop
+slice-aggregate-write-out c = sym (length-take-le _ _ (c .before .before .before .tell-end .ensures .within))
 
-write-all-requires : tie.Need-write-all-requires Inv-loop μ-loop
-write-all-requires c κs = tt
+write-out-requires : tie.Need-write-out-requires Inv-loop μ-loop
+write-out-requires c κs = tt
 
 same-length : tie.Need-same-length Inv-loop μ-loop
 same-length c = c .before .before .before .before .before .before .before .before .before .before .before .before .before .fill-item .ensures .same ∙ c .before .before .before .before .before .before .before .before .before .before .before .before .before .before .before .before .before .loop .inv .blocks
@@ -75,26 +77,38 @@ part-tell-item-end c = omega (arith, item-fits (c .before .before .before .befor
 tell-item-requires : tie.Need-tell-item-requires Inv-loop μ-loop
 tell-item-requires c κs = (c .before .before .before .before .before .before .before .before .before .before .before .before .before .before .loop .inv .ready .valid, (item-long (c .before .before .before .before .before .before .before .before .before .before .fill-item .ensures .lies) (c .before .before .before .before .before .item .ensures) (c .before .before .before .before .if2 .left), (c .before .before .before .before .before .before .before .before .before .before .before .before .before .before .loop .inv .ready .size, c .before .before .before .before .before .before .before .before .before .before .before .before .before .before .loop .inv .ready .room)))
 
-drain-requires : tie.Need-drain-requires Inv-loop μ-loop
-drain-requires c κs = (omega (arith, c .before .before .before .before .before .tell-item .ensures .text .few, c .before .before .before .before .before .before .before .before .before .before .before .before .before .before .before .before .before .before .before .before .loop .inv .ready .room, c .before .before .before .before .before .tell-item .kept .1 .1 .1 .1 .0), omega (arith, c .before .before .before .before .before .before .before .before .before .before .before .before .before .before .before .before .before .before .before .before .loop .inv .ready .room, c .before .before .before .before .before .tell-item .kept .1 .1 .1 .1 .0))
+sub-item-2 : tie.Need-sub-item-2 Inv-loop μ-loop
+sub-item-2 c = omega (arith, item-fits (c .before .before .before .before .before .before .before .before .before .before .before .before .before .before .before .fill-item .ensures .lies) (c .before .before .before .before .before .before .before .before .before .before .item .ensures))
+
+part-item-start-2 : tie.Need-part-item-start-2 Inv-loop μ-loop
+part-item-start-2 c = omega (arith, item-fits (c .before .before .before .before .before .before .before .before .before .before .before .before .before .before .before .before .fill-item .ensures .lies) (c .before .before .before .before .before .before .before .before .before .before .before .item .ensures), c .before .before .before .before .before .before .before .before .before .before .before .before .before .before .before .before .fill-item .ensures .lies .inside)
+
+part-item-end-2 : tie.Need-part-item-end-2 Inv-loop μ-loop
+part-item-end-2 c = omega (arith, item-fits (c .before .before .before .before .before .before .before .before .before .before .before .before .before .before .before .before .fill-item .ensures .lies) (c .before .before .before .before .before .before .before .before .before .before .before .item .ensures), c .before .before .before .before .before .before .before .before .before .before .before .before .before .before .before .before .fill-item .ensures .lies .inside)
+
+item-requires-2 : tie.Need-item-requires-2 Inv-loop μ-loop
+item-requires-2 c κs = tt
+
+settle-requires : tie.Need-settle-requires Inv-loop μ-loop
+settle-requires c κs = (omega (arith, c .before .before .before .before .before .before .before .before .tell-item .ensures .text .few, c .before .before .before .before .before .before .before .before .before .before .before .before .before .before .before .before .before .before .before .before .before .before .before .loop .inv .ready .room, c .before .before .before .before .before .before .before .before .tell-item .kept .1 .1 .1 .1 .0), omega (arith, c .before .before .before .before .before .before .before .before .before .before .before .before .before .before .before .before .before .before .before .before .before .before .before .loop .inv .ready .room, c .before .before .before .before .before .before .before .before .tell-item .kept .1 .1 .1 .1 .0))
 
 add-index : tie.Need-add-index Inv-loop μ-loop
-add-index c = omega (arith, ltb-true (c .before .before .before .before .before .before .before .before .before .before .before .before .before .before .before .before .before .before .before .before .before .loop .index) 18446744073709551615 (c .before .before .before .before .before .before .before .before .before .before .before .before .before .before .before .before .before .before .before .if1 .taken))
+add-index c = omega (arith, ltb-true (c .before .before .before .before .before .before .before .before .before .before .before .before .before .before .before .before .before .before .before .before .before .before .before .before .loop .index) 18446744073709551615 (c .before .before .before .before .before .before .before .before .before .before .before .before .before .before .before .before .before .before .before .before .before .before .if1 .taken))
 
 loop-less : tie.Need-loop-less Inv-loop μ-loop
-loop-less c = omega (arith, ltb-true (c .before .before .before .before .before .before .before .before .before .before .before .before .before .before .before .before .before .before .before .before .before .loop .index) 18446744073709551615 (c .before .before .before .before .before .before .before .before .before .before .before .before .before .before .before .before .before .before .before .if1 .taken))
+loop-less c = omega (arith, ltb-true (c .before .before .before .before .before .before .before .before .before .before .before .before .before .before .before .before .before .before .before .before .before .before .before .before .loop .index) 18446744073709551615 (c .before .before .before .before .before .before .before .before .before .before .before .before .before .before .before .before .before .before .before .before .before .before .if1 .taken))
 
 loop-again : tie.Need-loop-again Inv-loop μ-loop
-loop-again c = running-call (c .before .before .before .before .before .before .before .before .before .before .before .before .before .before .before .before .before .before .before .before .before .loop .inv) (c .before .before .before .before .before .before .before .before .before .before .before .before .before .before .before .before .before .fill-item .ensures) (c .before .before .before .before .before .before .before .before .before .before .before .before .item .ensures) (c .before .before .before .before .before .before .before .before .before .before .before .if2 .left) refl (c .before .before .before .before .before .before .tell-item .ensures) (c .drain .ensures .room) (c .before .before .before .before .before .before .tell-item .kept .1 .1 .1 .0) (c .before .before .before .before .before .before .tell-item .kept .1 .1 .1 .1 .0)
+loop-again c = running-call (c .before .before .before .before .before .before .before .before .before .before .before .before .before .before .before .before .before .before .before .before .before .before .before .before .loop .inv) (c .before .before .before .before .before .before .before .before .before .before .before .before .before .before .before .before .before .before .before .before .fill-item .ensures) (c .before .before .before .before .before .before .before .before .before .before .before .before .before .before .before .item .ensures) (c .before .before .before .before .before .before .before .before .before .before .before .before .before .before .if2 .left) refl (c .before .before .before .before .before .before .before .before .before .tell-item .ensures) (c .settle .ensures .room) (λ z. settled-none (c .settle .ensures) (c .before .before .item2 .ensures ∙ z)) (c .before .before .before .before .before .before .before .before .before .tell-item .kept .1 .1 .1 .0) (c .before .before .before .before .before .before .before .before .before .tell-item .kept .1 .1 .1 .1 .0)
 
-slice-reshare-prefix-write-all-2 : tie.Need-slice-reshare-prefix-write-all-2 Inv-loop μ-loop
-slice-reshare-prefix-write-all-2 c = omega (arith, c .before .loop .inv .ready .room)
+slice-reshare-prefix-write-out-2 : tie.Need-slice-reshare-prefix-write-out-2 Inv-loop μ-loop
+slice-reshare-prefix-write-out-2 c = omega (arith, c .before .loop .inv .ready .room)
 
-slice-aggregate-write-all-2 : tie.Need-slice-aggregate-write-all-2 Inv-loop μ-loop
-slice-aggregate-write-all-2 c = sym (length-take-le _ _ (omega (arith, c .before .before .loop .inv .ready .room)))
+slice-aggregate-write-out-2 : tie.Need-slice-aggregate-write-out-2 Inv-loop μ-loop
+slice-aggregate-write-out-2 c = sym (length-take-le _ _ (omega (arith, c .before .before .loop .inv .ready .room)))
 
-write-all-requires-2 : tie.Need-write-all-requires-2 Inv-loop μ-loop
-write-all-requires-2 c κs = tt
+write-out-requires-2 : tie.Need-write-out-requires-2 Inv-loop μ-loop
+write-out-requires-2 c κs = tt
 
 same-length-4 : tie.Need-same-length-4 Inv-loop μ-loop
 same-length-4 c = c .before .before .before .loop .inv .blocks
@@ -122,9 +136,9 @@ run-spec =
     part-item-end
     item-requires
     tell-end-requires
-    slice-reshare-prefix-write-all
-    slice-aggregate-write-all
-    write-all-requires
+    slice-reshare-prefix-write-out
+    slice-aggregate-write-out
+    write-out-requires
     same-length
     same-length-2
     same-length-3
@@ -134,13 +148,17 @@ run-spec =
     part-tell-item-start
     part-tell-item-end
     tell-item-requires
-    drain-requires
+    sub-item-2
+    part-item-start-2
+    part-item-end-2
+    item-requires-2
+    settle-requires
     add-index
     loop-less
     loop-again
-    slice-reshare-prefix-write-all-2
-    slice-aggregate-write-all-2
-    write-all-requires-2
+    slice-reshare-prefix-write-out-2
+    slice-aggregate-write-out-2
+    write-out-requires-2
     same-length-4
     same-length-5
     same-length-6

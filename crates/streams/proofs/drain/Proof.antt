@@ -11,15 +11,15 @@ sub-if1 c = search needs
 returns : tie.Need-returns
 returns c = drains-none _ _ _ refl (c .before .before .pre .0) (c .if1 .taken)
 
-slice-aggregate-write-all : tie.Need-slice-aggregate-write-all
-slice-aggregate-write-all c = sym (length-take-le _ _ (c .before .before .before .pre .0))
+slice-aggregate-write-out : tie.Need-slice-aggregate-write-out
+slice-aggregate-write-out c = sym (length-take-le _ _ (c .before .before .before .pre .0))
 
-write-all-requires : tie.Need-write-all-requires
-write-all-requires c κs = search needs
+write-out-requires : tie.Need-write-out-requires
+write-out-requires c κs = search needs
 
 returns-2 : tie.Need-returns-2
 returns-2 c = drains-all _ _ _ refl (c .before .before .before .before .pre .1) (c .before .before .if1 .left)
 
 pub drain-spec : {M : Type 1} → statement M
 drain-spec =
-    tie.close (tie.spec sub-if1 returns slice-aggregate-write-all write-all-requires returns-2)
+    tie.close (tie.spec sub-if1 returns slice-aggregate-write-out write-out-requires returns-2)

@@ -17,6 +17,9 @@ part-part-end c = search needs
 read-requires : tie.Need-read-requires
 read-requires c κs = search needs
 
+say-unread-requires : tie.Need-say-unread-requires
+say-unread-requires c κs = search needs
+
 count-requires : tie.Need-count-requires
 count-requires c κs = search needs
 
@@ -37,6 +40,7 @@ read-on-spec =
     part-part-start
     part-part-end
     read-requires
+    say-unread-requires
     count-requires
     add-result
     same-length
