@@ -1,6 +1,6 @@
-//! Links the proved static libraries, libframes.a with the judge and libexports.a
-//! with the reader and the writer, from the folder that CODEC_LIBRARIES names,
-//! or target/staticlib of this repository.
+//! Links the proved static library libexports.a with the judge, the reader and
+//! the writer, from the folder that CODEC_LIBRARIES names, or target/staticlib
+//! of this repository.
 
 use std::env;
 use std::path::PathBuf;
@@ -13,15 +13,13 @@ fn main() {
     };
     println!("cargo:rerun-if-env-changed=CODEC_LIBRARIES");
     println!("cargo:rustc-link-search=native={}", folder.display());
-    for name in ["frames", "exports"] {
-        let library = folder.join(format!("lib{name}.a"));
-        if !library.is_file() {
-            panic!(
-                "{} is missing: run `rt staticlib {name}`",
-                library.display()
-            );
-        }
-        println!("cargo:rerun-if-changed={}", library.display());
-        println!("cargo:rustc-link-lib=static={name}");
+    let library = folder.join("libexports.a");
+    if !library.is_file() {
+        panic!(
+            "{} is missing: run `rt staticlib exports`",
+            library.display()
+        );
     }
+    println!("cargo:rerun-if-changed={}", library.display());
+    println!("cargo:rustc-link-lib=static=exports");
 }

@@ -1,9 +1,9 @@
-/* Calls `judge` on frames that begin right after, or end right before, memory
+/* Calls `complex_book_judge` on frames that begin right after, or end right before, memory
  * that may not be read, and that may not be written. A read outside the frame
  * or any write to it ends this program by a signal. */
 #define _DEFAULT_SOURCE
 
-#include "frames.h"
+#include "complex_book.h"
 
 #include <stdio.h>
 #include <string.h>
@@ -21,7 +21,7 @@ static uint32_t judged(uint8_t *at, const uint8_t *frame, size_t length) {
     memcpy(at, frame, length);
     if (mprotect(room, page, PROT_READ) != 0)
         return 100;
-    uint32_t answer = judge(at, length);
+    uint32_t answer = complex_book_judge(at, length);
     if (mprotect(room, page, PROT_READ | PROT_WRITE) != 0)
         return 100;
     return answer;

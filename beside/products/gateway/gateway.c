@@ -1,7 +1,7 @@
 /* Reads frames from standard input and prints for each whether it is queued. */
 #define _POSIX_C_SOURCE 200809L
 
-#include "frames.h"
+#include "complex_book.h"
 
 #include <errno.h>
 #include <inttypes.h>
@@ -83,7 +83,7 @@ static bool run(void) {
         if (length < SHORTEST || length > input.end - input.start)
             return printf("%" PRIu64 " refused 2\n", index) >= 0;
         const uint8_t *frame = input.bytes + input.start;
-        uint32_t refusal = judge(frame, length);
+        uint32_t refusal = complex_book_judge(frame, length);
         int printed = refusal == 0 ? printf("%" PRIu64 " queued", index)
                                    : printf("%" PRIu64 " refused %" PRIu32, index, refusal);
         if (printed < 0 || printf(" kind %u length %zu\n", two(frame + 2), length) < 0)

@@ -1,12 +1,12 @@
 #!/bin/bash
-# Builds the gateway over the proved library and runs its tests. LIBRARY is the
-# static library that has `judge`, ASSEMBLE the program of
-# beside/products/assemble; both must be built before. The last line is
-# 'gateway: N passed, M failed'.
+# Builds the gateway over the proved library and runs its tests, and compiles the
+# library's header as C and as C++. LIBRARY is the static library with the
+# exported functions, ASSEMBLE the program of beside/products/assemble; both must
+# be built before. The last line is 'gateway: N passed, M failed'.
 set -u
 cd "$(dirname "$0")" || exit 2
 root=$(cd ../../.. && pwd)
-library=${LIBRARY:-$root/target/staticlib/libframes.a}
+library=${LIBRARY:-$root/target/staticlib/libexports.a}
 assemble=${ASSEMBLE:-$root/target/cargo/release/assemble}
 out=$root/target/gateway
 passed=0
@@ -36,11 +36,15 @@ finish() {
 
 rm -rf "$out"
 mkdir -p "$out"
-for name in gateway bounds; do
-    if ! gcc -std=c11 -Wall -Wextra -Werror -O2 "$name.c" "$library" -o "$out/$name"; then
+for name in gateway bounds codec; do
+    if ! gcc -std=c11 -Wall -Wextra -Werror -O2 -I "$root/include" "$name.c" "$library" -o "$out/$name"; then
         fail "$name.c does not compile"
     fi
 done
+# The library has no language of its own: C++ links it by the header alone.
+if ! g++ -std=c++11 -Wall -Wextra -Werror -pedantic -O2 -I "$root/include" -x c++ codec.c -x none "$library" -o "$out/codec++"; then
+    fail "codec.c does not compile as C++"
+fi
 [ "$failed" -eq 0 ] || finish
 gateway=$out/gateway
 
@@ -120,4 +124,12 @@ check "a broken output" ends 1 'writing the output' broken_output
 check "a closed input" ends 1 'reading the input' closed_input
 check "a folder as input" ends 1 'reading the input' folder_input
 check "reads and writes outside the frame" "$out/bounds"
+check "every exported function, from C" "$out/codec"
+check "every exported function, from C++" "$out/codec++"
+# exported: the functions of the library that C sees are those of the header.
+exported() {
+    nm -g --defined-only "$library" 2>/dev/null | sed -n 's/.* T //p' | sort >"$out/symbols"
+    sed -nE 's/^uint32_t (complex_book_[a-z_]+)\(.*/\1/p' "$root/include/complex_book.h" | sort | diff - "$out/symbols"
+}
+check "the header has what the library exports" exported
 finish

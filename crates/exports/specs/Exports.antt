@@ -35,7 +35,7 @@ abbrev pub spaceAfter : Reading → List ℕ → List ℕ
 spaceAfter (R.Event e) sp = spaceOf e sp
 spaceAfter (R.Refused n) sp = sp
 
--- what `frame_read` answers: 1 where there are fewer than 20 values, else as the judge
+-- what `complex_book_read` answers: 1 where there are fewer than 20 values, else as the judge
 unfoldable pub frameRead : List ℕ → List ℕ → ℕ
 frameRead f vs = pick (ltb (length vs) 20) 1 (readingNumber (readOf f))
 
@@ -43,7 +43,7 @@ frameRead f vs = pick (ltb (length vs) 20) 1 (readingNumber (readOf f))
 unfoldable pub frameValues : List ℕ → List ℕ → List ℕ
 frameValues f vs = pick (ltb (length vs) 20) vs (valuesAfter (readOf f) vs)
 
--- what `frame_write` answers: 3 where there are fewer than 20 values, else as the writer
+-- what `complex_book_write` answers: 3 where there are fewer than 20 values, else as the writer
 unfoldable pub frameWrite : List ℕ → List ℕ → ℕ
 frameWrite vs sp = pick (ltb (length vs) 20) 3 (answerAfter (eventIn vs) (length sp))
 

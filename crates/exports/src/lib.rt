@@ -1,8 +1,10 @@
-// The reader and the writer over plain numbers, for tests written in C or Rust: a kind's number, then the row of 19.
+// What C and Rust call: the judge, and the reader and the writer over plain numbers, a kind's number and then the row of 19. Their
+// header is include/complex_book.h.
 ghost use mathlib.Core.Path.{_≡_};
 ghost use mathlib.Core.List.{_++_};
 ghost use Prim.Native.Nat.{_≤_};
 ghost use lib.ListN.{length, take, drop};
+ghost use Rattle.frames.specs.Frames.{judgeOf};
 ghost use Rattle.exports.specs.Exports.{valuesOf, eventIn, ReadOut, WrittenOut, WriteOut};
 use events::Event;
 use events::Reading;
@@ -12,6 +14,7 @@ use events::rows::event_of;
 use events::rows::kind_in;
 use events::rows::row_of;
 use frames::Written;
+use frames::judge;
 use frames::read;
 use frames::write;
 
@@ -63,9 +66,17 @@ fn send(event: Event, space: &mut [u8]) -> u32
     }
 }
 
+// Judges a frame: 0 where it carries an event, else its refusal, 2 or 3.
+#[no_mangle]
+pub extern "C" fn complex_book_judge(frame: &[u8]) -> u32
+    ensures { λ r. ⌜ r ≡ judgeOf (now (frame .entry)) ⌝ }
+{
+    judge(frame)
+}
+
 // Reads a frame: 0, and its kind and row as the first 20 values; or its refusal, 2 or 3; or 1 where there are fewer than 20 values.
 #[no_mangle]
-pub extern "C" fn frame_read(frame: &[u8], values: &mut [u32]) -> u32
+pub extern "C" fn complex_book_read(frame: &[u8], values: &mut [u32]) -> u32
     ensures { λ r. ⌜ ReadOut (now (frame .entry)) (now (values .entry)) (now (values .exit)) r ⌝ }
 {
     if values.len() < 20 {
@@ -83,7 +94,7 @@ pub extern "C" fn frame_read(frame: &[u8], values: &mut [u32]) -> u32
 
 // Writes the frame of the event that the first 20 values are: its length, above 3; or the refusal, 3 or 1.
 #[no_mangle]
-pub extern "C" fn frame_write(values: &[u32], space: &mut [u8]) -> u32
+pub extern "C" fn complex_book_write(values: &[u32], space: &mut [u8]) -> u32
     ensures { λ r. ⌜ WriteOut (now (values .entry)) (now (space .entry)) (now (space .exit)) r ⌝ }
 {
     if values.len() < 20 {

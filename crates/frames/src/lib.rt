@@ -67,8 +67,7 @@ pub fn read(frame: &[u8]) -> Reading
 }
 
 // 0 for a frame that carries an event, else its refusal.
-#[no_mangle]
-pub extern "C" fn judge(frame: &[u8]) -> u32
+pub fn judge(frame: &[u8]) -> u32
     ensures { λ r. ⌜ r ≡ judgeOf (now (frame .entry)) ⌝ }
 {
     let reading = read(frame);

@@ -1,8 +1,8 @@
 use Rattle.exports.specs.Laws.{write-three, write-out}
 use mathlib.Core.Path.{refl, sym, _∙_}
 use borrow.Author.Needs.{needs}
-use Rattle.exports.proofs.frame_write.Statement.{statement}
-use Rattle.exports.proofs.frame_write.Tie as tie
+use Rattle.exports.proofs.complex_book_write.Statement.{statement}
+use Rattle.exports.proofs.complex_book_write.Tie as tie
 
 returns : tie.Need-returns
 returns c = write-three _ _ (c .if1 .taken)
@@ -28,8 +28,8 @@ returns-2 c = write-out _ _ (c .before .before .before .before .before .before .
 returns-3 : tie.Need-returns-3
 returns-3 c = write-out _ _ (c .before .before .before .if1 .left) (sym (c .enum-told .given .1) ∙ c .before .before .event-in .ensures) refl refl
 
-pub frame-write-spec : {M : Type 1} → statement M
-frame-write-spec =
+pub complex-book-write-spec : {M : Type 1} → statement M
+complex-book-write-spec =
     tie.close
     (tie.spec
     returns

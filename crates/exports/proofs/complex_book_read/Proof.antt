@@ -1,8 +1,8 @@
 use Rattle.exports.specs.Laws.{read-one, read-out}
 use mathlib.Core.Path.{refl, sym, _∙_}
 use borrow.Author.Needs.{needs}
-use Rattle.exports.proofs.frame_read.Statement.{statement}
-use Rattle.exports.proofs.frame_read.Tie as tie
+use Rattle.exports.proofs.complex_book_read.Statement.{statement}
+use Rattle.exports.proofs.complex_book_read.Tie as tie
 
 returns : tie.Need-returns
 returns c = read-one _ _ (c .if1 .taken)
@@ -28,8 +28,8 @@ returns-2 c = read-out _ _ (c .before .before .before .before .before .before .b
 returns-3 : tie.Need-returns-3
 returns-3 c = read-out _ _ (c .before .before .before .before .if1 .left) (sym (c .before .reading2 .given .1) ∙ c .before .before .before .read .ensures) refl
 
-pub frame-read-spec : {M : Type 1} → statement M
-frame-read-spec =
+pub complex-book-read-spec : {M : Type 1} → statement M
+complex-book-read-spec =
     tie.close
     (tie.spec
     returns
