@@ -2,17 +2,18 @@
 //! by asking the proved writer: there is no second table of ranges here.
 
 use crate::codec::{write, Row, NUMBERS};
+use crate::echo;
 use crate::forms::{leg_fields, Field, Form, LEG_COUNT, STRATEGY};
 
 /// A field with its number, and the word that was written for it.
-#[derive(Clone, Debug)]
-pub struct Said {
+#[derive(Clone, Copy, Debug)]
+pub struct Said<'a> {
     pub field: Field,
     pub value: i64,
-    pub word: String,
+    pub word: &'a [u8],
 }
 
-impl Said {
+impl Said<'_> {
     /// The number of the row: the value, and what the row has more. What the
     /// row cannot hold becomes its highest number, which is in no range.
     pub fn held(&self) -> u32 {
@@ -81,7 +82,7 @@ pub fn outside(form: Option<&Form>, said: &[Said]) -> String {
     match said.iter().find(wrong) {
         Some(Said { field, word, .. }) => {
             let (low, high) = range(form, *field);
-            let name = field.name;
+            let (name, word) = (field.name, echo::word(word));
             format!("{name} {word} is outside its range, {low} to {high}")
         }
         None => "a field is outside its range".to_string(),

@@ -201,11 +201,11 @@ fn every_number_has_its_range_and_beyond_it_the_line_is_named() {
         ]
         .map(|value| value.to_string())
         .to_vec();
-        beyond.extend(["9".repeat(40), format!("-{}", "9".repeat(40))]);
+        beyond.extend(["9".repeat(40), format!("-{}", "9".repeat(39))]);
         for value in beyond {
             let text = format!("open 0\n\n{}\nopen 1\n", form.replace('@', &value));
             let said = format!("{name} {value} is outside its range, {low} to {high}");
-            assert_eq!(assemble(text.as_bytes()), Err((3, said)), "{text}");
+            assert_eq!(assemble(text.as_bytes()), Err(vec![(3, said)]), "{text}");
         }
     }
 }
@@ -220,7 +220,7 @@ fn a_strategy_has_2_to_6_legs() {
             assert_eq!(result.map(|frame| frame.len()), Ok(5 + 3 * count));
         } else {
             let said = format!("leg count {count} is outside its range, 2 to 6");
-            assert_eq!(result, Err((1, said)));
+            assert_eq!(result, Err(vec![(1, said)]));
         }
     }
 }
@@ -315,18 +315,32 @@ const BAD: &[(&str, &str)] = &[
 fn bad_lines_are_refused_with_their_number() {
     for (line, said) in BAD {
         for before in [0, 1, 7] {
-            let text = format!("{}{line}\nbytes 0\n", "open 0\n".repeat(before));
-            match assemble(text.as_bytes()) {
-                Err((number, wrong)) => {
-                    assert_eq!(number, before + 1, "{line}");
+            let text = format!("{}{line}\nopen 0\n", "open 0\n".repeat(before));
+            match assemble(text.as_bytes()).as_ref().map_err(Vec::as_slice) {
+                Err([(number, wrong)]) => {
+                    assert_eq!(*number, before as u64 + 1, "{line}");
                     assert!(wrong.contains(said), "{line}: {wrong}");
                 }
-                Ok(_) => panic!("{line} is taken"),
+                other => panic!("{line}: {other:?}"),
             }
         }
         // In a comment nothing is bad.
         let comment = format!("open 0 # {line}");
         assert_eq!(assemble(comment.as_bytes()), Ok(vec![6, 0, 6, 0, 0, 1]));
+    }
+}
+
+#[test]
+fn every_bad_line_is_told() {
+    let lines: Vec<&str> = BAD.iter().map(|(line, _)| *line).collect();
+    let text = lines.join("\nopen 0 # good\n\n");
+    let Err(bad) = assemble(text.as_bytes()) else {
+        panic!("the lines are taken");
+    };
+    assert_eq!(bad.len(), BAD.len());
+    for (at, ((number, wrong), (line, said))) in bad.iter().zip(BAD).enumerate() {
+        assert_eq!(*number, 3 * at as u64 + 1);
+        assert!(wrong.contains(said), "{line}: {wrong}");
     }
 }
 

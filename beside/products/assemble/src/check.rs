@@ -1,0 +1,52 @@
+//! The look at a whole day before anything of it is written or played: every bad
+//! line is told, and where there is none, each line `bytes` that is no frame.
+
+use crate::day::Day;
+use crate::framing::{Part, Parts, What};
+use crate::lines::Wrong;
+use crate::warnings::{odd, warnings};
+use std::io;
+
+/// Whether every line is good. Each message is told as `line N: ..`.
+pub fn check(day: &Day, tell: &mut dyn FnMut(String)) -> io::Result<bool> {
+    let mut good = true;
+    let mut warn = false;
+    for line in day.lines() {
+        match line {
+            Ok(line) => warn |= odd(&line),
+            Err(Wrong::Line(number, wrong)) => {
+                tell(format!("line {number}: {wrong}"));
+                good = false;
+            }
+            Err(Wrong::Read(error)) => return Err(error),
+        }
+    }
+    if good && warn {
+        warn_of(day, tell)?;
+    }
+    Ok(good)
+}
+
+fn warn_of(day: &Day, tell: &mut dyn FnMut(String)) -> io::Result<()> {
+    let mut stop = None;
+    for part in Parts::new(day.lines()) {
+        let part: Part = part.map_err(changed)?;
+        for (line, warning) in warnings(&part, stop) {
+            tell(format!("line {line}: {warning}"));
+        }
+        if let What::Stop(_) = part.what {
+            stop = Some(part.first);
+        }
+    }
+    Ok(())
+}
+
+/// What is wrong with a day that was checked before.
+pub fn changed(wrong: Wrong) -> io::Error {
+    match wrong {
+        Wrong::Read(error) => error,
+        Wrong::Line(number, _) => {
+            io::Error::other(format!("line {number} changed while the day was read"))
+        }
+    }
+}
