@@ -11,3 +11,4 @@ pub mod hand;
 pub mod program;
 pub mod slips;
 pub mod tally;
+pub mod waiting;
