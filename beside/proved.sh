@@ -2,14 +2,68 @@
 # What ./play, ./audit and ./bench need of the proved crates, to be sourced by bash with
 # `root`, the repository, and `name`, the script, set.
 
-# proves COMMAND...: runs rt in the repository. Of what it says only what was
-# done anew is shown, on standard error.
+# The least stack in KB with which tape is known to run (./bench measures it).
+stack_kb=400
+
+# crates_below NAME: how many crates of crates.txt NAME and those below it are.
+crates_below() {
+    awk -F: -v top="$1" '
+        /^[a-z]/ { uses[$1] = $2 }
+        function walk(one, list, count, i) {
+            if (!(one in uses) || one in seen) return
+            seen[one] = 1
+            total++
+            count = split(uses[one], list, " ")
+            for (i = 1; i <= count; i++) walk(list[i])
+        }
+        END { walk(top); print total }' "$root/crates.txt"
+}
+
+# progress WHAT COUNT: reads what rt prints, and shows each crate that is proved
+# anew: on a terminal all on one line, elsewhere a line each.
+progress() {
+    local what=$1 count=$2 at=0 line crate shown=0
+    while IFS= read -r line; do
+        case $line in
+            'rt: '*' proved ('*)
+                at=$((at + 1))
+                case $line in *'unchanged since'*) continue ;; esac
+                crate=${line#rt: }
+                crate=${crate/ proved/}
+                if [ -t 2 ]; then
+                    printf '\r\033[K%s: proving %s, crate %d of %d: %s' "$name" "$what" "$at" "$count" "$crate" >&2
+                    shown=1
+                else
+                    printf '%s: proving %s, crate %d of %d: %s\n' "$name" "$what" "$at" "$count" "$crate" >&2
+                fi
+                ;;
+            'rt: ok'*) ;;
+            'rt: '*' ran as '* | 'rt: '*' wrote '* | 'rt: target/'*) ;;
+            'rt: '*)
+                [ "$shown" -eq 0 ] || echo >&2
+                shown=0
+                echo "$line" >&2
+                ;;
+        esac
+    done
+    [ "$shown" -eq 0 ] || echo >&2
+}
+
+# proves WHAT CRATE COMMAND...: runs rt in the repository, on all its processors, and
+# shows how it goes on.
 proves() {
-    (cd "$root" && "$@" 2>&1) | sed -n -e '/unchanged since/d' -e '/^rt: ok/d' -e '/^rt: /p' >&2
+    local what=$1 crate=$2
+    shift 2
+    (cd "$root" && "$@" 2>&1) | progress "$what" "$(crates_below "$crate")"
     [ "${PIPESTATUS[0]}" -eq 0 ] || {
         echo "$name: '$*' failed; run it in $root to see why" >&2
         return 1
     }
+}
+
+# newer_than FILE PATH...: whether FILE is missing, or something below a path is newer.
+newer_than() {
+    [ ! -f "$1" ] || [ -n "$(find "${@:2}" -newer "$1" -print -quit)" ]
 }
 
 # The library with the reader and the writer: built anew if one of its sources is
@@ -20,9 +74,9 @@ proved_library() {
     for crate in base events frames exports; do
         sources+=("$root/crates/$crate")
     done
-    if [ ! -f "$library" ] || [ -n "$(find "${sources[@]}" -newer "$library" -print -quit)" ]; then
-        echo "$name: proving the reader and writer of frames, for their library" >&2
-        proves rt staticlib exports || return 1
+    if newer_than "$library" "${sources[@]}"; then
+        echo "$name: proving the reader and writer of frames: about a minute the first time" >&2
+        proves 'the writer' exports rt staticlib exports || return 1
     fi
 }
 
@@ -30,11 +84,26 @@ proved_library() {
 proved_tape() {
     tape=${TAPE-$root/target/bin/tape}
     if [ -z "${TAPE+set}" ]; then
-        [ -x "$tape" ] || echo "$name: proving the program tape; the first time this takes some minutes" >&2
-        proves rt check tape || return 1
+        [ -x "$tape" ] || echo "$name: proving the program tape and the $(($(crates_below tape) - 1)) crates below it: about 6 minutes on two cores the first time" >&2
+        proves tape tape rt check tape || return 1
     fi
     if [ ! -x "$tape" ]; then
         echo "$name: the program $tape is missing" >&2
         return 1
     fi
+}
+
+# plays INPUT OUTPUT: the frames of a file through `tape`, what it prints to another
+# file. Answers 1, with a message, unless tape ends well and says nothing.
+plays() {
+    local said status
+    said=$({ "$tape" <"$1" >"$2"; } 2>&1)
+    status=$?
+    [ -z "$said" ] || echo "$name: tape: $said" >&2
+    if [ "$status" -eq 139 ]; then
+        echo "$name: $tape ended by a violation of memory: has it a stack of $stack_kb KB (ulimit -s)?" >&2
+    elif [ "$status" -ne 0 ]; then
+        echo "$name: $tape ended with status $status" >&2
+    fi
+    [ -z "$said" ] && [ "$status" -eq 0 ]
 }

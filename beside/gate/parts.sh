@@ -1,7 +1,7 @@
 # shellcheck shell=bash disable=SC2154
 # Runs the parts of ./test and counts their tests, to be sourced by bash with
-# `counts`, the file that says how many tests each part runs, and `log`, a file
-# for what a part prints.
+# `counts`, the file that says how many tests each part runs, `log`, a file for what
+# a part prints, and `only`, the one part that is to run, or nothing.
 passed=0
 failed=0
 summary=()
@@ -21,6 +21,18 @@ no_test() {
     echo "0 $((status != 0))"
 }
 
+# kit_of FILE: which kit proves, and a warning where it is not the one that FILE
+# names, with which this version was proved.
+kit_of() {
+    local own pinned
+    own=$(rt version) && pinned=$(cat "$1") || return 1
+    if [ "$own" = "$pinned" ]; then
+        echo "$own, with which this version was proved"
+    else
+        echo "WARNING: $own, and this version was proved with $pinned ($1)"
+    fi
+}
+
 # The lines of `counts` without comments.
 pins() {
     grep -vE '^(#|$)' "$counts"
@@ -35,6 +47,13 @@ wrong() {
     failed=$((failed + 1))
     echo "$1"
     summary+=("$1")
+}
+
+# told NAME WORDS: no test; the words are said at once and in the summary.
+told() {
+    echo "== $1"
+    echo "$2"
+    summary+=("$1: $2")
 }
 
 # part NAME COUNTER COMMAND...: runs the command and adds what it counts. Another
@@ -74,13 +93,14 @@ part() {
 }
 
 # Prints the summary and the last line, and answers 0 only if nothing failed and
-# every part that `counts` names ran.
+# every part that `counts` names ran, or the one that was to run.
 finish() {
     local line name
     while read -r line; do
         for name in "${ran[@]}"; do
             [ "${line%: *}" != "$name" ] || continue 2
         done
+        [ -z "$only" ] || [ "${line%: *}" = "$only" ] || continue
         wrong "part ${line%: *} did not run, $counts says ${line##*: }"
     done < <(pins)
     echo "== summary"
