@@ -7,24 +7,37 @@ use crate::lines::Wrong;
 use crate::warnings::{odd, warnings};
 use std::io;
 
-/// Whether every line is good. Each message is told as `line N: ..`.
-pub fn check(day: &Day, tell: &mut dyn FnMut(String)) -> io::Result<bool> {
-    let mut good = true;
-    let mut warn = false;
+/// What was seen of a day.
+#[derive(Clone, Copy, Debug, Default, PartialEq, Eq)]
+pub struct Checked {
+    /// The lines that stand for an event.
+    pub lines: u64,
+    pub bad: u64,
+    /// Lines `bytes` that are not one frame. Where there is none, each line is
+    /// one frame, and one event of `tape`.
+    pub odd: u64,
+}
+
+/// Looks at every line. Each message is told as `line N: ..`.
+pub fn check(day: &Day, tell: &mut dyn FnMut(String)) -> io::Result<Checked> {
+    let mut seen = Checked::default();
     for line in day.lines() {
         match line {
-            Ok(line) => warn |= odd(&line),
+            Ok(line) => {
+                seen.lines += 1;
+                seen.odd += u64::from(odd(&line));
+            }
             Err(Wrong::Line(number, wrong)) => {
                 tell(format!("line {number}: {wrong}"));
-                good = false;
+                seen.bad += 1;
             }
             Err(Wrong::Read(error)) => return Err(error),
         }
     }
-    if good && warn {
+    if seen.bad == 0 && seen.odd > 0 {
         warn_of(day, tell)?;
     }
-    Ok(good)
+    Ok(seen)
 }
 
 fn warn_of(day: &Day, tell: &mut dyn FnMut(String)) -> io::Result<()> {

@@ -13,18 +13,23 @@ pub const MOST: usize = 40;
 
 /// A word of the input: its first characters.
 pub fn word(bytes: impl AsRef<[u8]>) -> String {
+    cut(bytes, MOST)
+}
+
+/// The first characters of a text, `..` after them where some are left out.
+pub fn cut(bytes: impl AsRef<[u8]>, most: usize) -> String {
     let mut shown = String::new();
     let mut length = 0;
     // The place up to which there is room for the mark of a cut.
     let mut fits = 0;
     for piece in pieces(bytes.as_ref()) {
         length += piece.chars().count();
-        if length > MOST {
+        if length > most {
             shown.truncate(fits);
             return shown + "..";
         }
         shown += &piece;
-        if length <= MOST - 2 {
+        if length + 2 <= most {
             fits = shown.len();
         }
     }

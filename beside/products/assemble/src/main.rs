@@ -40,7 +40,7 @@ fn run(name: &str, file: &OsStr) -> Result<bool, String> {
     let unwritten = |error| failed(&error);
     let day = Day::open(file).map_err(unread)?;
     let mut tell = |message: String| say(&format!("{name}: {shown}: {message}"));
-    if !check(&day, &mut tell).map_err(unread)? {
+    if check(&day, &mut tell).map_err(unread)?.bad > 0 {
         return Ok(false);
     }
     let mut output = Output::new().map_err(unwritten)?;

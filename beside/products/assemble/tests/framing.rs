@@ -4,7 +4,7 @@
 #![forbid(unsafe_code)]
 #![deny(warnings)]
 
-use assemble::check::check;
+use assemble::check::{check, Checked};
 use assemble::day::Day;
 use assemble::framing::{Part, Parts, What, Why};
 use assemble::lines::Lines;
@@ -124,11 +124,11 @@ fn frames_do_not_depend_on_the_lines() {
 }
 
 /// What is told of a text.
-fn told(text: &str) -> (bool, Vec<String>) {
+fn told(text: &str) -> (Checked, Vec<String>) {
     let mut told = Vec::new();
     let day = Day::Text(text.as_bytes().to_vec());
-    let good = check(&day, &mut |message| told.push(message)).expect("a text can be read");
-    (good, told)
+    let seen = check(&day, &mut |message| told.push(message)).expect("a text can be read");
+    (seen, told)
 }
 
 #[test]
@@ -185,18 +185,20 @@ fn lines_that_are_no_frame_are_warned_of() {
         ),
     ];
     for (text, warnings) in cases {
+        let (seen, told) = told(text);
+        assert_eq!(told, *warnings, "{text}");
+        assert_eq!((seen.bad, seen.odd), (0, warnings.len() as u64), "{text}");
         assert_eq!(
-            told(text),
-            (true, warnings.iter().map(|w| w.to_string()).collect()),
-            "{text}"
+            seen.lines,
+            text.split_whitespace().filter(|w| w.len() > 3).count() as u64
         );
     }
 }
 
 #[test]
 fn where_a_line_is_bad_there_are_no_warnings() {
-    let (good, told) = told("bytes 00 00\nopen 32\n\nopen 33\n");
-    assert!(!good);
+    let (seen, told) = told("bytes 00 00\nopen 32\n\nopen 33\n");
+    assert_eq!((seen.bad, seen.odd, seen.lines), (2, 1, 1));
     assert_eq!(
         told,
         [
