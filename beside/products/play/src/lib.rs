@@ -1,0 +1,26 @@
+//! A day of events, given as text, played through the program `tape`; what it
+//! prints is passed on, or told in words. There is no book here: the words say
+//! what the day's frames and the lines of `tape` say.
+
+#![forbid(unsafe_code)]
+#![deny(warnings)]
+
+pub mod event;
+pub mod grouping;
+pub mod notes;
+pub mod parties;
+pub mod play;
+pub mod printed;
+pub mod refusals;
+pub mod sentences;
+pub mod tape;
+pub mod teller;
+pub mod totals;
+
+/// `1 unit`, `2 units`.
+pub fn counted(count: impl Into<i128>, what: &str) -> String {
+    match count.into() {
+        1 => format!("1 {what}"),
+        count => format!("{count} {what}s"),
+    }
+}

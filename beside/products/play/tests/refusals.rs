@@ -1,0 +1,166 @@
+//! The words of each refusal.
+
+#![forbid(unsafe_code)]
+#![deny(warnings)]
+
+mod reader;
+mod teller;
+
+use teller::words;
+
+/// A line of a day, a refusal of it, and the words.
+const CAUSES: &[(&str, i64, &str)] = &[
+    ("open 0", 1, "the record space is under 15,360 numbers"),
+    ("bytes 03 00 00 00", 2, "its length field is 3, under 4"),
+    (
+        "bytes ff 00 00 00",
+        2,
+        "its length field is 255, past the end of the input",
+    ),
+    ("bytes 04", 2, "it is a lone last byte"),
+    ("bytes 04 00 09 00", 2, "kind 9 is unknown"),
+    ("bytes 04 00 00 01", 2, "kind 256 is unknown"),
+    (
+        "bytes 05 00 06 00 00",
+        2,
+        "5 bytes are a wrong length for kind 6, series",
+    ),
+    (
+        "bytes 04 00 01 00",
+        2,
+        "4 bytes are a wrong length for kind 1, strategy",
+    ),
+    (
+        "bytes 06 00 06 00 20 01",
+        3,
+        "a field of this frame of kind 6, series, is outside its range",
+    ),
+    ("bytes 04 00 09 00", 3, "a field is outside its range"),
+    (
+        "complex-order member 1 customer buy 1 of strategy 3 day at 5",
+        4,
+        "strategy 3 is not defined",
+    ),
+    (
+        "sweep member 1 buy 1 of strategy 15 at 5",
+        4,
+        "strategy 15 is not defined",
+    ),
+    ("clock 1", 4, "the strategy is not defined"),
+    (
+        "strategy 0 buy 1, 7 sell 2, 7 sell 1",
+        5,
+        "series 7 stands twice",
+    ),
+    ("strategy 9 buy 1, 9 sell 4", 5, "series 9 stands twice"),
+    (
+        "strategy 0 buy 2, 1 sell 7, 2 buy 3",
+        5,
+        "the largest ratio, 7, is over 3 times the smallest, 2",
+    ),
+    (
+        "strategy 0 buy 1, 1 sell 3",
+        5,
+        "a series twice, or the largest ratio over 3 times the smallest",
+    ),
+    (
+        "leg-order member 1 buy 5 of series 31 at 9",
+        6,
+        "series 31 is not open",
+    ),
+    ("clock 1", 6, "the series of a leg order is not open"),
+    (
+        "cancel member 8 number 12",
+        7,
+        "member 8 has no live complex or leg order with number 12",
+    ),
+    (
+        "clock 1",
+        7,
+        "no live complex or leg order of that member and number",
+    ),
+    (
+        "cancel member 8 number 12",
+        8,
+        "number 12 is the starter of a running auction",
+    ),
+    ("clock 1", 8, "cancel of a running auction's starter"),
+    (
+        "sweep member 1 buy 1 of strategy 2 at 5",
+        9,
+        "a sweep, and no auction runs in strategy 2",
+    ),
+    (
+        "complex-order member 1 customer buy 1 of strategy 3 response at 5",
+        9,
+        "a response, and no auction runs in strategy 3",
+    ),
+    (
+        "clock 1",
+        9,
+        "a sweep or response, and no auction runs in the strategy",
+    ),
+    (
+        "sweep member 4 sell 0 of strategy 2 at -5",
+        10,
+        "0 units, and member 4 has no sweep to sell strategy 2 at -5",
+    ),
+    ("clock 1", 10, "a sweep of 0 units with none to remove"),
+    ("clock 99", 11, "clock 99 is below the last accepted one"),
+    ("open 0", 11, "the clock is below the last accepted one"),
+    (
+        "strategy 0 buy 1, 1 sell 3",
+        12,
+        "the table of strategies is full",
+    ),
+    (
+        "complex-order member 1 customer buy 1 of strategy 3 day at 5",
+        12,
+        "the table of complex orders is full",
+    ),
+    (
+        "sweep member 1 buy 1 of strategy 2 at 5",
+        12,
+        "the table of sweeps is full",
+    ),
+    (
+        "leg-order member 1 buy 5 of series 31 at 9",
+        12,
+        "the table of leg orders is full",
+    ),
+    ("clock 1", 12, "the table needed is full"),
+    (
+        "leg-order member 1 buy 5 of series 31 at 9",
+        13,
+        "a new order number is due and 100,000 were given",
+    ),
+    ("clock 1", 14, "no cause is known for this number"),
+    ("clock 1", -1, "no cause is known for this number"),
+];
+
+#[test]
+fn each_refusal_has_its_words() {
+    for (line, refusal, cause) in CAUSES {
+        let lines = format!("E 0 {refusal} 0 0\n");
+        let words = words(line, lines.as_bytes());
+        let said = format!("refused {refusal}, {cause}");
+        let told = words.lines().nth(1).expect("an event");
+        assert!(told.starts_with("  event 0"), "{told}");
+        assert!(told.ends_with(&format!(": {said}")), "{line}: {told}");
+        assert_eq!(reader::lines(&words), Ok(lines.into_bytes()), "{line}");
+    }
+    for refusal in 1..=13 {
+        assert!(CAUSES.iter().any(|(_, known, _)| *known == refusal));
+    }
+}
+
+#[test]
+fn refusals_are_counted_in_the_totals() {
+    let day = "open 0\n".repeat(5);
+    let lines = "E 0 0 0 0\nE 1 6 0 0\nE 2 2 0 0\nE 3 6 0 0\nE 4 0 0 0\n";
+    let words = words(&day, lines.as_bytes());
+    assert!(
+        words.contains("\n  2 events accepted, 3 refused: 1 with 2, 2 with 6\n"),
+        "{words}"
+    );
+}
