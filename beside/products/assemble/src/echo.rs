@@ -18,6 +18,9 @@ pub fn word(bytes: impl AsRef<[u8]>) -> String {
 
 /// The first characters of a text, `..` after them where some are left out.
 pub fn cut(bytes: impl AsRef<[u8]>, most: usize) -> String {
+    if let Some(text) = plain(bytes.as_ref()).filter(|text| text.len() <= most) {
+        return text.to_string();
+    }
     let mut shown = String::new();
     let mut length = 0;
     // The place up to which there is room for the mark of a cut.
@@ -53,6 +56,15 @@ pub fn name(name: impl AsRef<OsStr>) -> String {
 /// A whole text, escaped.
 pub fn text(bytes: impl AsRef<[u8]>) -> String {
     pieces(bytes.as_ref()).collect()
+}
+
+/// The text, where it is shown as it stands.
+fn plain(bytes: &[u8]) -> Option<&str> {
+    let plain = |byte: &u8| matches!(byte, b' '..=b'~') && *byte != b'\\';
+    match bytes.iter().all(plain) {
+        true => std::str::from_utf8(bytes).ok(),
+        false => None,
+    }
 }
 
 /// Each character as it is shown, and each byte that belongs to none.

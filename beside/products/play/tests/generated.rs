@@ -7,6 +7,9 @@
 mod reader;
 mod teller;
 
+use assemble::assemble;
+use assemble::codec::read;
+use play::event::Event;
 use reckoning::generate::{long_list, stream, Random};
 use reckoning::tape::tape;
 use teller::words;
@@ -23,6 +26,19 @@ fn bytes(frame: &[u8]) -> String {
     format!("bytes {}\n", bytes.join(" "))
 }
 
+/// A frame as the line of its event, or as bytes where it is none.
+fn line(frame: &[u8]) -> String {
+    let event = Event::Frame {
+        kind: u32::from(frame[2]),
+        length: frame.len(),
+        row: read(frame).ok(),
+    };
+    match event.text() {
+        Some(text) => text + "\n",
+        None => bytes(frame),
+    }
+}
+
 /// A day with a line for each frame of the input, and one for what is left.
 fn day(input: &[u8]) -> String {
     let mut text = String::new();
@@ -32,12 +48,13 @@ fn day(input: &[u8]) -> String {
         if length < 4 || length > rest.len() {
             break;
         }
-        text += &bytes(&rest[..length]);
+        text += &line(&rest[..length]);
         rest = &rest[length..];
     }
     if !rest.is_empty() {
         text += &bytes(rest);
     }
+    assert_eq!(assemble(text.as_bytes()).as_deref(), Ok(input));
     text
 }
 

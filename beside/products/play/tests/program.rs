@@ -326,8 +326,10 @@ fn a_tape_that_ends_by_a_signal_is_told() {
 
 #[test]
 fn a_tape_that_runs_out_of_stack_is_told() {
-    let script = "ulimit -s 60; exec \"$0\" --tape \"$1\" \"$2\"";
+    let script = "ulimit -s 150; exec \"$0\" --tape \"$1\" \"$2\"";
+    // Without the variables, which stand on the stack, too.
     let run = run(Command::new("bash")
+        .env_clear()
         .args(["-c", script, PLAY])
         .arg(tape())
         .arg(repository("days/worked-example.txt")));
@@ -474,7 +476,9 @@ fn memory_does_not_grow_with_the_day() {
         let run = run(Command::new("bash")
             .args(["-c", &script, PLAY])
             .arg(tape())
-            .arg(&path));
+            .arg(&path)
+            // Else each thread asks for an address space of its own.
+            .env("MALLOC_ARENA_MAX", "1"));
         assert_eq!((run.status, run.said.as_str()), (Some(0), ""));
         assert_eq!(run.printed.lines().count(), lines);
     }
