@@ -11,10 +11,11 @@ fn length(line: &Line) -> Option<u16> {
     }
 }
 
-/// The line is not one frame by its own length field. A line that the proved
-/// writer wrote always is.
+/// The line is not one frame by its own length field: that is not its length, or is
+/// under 4. A line that the proved writer wrote always is one.
 pub fn odd(line: &Line) -> bool {
-    length(line).map(usize::from) != Some(line.bytes.len())
+    let length = length(line).map(usize::from);
+    length < Some(4) || length != Some(line.bytes.len())
 }
 
 /// The warnings of the lines that begin in this part, each with its line.

@@ -145,6 +145,11 @@ fn lines_that_are_no_frame_are_warned_of() {
             "open 0\nbytes 02 00 06 00 00 01\nopen 1",
             &["line 2: warning: the length field is 2 and the line has 6 bytes: tape stops there (under 4)"],
         ),
+        // The length field is the line's length, and no frame is so short.
+        (
+            "bytes 03 00 06\nopen 1",
+            &["line 1: warning: the length field is 3 and the line has 3 bytes: tape stops there (under 4)"],
+        ),
         (
             "bytes 06 00 06 00 00",
             &["line 1: warning: the length field is 6 and the line has 5 bytes: tape stops there (past the end of the input)"],
