@@ -1,6 +1,9 @@
-//! The frames of an input, and what the proved reader reads in them.
+//! The frames of an input, one after the other, and what the proved reader reads
+//! in them.
 
+use crate::wrong::Wrong;
 use assemble::codec::{read, write, Row, NUMBERS};
+use std::io::{self, Read, Write};
 
 /// A part of the input that `tape` answers with a line `E`: a frame, or where it
 /// stops, "a length under 4 or past the input's end, a lone last byte included".
@@ -10,40 +13,78 @@ pub enum Part<'a> {
     Stop,
 }
 
-/// The parts of an input in their order.
-pub fn frames(input: &[u8]) -> Vec<Part<'_>> {
-    let mut parts = Vec::new();
-    let mut rest = input;
-    while !rest.is_empty() {
-        let length = match rest {
-            [low, high, ..] => usize::from(u16::from_le_bytes([*low, *high])),
-            _ => 0,
-        };
-        if length < 4 || length > rest.len() {
-            parts.push(Part::Stop);
-            break;
-        }
-        let (frame, after) = rest.split_at(length);
-        parts.push(Part::Frame(frame));
-        rest = after;
-    }
-    parts
+/// The parts of an input in their order. One frame is held.
+pub struct Parts<R> {
+    input: R,
+    frame: Vec<u8>,
+    frames: usize,
+    stopped: bool,
 }
 
-/// The frames of the input and a day end after them, in the place of what is no
-/// frame at the end.
-pub fn with_day_end(input: &[u8]) -> Result<Vec<u8>, String> {
-    let mut bytes = Vec::new();
-    for part in frames(input) {
-        if let Part::Frame(frame) = part {
-            bytes.extend(frame);
+impl<R: Read> Parts<R> {
+    pub fn new(input: R) -> Parts<R> {
+        Parts {
+            input,
+            frame: Vec::new(),
+            frames: 0,
+            stopped: false,
         }
+    }
+
+    /// The next part; none at the input's end, and after a stop.
+    pub fn next(&mut self) -> Result<Option<Part<'_>>, Wrong> {
+        if self.stopped {
+            return Ok(None);
+        }
+        self.frame.clear();
+        self.fill(2).map_err(Wrong::Read)?;
+        let length = match self.frame[..] {
+            [] => return Ok(None),
+            [low, high] => usize::from(u16::from_le_bytes([low, high])),
+            _ => 0,
+        };
+        if length >= 4 {
+            self.fill(length).map_err(Wrong::Read)?;
+        }
+        if length < 4 || self.frame.len() < length {
+            self.stopped = true;
+            return Ok(Some(Part::Stop));
+        }
+        self.frames += 1;
+        Ok(Some(Part::Frame(&self.frame)))
+    }
+
+    /// Reads on until the frame has this length or the input ends.
+    fn fill(&mut self, length: usize) -> io::Result<()> {
+        let missing = (length - self.frame.len()) as u64;
+        let input = self.input.by_ref();
+        input.take(missing).read_to_end(&mut self.frame)?;
+        Ok(())
+    }
+
+    /// How many frames were read.
+    pub fn frames(&self) -> usize {
+        self.frames
+    }
+
+    /// The last part is no frame.
+    pub fn stopped(&self) -> bool {
+        self.stopped
+    }
+}
+
+/// Writes the frames of the input and a day end after them, in the place of what
+/// is no frame at the end.
+pub fn with_day_end(input: impl Read, output: &mut impl Write) -> Result<(), Wrong> {
+    let mut parts = Parts::new(input);
+    while let Some(Part::Frame(frame)) = parts.next()? {
+        output.write_all(frame).map_err(Wrong::Write)?;
     }
     let mut row: Row = [0; NUMBERS];
     row[..2].copy_from_slice(&[8, 5_000]);
-    let end = write(&row).map_err(|refusal| format!("the writer refuses a day end: {refusal}"))?;
-    bytes.extend(end);
-    Ok(bytes)
+    let end = write(&row)
+        .map_err(|refusal| Wrong::Lines(format!("the writer refuses a day end: {refusal}")))?;
+    output.write_all(&end).map_err(Wrong::Write)
 }
 
 /// What an order or sweep is. The strategy of the first two, the series of the
@@ -61,16 +102,16 @@ pub struct Terms {
     pub what: What,
     pub member: u32,
     pub side: u32,
-    pub quantity: i128,
+    pub quantity: i64,
     /// "the limit (a leg order's price)".
-    pub limit: i128,
+    pub limit: i64,
 }
 
 /// A leg of a strategy: its series and its ratio in lowest terms.
 #[derive(Clone, Copy, Debug, PartialEq, Eq, PartialOrd, Ord)]
 pub struct Leg {
-    pub series: i128,
-    pub ratio: i128,
+    pub series: i64,
+    pub ratio: i64,
 }
 
 /// What of an event the totals speak of.
@@ -84,7 +125,7 @@ pub enum Event {
 }
 
 /// What the row of a limit has more than the limit.
-const MORE: i128 = 10_000_000;
+const MORE: i64 = 10_000_000;
 
 fn divisor(a: u32, b: u32) -> u32 {
     if b == 0 {
@@ -102,8 +143,8 @@ fn legs(row: &Row) -> Vec<Leg> {
     let common = given.iter().fold(0, |common, leg| divisor(common, leg[2]));
     let mut legs: Vec<Leg> = (given.iter())
         .map(|leg| Leg {
-            series: i128::from(leg[0]),
-            ratio: i128::from(leg[2] / common),
+            series: i64::from(leg[0]),
+            ratio: i64::from(leg[2] / common),
         })
         .collect();
     legs.sort_unstable();
@@ -119,12 +160,12 @@ pub fn event(part: Part) -> Event {
         Ok(row) => row,
         Err(refusal) => return Event::Refused(refusal),
     };
-    let entry = |what: What, quantity: usize, limit: i128| {
+    let entry = |what: What, quantity: usize, limit: i64| {
         Event::Entry(Terms {
             what,
             member: row[1],
             side: row[3],
-            quantity: i128::from(row[quantity]),
+            quantity: i64::from(row[quantity]),
             limit,
         })
     };
@@ -132,13 +173,13 @@ pub fn event(part: Part) -> Event {
         1 => Event::Strategy(legs(&row)),
         2 => {
             let what = What::ComplexOrder { strategy: row[2] };
-            entry(what, 6, i128::from(row[7]) - MORE)
+            entry(what, 6, i64::from(row[7]) - MORE)
         }
         3 => {
             let what = What::Sweep { strategy: row[2] };
-            entry(what, 4, i128::from(row[5]) - MORE)
+            entry(what, 4, i64::from(row[5]) - MORE)
         }
-        4 => entry(What::LegOrder { series: row[2] }, 4, i128::from(row[5])),
+        4 => entry(What::LegOrder { series: row[2] }, 4, i64::from(row[5])),
         8 => Event::DayEnd,
         _ => Event::Other,
     }

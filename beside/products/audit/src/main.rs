@@ -3,10 +3,14 @@
 #![forbid(unsafe_code)]
 #![deny(warnings)]
 
+use assemble::echo;
+use assemble::output::{print, say, Output};
 use audit::audit;
 use audit::frames::with_day_end;
-use std::ffi::OsString;
-use std::io::{self, Write};
+use audit::wrong::Wrong;
+use std::ffi::{OsStr, OsString};
+use std::fs::File;
+use std::io::{self, BufReader, Read};
 use std::process::ExitCode;
 
 const USAGE: &str = "\
@@ -20,44 +24,86 @@ form: the same frames with a day end after them. What that day end cancels was
 live. Nothing else is read.
 
 The last line is 'totals hold'; or what does not hold is listed and the exit
-status is 1. It is 2 if the files cannot be read, or cannot belong together.
+status is 1. The list has the first 1,000 and, if there are more, ends with the
+line 'and N more'. The exit status is 2 if the files cannot be read, or cannot
+belong together, or the output cannot be written.
+
+The files are read in step, as streams, and each day is printed when it is over.
+So the days before an error are printed, those from it on are not. Memory is
+bounded by the numbers of a day: a day with more than 200,000 cannot be audited
+(document 01 gives 100,000).
 ";
 
-fn file(name: &OsString) -> Result<Vec<u8>, String> {
-    std::fs::read(name).map_err(|error| format!("{}: {error}", name.to_string_lossy()))
+/// A file whose errors have its name.
+struct Named {
+    name: String,
+    file: File,
 }
 
-fn written(bytes: &[u8]) -> Result<(), String> {
-    let mut output = io::stdout().lock();
-    let result = output.write_all(bytes).and_then(|()| output.flush());
-    result.map_err(|error| format!("writing the output: {error}"))
+fn named(name: &str, error: io::Error) -> io::Error {
+    io::Error::new(error.kind(), format!("{name}: {error}"))
 }
 
-fn run(words: &[OsString]) -> Result<ExitCode, String> {
+impl Read for Named {
+    fn read(&mut self, space: &mut [u8]) -> io::Result<usize> {
+        let read = self.file.read(space);
+        read.map_err(|error| named(&self.name, error))
+    }
+}
+
+fn open(name: &OsStr) -> Result<BufReader<Named>, Wrong> {
+    let shown = echo::name(name);
+    let file = File::open(name).map_err(|error| Wrong::Read(named(&shown, error)))?;
+    let file = Named { name: shown, file };
+    Ok(BufReader::with_capacity(1 << 16, file))
+}
+
+fn output() -> Result<Output, Wrong> {
+    Output::new().map_err(Wrong::Write)
+}
+
+/// What was written stays so after an error, too: the buffer is written out, and
+/// the first error said.
+fn ended<T>(output: Output, result: Result<T, Wrong>) -> Result<T, Wrong> {
+    let written = output.end().map_err(Wrong::Write);
+    result.and_then(|answer| written.map(|()| answer))
+}
+
+fn print_totals(frames: &OsStr, lines: &OsStr, end: &OsStr) -> Result<ExitCode, Wrong> {
+    let (frames, lines, end) = (open(frames)?, open(lines)?, open(end)?);
+    let mut output = output()?;
+    let result = audit(frames, lines, end, &mut output);
+    let failures = ended(output, result)?;
+    Ok(ExitCode::from(u8::from(!failures.is_empty())))
+}
+
+fn print_with_day_end(frames: &OsStr) -> Result<ExitCode, Wrong> {
+    let frames = open(frames)?;
+    let mut output = output()?;
+    let result = with_day_end(frames, &mut output);
+    ended(output, result)?;
+    Ok(ExitCode::SUCCESS)
+}
+
+fn run(words: &[OsString]) -> Result<ExitCode, Wrong> {
     match words {
-        [word] if word == "--help" => written(USAGE.as_bytes())?,
-        [word, frames] if word == "--with-day-end" => {
-            written(&with_day_end(&file(frames)?)?)?;
+        [word] if word == "--help" => {
+            print(USAGE).map_err(Wrong::Write)?;
+            Ok(ExitCode::SUCCESS)
         }
-        [frames, lines, ended] => {
-            let report = audit(&file(frames)?, &file(lines)?, &file(ended)?)?;
-            written(report.text().as_bytes())?;
-            if !report.failures().is_empty() {
-                return Ok(ExitCode::from(1));
-            }
-        }
+        [word, frames] if word == "--with-day-end" => print_with_day_end(frames),
+        [frames, lines, end] => print_totals(frames, lines, end),
         _ => {
-            eprint!("{USAGE}");
-            return Ok(ExitCode::from(2));
+            say(USAGE.trim_end());
+            Ok(ExitCode::from(2))
         }
     }
-    Ok(ExitCode::SUCCESS)
 }
 
 fn main() -> ExitCode {
     let words: Vec<OsString> = std::env::args_os().skip(1).collect();
     run(&words).unwrap_or_else(|wrong| {
-        eprintln!("audit: {wrong}");
+        say(&format!("audit: {wrong}"));
         ExitCode::from(2)
     })
 }

@@ -1,13 +1,30 @@
-//! The report on the days of a list, as text.
+//! The report on the days of a list, as text. Each day is written when it is
+//! over; what does not hold comes last.
 
+use crate::claims::check;
+use crate::failures::Failures;
 use crate::frames::What;
-use crate::log::Day;
-use crate::table::table;
-use crate::table::Column::{Number, Word};
+use crate::table::Column::{self, Number, Word};
+use crate::table::Table;
 use crate::totals::{Entry, Totals};
+use std::io::{self, Write};
 
-pub struct Report {
-    days: Vec<(Day, Totals)>,
+/// One day of a list: the events after the day end before it, up to its own.
+#[derive(Clone, Debug, Default, PartialEq, Eq)]
+pub struct Day {
+    /// The day's number, from 1.
+    pub number: usize,
+    /// The index of its first event.
+    pub first: usize,
+    pub events: usize,
+    /// It has its day end.
+    pub ended: bool,
+    pub totals: Totals,
+}
+
+pub struct Report<'a, W> {
+    output: &'a mut W,
+    failures: Failures,
 }
 
 fn said(holds: bool) -> String {
@@ -28,40 +45,33 @@ fn plural(count: usize, one: &str) -> String {
     }
 }
 
-/// A heading, then the table or that there is nothing.
-fn section(heading: &str, none: &str, text: String, rows: usize) -> String {
-    match rows {
-        0 => format!("\n{heading}\n{none}\n"),
-        _ => format!("\n{heading}\n{text}"),
-    }
-}
+const NUMBERS: [Column; 11] = [
+    Number("number"),
+    Word("what"),
+    Number("member"),
+    Word("place"),
+    Word("side"),
+    Number("limit"),
+    Number("entered"),
+    Number("filled"),
+    Number("cancelled"),
+    Number("live"),
+    Word("sum"),
+];
 
-fn numbers(totals: &Totals) -> String {
-    let columns = [
-        Number("number"),
-        Word("what"),
-        Number("member"),
-        Word("place"),
-        Word("side"),
-        Number("limit"),
-        Number("entered"),
-        Number("filled"),
-        Number("cancelled"),
-        Number("live"),
-        Word("sum"),
-    ];
-    let row = |entry: &Entry| {
+fn numbers(totals: &Totals) -> impl Iterator<Item = [String; 11]> + '_ {
+    totals.entries().map(|entry| {
         let (what, place) = match entry.terms.what {
             What::ComplexOrder { strategy } => ("complex order", format!("strategy {strategy}")),
             What::Sweep { strategy } => ("sweep", format!("strategy {strategy}")),
             What::LegOrder { series } => ("leg order", format!("series {series}")),
         };
-        vec![
+        [
             entry.number.to_string(),
             what.to_string(),
             entry.terms.member.to_string(),
             place,
-            side(entry),
+            side(&entry),
             entry.terms.limit.to_string(),
             entry.terms.quantity.to_string(),
             entry.filled.to_string(),
@@ -69,171 +79,181 @@ fn numbers(totals: &Totals) -> String {
             entry.live.to_string(),
             said(entry.sum_holds()),
         ]
-    };
-    let rows: Vec<Vec<String>> = totals.entries.iter().map(row).collect();
-    section(
-        "Each number: entered = filled + cancelled + live, in units, of a leg order in contracts",
-        "no number was given",
-        table(&columns, &rows),
-        rows.len(),
-    )
+    })
 }
 
-fn worst_fills(totals: &Totals) -> String {
-    let columns = [
-        Number("number"),
-        Word("side"),
-        Number("limit"),
-        Number("worst fill"),
-        Number("better by"),
-        Word(""),
-    ];
-    let row = |entry: &Entry| {
-        Some(vec![
+const WORST_FILLS: [Column; 6] = [
+    Number("number"),
+    Word("side"),
+    Number("limit"),
+    Number("worst fill"),
+    Number("better by"),
+    Word(""),
+];
+
+fn worst_fills(totals: &Totals) -> impl Iterator<Item = [String; 6]> + '_ {
+    totals.entries().filter_map(|entry| {
+        Some([
             entry.number.to_string(),
-            side(entry),
+            side(&entry),
             entry.terms.limit.to_string(),
             entry.worst?.to_string(),
             entry.better()?.to_string(),
             said(entry.limit_holds()),
         ])
-    };
-    let rows: Vec<Vec<String>> = totals.entries.iter().filter_map(row).collect();
-    section(
-        "Each number with a fill: its worst fill against its limit, in cents",
-        "no number has a fill",
-        table(&columns, &rows),
-        rows.len(),
-    )
+    })
 }
 
-fn legs(totals: &Totals) -> String {
-    let columns = [
-        Number("number"),
-        Number("strategy"),
-        Number("units"),
-        Number("series"),
-        Number("ratio"),
-        Number("ratio x units"),
-        Number("contracts"),
-        Word(""),
-    ];
-    let mut rows = Vec::new();
-    for entry in &totals.entries {
-        let Some(strategy) = entry.strategy() else {
-            continue;
-        };
-        let filled = |leg: &&_| entry.worst.is_some() || !entry.leg_holds(leg);
-        for leg in entry.legs.iter().filter(filled) {
-            rows.push(vec![
+const LEGS: [Column; 8] = [
+    Number("number"),
+    Number("strategy"),
+    Number("units"),
+    Number("series"),
+    Number("ratio"),
+    Number("ratio x units"),
+    Number("contracts"),
+    Word(""),
+];
+
+fn legs(totals: &Totals) -> impl Iterator<Item = [String; 8]> + '_ {
+    totals.entries().flat_map(|entry| {
+        let strategy = entry.strategy().unwrap_or(0);
+        let mut legs = totals.on_legs(&entry);
+        legs.retain(|leg| entry.worst.is_some() || !entry.leg_holds(leg));
+        legs.into_iter().map(move |leg| {
+            [
                 entry.number.to_string(),
                 strategy.to_string(),
                 entry.filled.to_string(),
                 leg.series.to_string(),
                 leg.ratio.to_string(),
-                (leg.ratio * entry.filled).to_string(),
+                entry.due(&leg).to_string(),
                 leg.contracts.to_string(),
-                said(entry.leg_holds(leg)),
-            ]);
-        }
-    }
-    section(
-        "Each leg of a complex order or sweep with a fill: contracts = ratio x units",
-        "no complex order or sweep has a fill",
-        table(&columns, &rows),
-        rows.len(),
-    )
-}
-
-fn series(totals: &Totals) -> String {
-    let columns = [Number("series"), Number("bought"), Number("sold"), Word("")];
-    let rows: Vec<Vec<String>> = (totals.series.iter())
-        .map(|(series, traded)| {
-            vec![
-                series.to_string(),
-                traded.bought.to_string(),
-                traded.sold.to_string(),
-                said(traded.bought == traded.sold),
+                said(entry.leg_holds(&leg)),
             ]
         })
-        .collect();
-    section(
-        "Each series: contracts bought = contracts sold",
-        "no contract was traded",
-        table(&columns, &rows),
-        rows.len(),
-    )
+    })
 }
 
-fn cash(totals: &Totals) -> String {
-    let rows = [vec![
-        totals.paid.to_string(),
-        totals.received.to_string(),
-        said(totals.paid == totals.received),
-    ]];
-    let columns = [Number("paid"), Number("received"), Word("")];
-    let text = table(&columns, &rows);
-    format!("\nCash: paid = received, in cents\n{text}")
+const SERIES: [Column; 4] = [Number("series"), Number("bought"), Number("sold"), Word("")];
+
+fn series(totals: &Totals) -> impl Iterator<Item = [String; 4]> + '_ {
+    totals.series().map(|(series, traded)| {
+        [
+            series.to_string(),
+            traded.bought.to_string(),
+            traded.sold.to_string(),
+            said(traded.bought == traded.sold),
+        ]
+    })
+}
+
+const CASH: [Column; 3] = [Number("paid"), Number("received"), Word("")];
+
+fn cash(totals: &Totals) -> impl Iterator<Item = [String; 3]> {
+    let cash = totals.cash();
+    std::iter::once([
+        cash.paid.to_string(),
+        cash.received.to_string(),
+        said(cash.paid == cash.received),
+    ])
 }
 
 /// What the day is.
-fn heading(index: usize, day: &Day) -> String {
-    let events = plural(day.log.len(), "event");
+fn heading(day: &Day) -> String {
+    let events = plural(day.events, "event");
     let end = if day.ended {
         "its day end is the last, so nothing is live"
     } else {
         "not ended; live is what a day end would cancel"
     };
     format!(
-        "Day {}: {events} from index {}, {end}\n",
-        index + 1,
-        day.first
+        "Day {}: {events} from index {}, {end}",
+        day.number, day.first
     )
 }
 
-impl Report {
-    pub fn new(days: Vec<Day>) -> Report {
-        let with_totals = |day| {
-            let totals = Totals::new(&day);
-            (day, totals)
-        };
+impl<W: Write> Report<'_, W> {
+    pub fn new(output: &mut W) -> Report<'_, W> {
         Report {
-            days: days.into_iter().map(with_totals).collect(),
+            output,
+            failures: Failures::default(),
         }
     }
 
-    /// What does not hold, each with its day.
-    pub fn failures(&self) -> Vec<String> {
-        let mut list = Vec::new();
-        for (index, (day, totals)) in self.days.iter().enumerate() {
-            let own = day.wrong.iter().cloned().chain(totals.failures());
-            list.extend(own.map(|failure| format!("day {}, {failure}", index + 1)));
-        }
-        list
+    /// What does not hold of a day.
+    pub fn fails(&mut self, day: &Day, failure: &str) {
+        self.failures.push(format!("day {}, {failure}", day.number));
     }
 
-    /// The tables of each day, then 'totals hold' or what does not hold.
-    pub fn text(&self) -> String {
-        let mut text = String::new();
-        for (index, (day, totals)) in self.days.iter().enumerate() {
-            text += &heading(index, day);
-            if *totals == Totals::default() {
-                text += "\nNo order or sweep entered, and no record 1 to 3 was written.\n\n";
-                continue;
+    /// A heading, then the table of the rows or that there is none.
+    fn section<const COLUMNS: usize, Rows: Iterator<Item = [String; COLUMNS]>>(
+        &mut self,
+        heading: &str,
+        none: &str,
+        columns: [Column; COLUMNS],
+        rows: impl Fn() -> Rows,
+    ) -> io::Result<()> {
+        writeln!(self.output, "\n{heading}")?;
+        let table = Table::new(columns, rows());
+        if table.is_empty() {
+            return writeln!(self.output, "{none}");
+        }
+        table.write(self.output, rows())
+    }
+
+    fn tables(&mut self, totals: &Totals) -> io::Result<()> {
+        self.section(
+            "Each number: entered = filled + cancelled + live, in units, of a leg order in contracts",
+            "no number was given",
+            NUMBERS,
+            || numbers(totals),
+        )?;
+        self.section(
+            "Each number with a fill: its worst fill against its limit, in cents",
+            "no number has a fill",
+            WORST_FILLS,
+            || worst_fills(totals),
+        )?;
+        self.section(
+            "Each leg of a complex order or sweep with a fill: contracts = ratio x units",
+            "no complex order or sweep has a fill",
+            LEGS,
+            || legs(totals),
+        )?;
+        self.section(
+            "Each series: contracts bought = contracts sold",
+            "no contract was traded",
+            SERIES,
+            || series(totals),
+        )?;
+        self.section("Cash: paid = received, in cents", "", CASH, || cash(totals))?;
+        writeln!(self.output)
+    }
+
+    /// The tables of a day that is over.
+    pub fn day(&mut self, day: &Day) -> io::Result<()> {
+        writeln!(self.output, "{}", heading(day))?;
+        if day.totals.is_empty() {
+            let none = "No order or sweep entered, and no record 1 to 3 was written.";
+            writeln!(self.output, "\n{none}\n")?;
+        } else {
+            self.tables(&day.totals)?;
+        }
+        check(&day.totals, &mut |failure| self.fails(day, &failure));
+        Ok(())
+    }
+
+    /// Last, 'totals hold' or what does not hold.
+    pub fn end(self) -> io::Result<Failures> {
+        if self.failures.is_empty() {
+            writeln!(self.output, "totals hold")?;
+        } else {
+            writeln!(self.output, "totals do not hold:")?;
+            for line in self.failures.lines() {
+                writeln!(self.output, "  {line}")?;
             }
-            for part in [numbers, worst_fills, legs, series, cash] {
-                text += &part(totals);
-            }
-            text += "\n";
         }
-        let failures = self.failures();
-        if failures.is_empty() {
-            return text + "totals hold\n";
-        }
-        text += "totals do not hold:\n";
-        for failure in failures {
-            text += &format!("  {failure}\n");
-        }
-        text
+        Ok(self.failures)
     }
 }

@@ -1,19 +1,29 @@
-//! The sums and the claims of "The totals after a list", for one day.
+//! The sums of "The totals after a list", for one day. They are added up record
+//! by record and held by number, never by event. Records may come in any order:
+//! a number's records count, too, if they come before it enters.
 
-use crate::frames::{Event, Leg, Terms, What};
+use crate::frames::{Leg, Terms, What};
 use crate::lines::Record;
-use crate::log::Day;
+use std::collections::btree_map::Entry as Slot;
 use std::collections::BTreeMap;
 
-const WHOLE_FILL: i128 = 1;
-const LEG_FILL: i128 = 2;
-const CANCELLED: i128 = 3;
+const WHOLE_FILL: i64 = 1;
+const LEG_FILL: i64 = 2;
+const CANCELLED: i64 = 3;
+
+// What is held of a day at most, whatever the lines say: twice what document 01
+// allows, so that there is room for what is wrong. It allows 100,000 numbers, 6
+// legs, 32 series and 16 strategies.
+const NUMBERS: usize = 2 * 100_000;
+const NUMBERS_BY_SERIES: usize = 6 * NUMBERS;
+const SERIES: usize = 2 * 32;
+const STRATEGIES: usize = 2 * 16;
 
 /// What entered under a number, and what came of it. "The event's units or
 /// contracts are what it entered."
-#[derive(Clone, Debug, PartialEq, Eq)]
+#[derive(Clone, Copy, Debug, PartialEq, Eq)]
 pub struct Entry {
-    pub number: i128,
+    pub number: i64,
     pub terms: Terms,
     /// "Filled sums the quantities of its records 1, for a leg order of its
     /// records 2; cancelled, of its records 3."
@@ -22,19 +32,16 @@ pub struct Entry {
     pub live: i128,
     /// The price of its worst fill: "A fill is a record 1, or a leg order's
     /// record 2".
-    pub worst: Option<i128>,
+    pub worst: Option<i64>,
     /// How many records 1 a leg order has: its fills are its records 2.
-    pub whole_fills: usize,
-    pub legs: Vec<OnLeg>,
-    /// Its strategy was answered by an accepted event of the day.
-    pub defined: bool,
+    pub whole_fills: u64,
 }
 
 /// "Contracts filled on a leg sum its records 2 in that series."
-#[derive(Clone, Debug, PartialEq, Eq)]
+#[derive(Clone, Copy, Debug, PartialEq, Eq)]
 pub struct OnLeg {
-    pub series: i128,
-    pub ratio: i128,
+    pub series: i64,
+    pub ratio: i64,
     pub contracts: i128,
 }
 
@@ -45,34 +52,75 @@ pub struct Traded {
     pub sold: i128,
 }
 
-#[derive(Clone, Debug, Default, PartialEq, Eq)]
-pub struct Totals {
-    pub entries: Vec<Entry>,
-    pub series: BTreeMap<i128, Traded>,
-    /// "Cash paid sums quantity × price over the fills of side 0, received over
-    /// those of side 1."
+/// "Cash paid sums quantity × price over the fills of side 0, received over
+/// those of side 1."
+#[derive(Clone, Copy, Debug, Default, PartialEq, Eq)]
+pub struct Cash {
     pub paid: i128,
     pub received: i128,
-    /// Numbers that did not enter: how many records 1 to 3 each has, and what is
-    /// live under it.
-    pub others: BTreeMap<i128, (i128, i128)>,
+}
+
+/// A number that did not enter: how many records 1 to 3 it has, and what is live
+/// under it.
+#[derive(Clone, Copy, Debug, PartialEq, Eq)]
+pub struct Other {
+    pub number: i64,
+    pub records: u64,
+    pub live: i128,
+}
+
+/// The records of one number and kind.
+#[derive(Clone, Copy, Debug, Default, PartialEq, Eq)]
+struct Fills {
+    count: u64,
+    quantity: i128,
+    lowest: i64,
+    highest: i64,
+}
+
+/// The records of one number.
+#[derive(Clone, Copy, Debug, Default, PartialEq, Eq)]
+struct Own {
+    /// How many records 1 to 3.
+    records: u64,
+    whole_fills: Fills,
+    leg_fills: Fills,
+    /// What its records 2 are in cash, if it is a leg order.
+    leg_cash: Cash,
+    cancelled: i128,
+    live: i128,
+}
+
+/// The sums of one day, as far as it was read.
+#[derive(Clone, Debug, Default, PartialEq, Eq)]
+pub struct Totals {
+    /// What entered, by number; those of one number in their order.
+    entered: BTreeMap<(i64, usize), Terms>,
+    /// The legs that each strategy was answered for, each once: one row for a
+    /// strategy, if all is right.
+    strategies: BTreeMap<i64, Vec<Vec<Leg>>>,
+    own: BTreeMap<i64, Own>,
+    /// The contracts of records 2, by number and series.
+    contracts: BTreeMap<(i64, i64), i128>,
+    series: BTreeMap<i64, Traded>,
+    whole_cash: Cash,
 }
 
 impl Entry {
-    pub fn strategy(&self) -> Option<u32> {
+    pub fn strategy(&self) -> Option<i64> {
         match self.terms.what {
-            What::ComplexOrder { strategy } | What::Sweep { strategy } => Some(strategy),
+            What::ComplexOrder { strategy } | What::Sweep { strategy } => Some(strategy.into()),
             What::LegOrder { .. } => None,
         }
     }
 
     pub fn sum_holds(&self) -> bool {
-        self.terms.quantity == self.filled + self.cancelled + self.live
+        i128::from(self.terms.quantity) == self.filled + self.cancelled + self.live
     }
 
     /// By how much the worst fill is better than the limit: "worse […] if its
     /// price is above it for a buy, below it for a sell".
-    pub fn better(&self) -> Option<i128> {
+    pub fn better(&self) -> Option<i64> {
         let worst = self.worst?;
         Some(match self.terms.side {
             0 => self.terms.limit - worst,
@@ -84,259 +132,250 @@ impl Entry {
         self.better().unwrap_or(0) >= 0
     }
 
+    /// The contracts that its units are on the leg.
+    pub fn due(&self, leg: &OnLeg) -> i128 {
+        i128::from(leg.ratio) * self.filled
+    }
+
     pub fn leg_holds(&self, leg: &OnLeg) -> bool {
-        leg.contracts == leg.ratio * self.filled
+        leg.contracts == self.due(leg)
     }
 }
 
-/// What entered, by number: "An order or sweep enters by an accepted event of
-/// kind 2, 3 or 4 whose value isn't 0. That value is its number".
-fn entered(day: &Day) -> Vec<(i128, Terms)> {
-    let mut list = Vec::new();
-    for logged in day.log.iter().filter(|logged| logged.answer == 0) {
-        if let (Event::Entry(terms), true) = (&logged.event, logged.value != 0) {
-            list.push((logged.value, *terms));
+impl Fills {
+    fn add(&mut self, record: &Record) {
+        if self.count == 0 {
+            (self.lowest, self.highest) = (record.price, record.price);
+        }
+        self.count += 1;
+        self.quantity += i128::from(record.quantity);
+        self.lowest = self.lowest.min(record.price);
+        self.highest = self.highest.max(record.price);
+    }
+
+    /// The worst price for the side.
+    fn worst(&self, side: u32) -> Option<i64> {
+        (self.count > 0).then_some(match side {
+            0 => self.highest,
+            _ => self.lowest,
+        })
+    }
+}
+
+impl Cash {
+    fn add(&mut self, record: &Record) {
+        let cash = i128::from(record.quantity) * i128::from(record.price);
+        match record.side {
+            0 => self.paid += cash,
+            1 => self.received += cash,
+            _ => {}
         }
     }
-    list.sort_by_key(|(number, _)| *number);
-    list
 }
 
-/// The legs that each strategy was answered for, each once: one row for a
-/// strategy, if all is right.
-fn strategies(day: &Day) -> BTreeMap<i128, Vec<&[Leg]>> {
-    let mut held: BTreeMap<i128, Vec<&[Leg]>> = BTreeMap::new();
-    for logged in day.log.iter().filter(|logged| logged.answer == 0) {
-        if let Event::Strategy(legs) = &logged.event {
-            let rows = held.entry(logged.value).or_default();
-            if !rows.contains(&legs.as_slice()) {
-                rows.push(legs);
-            }
+impl Traded {
+    fn add(&mut self, record: &Record) {
+        match record.side {
+            0 => self.bought += i128::from(record.quantity),
+            1 => self.sold += i128::from(record.quantity),
+            _ => {}
         }
     }
-    held
 }
 
-/// The contracts on each leg of its strategy, and in each series outside it that
-/// the number has records 2 in: "a series outside the strategy counts as a leg
-/// of ratio 0".
-fn on_legs(rows: &[&[Leg]], contracts: &BTreeMap<i128, i128>) -> Vec<OnLeg> {
-    let mut list = Vec::new();
-    for legs in rows {
-        let outside = contracts
-            .keys()
-            .filter(|series| legs.iter().all(|leg| leg.series != **series))
-            .map(|series| (*series, 0));
-        let mut row: Vec<(i128, i128)> = legs.iter().map(|leg| (leg.series, leg.ratio)).collect();
-        row.extend(outside);
-        row.sort_unstable();
-        list.extend(row.into_iter().map(|(series, ratio)| OnLeg {
-            series,
-            ratio,
-            contracts: contracts.get(&series).copied().unwrap_or(0),
-        }));
-    }
-    list
-}
-
-/// The records of one number.
-#[derive(Default)]
-struct Own<'a> {
-    records: Vec<&'a Record>,
-    live: i128,
-}
-
-impl Own<'_> {
-    fn sum(&self, kind: i128) -> i128 {
-        let own = self.records.iter().filter(|record| record.kind == kind);
-        own.map(|record| record.quantity).sum()
-    }
-
-    fn count(&self, kind: i128) -> usize {
-        let own = self.records.iter().filter(|record| record.kind == kind);
-        own.count()
-    }
-
-    /// Its records 2 by series.
-    fn contracts(&self) -> BTreeMap<i128, i128> {
-        let mut sums = BTreeMap::new();
-        for record in self.records.iter().filter(|r| r.kind == LEG_FILL) {
-            *sums.entry(record.place).or_default() += record.quantity;
+/// The value under the key, in a map that has room for so many.
+fn held<'a, K: Ord, V: Default>(
+    map: &'a mut BTreeMap<K, V>,
+    key: K,
+    most: usize,
+    what: &str,
+) -> Result<&'a mut V, String> {
+    let count = map.len();
+    match map.entry(key) {
+        Slot::Occupied(slot) => Ok(slot.into_mut()),
+        Slot::Vacant(slot) => {
+            room(count, most, what)?;
+            Ok(slot.insert(V::default()))
         }
-        sums
+    }
+}
+
+/// That one more can be held.
+fn room(held: usize, most: usize, what: &str) -> Result<(), String> {
+    if held < most {
+        Ok(())
+    } else {
+        Err(format!("a day of more than {most} {what}"))
     }
 }
 
 impl Totals {
-    pub fn new(day: &Day) -> Totals {
-        // "The list's records are those its accepted events wrote".
-        let mut own: BTreeMap<i128, Own> = BTreeMap::new();
-        let records = || day.log.iter().flat_map(|logged| &logged.records);
-        for record in records().filter(|record| record.kind <= CANCELLED) {
-            own.entry(record.number).or_default().records.push(record);
-        }
-        for record in day.live.iter().filter(|record| record.kind == CANCELLED) {
-            own.entry(record.number).or_default().live += record.quantity;
-        }
+    /// An order or sweep that enters: "by an accepted event of kind 2, 3 or 4
+    /// whose value isn't 0. That value is its number". An error is said where a
+    /// day has more than is held; also below.
+    pub fn enter(&mut self, number: i64, terms: Terms) -> Result<(), String> {
+        let count = self.entered.len();
+        room(count, NUMBERS, "numbers")?;
+        self.entered.insert((number, count), terms);
+        Ok(())
+    }
 
-        let mut totals = Totals::default();
-        let strategies = strategies(day);
-        for (number, terms) in entered(day) {
-            let none = Own::default();
-            let own = own.get(&number).unwrap_or(&none);
-            let fills = match terms.what {
-                What::LegOrder { .. } => LEG_FILL,
-                _ => WHOLE_FILL,
+    /// "The ratio is that of the accepted kind 1 event that answered its
+    /// strategy".
+    pub fn define(&mut self, strategy: i64, legs: Vec<Leg>) -> Result<(), String> {
+        let count = self.strategies.values().map(Vec::len).sum();
+        let rows = self.strategies.entry(strategy).or_default();
+        if !rows.contains(&legs) {
+            room(count, STRATEGIES, "strategies")?;
+            rows.push(legs);
+        }
+        Ok(())
+    }
+
+    /// A record of an event of the day.
+    pub fn add(&mut self, record: &Record) -> Result<(), String> {
+        if record.kind > CANCELLED {
+            return Ok(());
+        }
+        let own = held(&mut self.own, record.number, NUMBERS, "numbers")?;
+        own.records += 1;
+        match record.kind {
+            WHOLE_FILL => {
+                own.whole_fills.add(record);
+                self.whole_cash.add(record);
+            }
+            LEG_FILL => {
+                own.leg_fills.add(record);
+                own.leg_cash.add(record);
+                self.add_contracts(record)?;
+            }
+            _ => own.cancelled += i128::from(record.quantity),
+        }
+        Ok(())
+    }
+
+    fn add_contracts(&mut self, record: &Record) -> Result<(), String> {
+        let key = (record.number, record.place);
+        let what = "numbers by series";
+        *held(&mut self.contracts, key, NUMBERS_BY_SERIES, what)? += i128::from(record.quantity);
+        held(&mut self.series, record.place, SERIES, "series")?.add(record);
+        Ok(())
+    }
+
+    /// A record of the day end after the list: what it cancels was live.
+    pub fn add_live(&mut self, record: &Record) -> Result<(), String> {
+        if record.kind == CANCELLED {
+            let own = held(&mut self.own, record.number, NUMBERS, "numbers")?;
+            own.live += i128::from(record.quantity);
+        }
+        Ok(())
+    }
+
+    /// Nothing entered, and no number has a record 1 to 3 or anything live.
+    pub fn is_empty(&self) -> bool {
+        self.entered.is_empty() && self.own.is_empty()
+    }
+
+    fn own(&self, number: i64) -> Own {
+        self.own.get(&number).copied().unwrap_or_default()
+    }
+
+    fn has_entered(&self, number: i64) -> bool {
+        let mut own = self.entered.range((number, 0)..=(number, usize::MAX));
+        own.next().is_some()
+    }
+
+    /// What entered, by number.
+    pub fn entries(&self) -> impl Iterator<Item = Entry> + '_ {
+        self.entered.iter().map(|((number, _), terms)| {
+            let own = self.own(*number);
+            let (fills, whole_fills) = match terms.what {
+                What::LegOrder { .. } => (own.leg_fills, own.whole_fills.count),
+                _ => (own.whole_fills, 0),
             };
-            let prices = (own.records.iter())
-                .filter(|record| record.kind == fills)
-                .map(|record| record.price);
-            let whole_fills = match terms.what {
-                What::LegOrder { .. } => own.count(WHOLE_FILL),
-                _ => 0,
-            };
-            let mut entry = Entry {
-                number,
-                terms,
-                filled: own.sum(fills),
-                cancelled: own.sum(CANCELLED),
+            Entry {
+                number: *number,
+                terms: *terms,
+                filled: fills.quantity,
+                cancelled: own.cancelled,
                 live: own.live,
-                worst: match terms.side {
-                    0 => prices.max(),
-                    _ => prices.min(),
-                },
+                worst: fills.worst(terms.side),
                 whole_fills,
-                legs: Vec::new(),
-                defined: true,
-            };
-            if let Some(strategy) = entry.strategy() {
-                match strategies.get(&i128::from(strategy)) {
-                    Some(rows) => entry.legs = on_legs(rows, &own.contracts()),
-                    None => entry.defined = false,
-                }
             }
-            totals.entries.push(entry);
-        }
-
-        for (number, own) in &own {
-            let place = (totals.entries).binary_search_by_key(number, |entry| entry.number);
-            if place.is_err() {
-                let others = (own.records.len() as i128, own.live);
-                totals.others.insert(*number, others);
-            }
-        }
-        totals.add_trades(records());
-        totals
+        })
     }
 
-    /// Series and cash.
-    fn add_trades<'a>(&mut self, records: impl Iterator<Item = &'a Record>) {
-        let legs: Vec<i128> = (self.entries.iter())
-            .filter(|entry| entry.strategy().is_none())
-            .map(|entry| entry.number)
-            .collect();
-        for record in records {
-            let cash = record.quantity * record.price;
-            let fill = match record.kind {
-                WHOLE_FILL => true,
-                LEG_FILL => legs.binary_search(&record.number).is_ok(),
-                _ => false,
-            };
-            match record.side {
-                0 if fill => self.paid += cash,
-                1 if fill => self.received += cash,
-                _ => {}
-            }
-            if record.kind == LEG_FILL {
-                let traded = self.series.entry(record.place).or_default();
-                match record.side {
-                    0 => traded.bought += record.quantity,
-                    1 => traded.sold += record.quantity,
-                    _ => {}
-                }
-            }
+    /// Whether an accepted event of the day answered its strategy; of a leg order
+    /// it need not.
+    pub fn defines(&self, entry: &Entry) -> bool {
+        match entry.strategy() {
+            Some(strategy) => self.strategies.contains_key(&strategy),
+            None => true,
         }
     }
 
-    /// What does not hold, in the order of the tables.
-    pub fn failures(&self) -> Vec<String> {
-        let mut list = Vec::new();
-        for entry in &self.entries {
-            let number = entry.number;
-            if !entry.sum_holds() {
-                list.push(format!(
-                    "number {number}: entered {}, but filled {} + cancelled {} + live {} = {}",
-                    entry.terms.quantity,
-                    entry.filled,
-                    entry.cancelled,
-                    entry.live,
-                    entry.filled + entry.cancelled + entry.live
-                ));
+    /// The contracts on each leg of its strategy, and in each series outside it
+    /// that the number has records 2 in: "a series outside the strategy counts as
+    /// a leg of ratio 0".
+    pub fn on_legs(&self, entry: &Entry) -> Vec<OnLeg> {
+        let strategy = entry.strategy();
+        let rows = strategy.and_then(|strategy| self.strategies.get(&strategy));
+        let rows = rows.into_iter().flatten();
+        rows.flat_map(|legs| self.on_row(entry.number, legs))
+            .collect()
+    }
+
+    fn on_row(&self, number: i64, legs: &[Leg]) -> Vec<OnLeg> {
+        let contracts = |series| self.contracts.get(&(number, series)).copied();
+        let on_leg = |leg: &Leg| OnLeg {
+            series: leg.series,
+            ratio: leg.ratio,
+            contracts: contracts(leg.series).unwrap_or(0),
+        };
+        let own = self
+            .contracts
+            .range((number, i64::MIN)..=(number, i64::MAX));
+        let outside = own
+            .filter(|((_, series), _)| legs.iter().all(|leg| leg.series != *series))
+            .map(|((_, series), contracts)| OnLeg {
+                series: *series,
+                ratio: 0,
+                contracts: *contracts,
+            });
+        let mut row: Vec<OnLeg> = legs.iter().map(on_leg).chain(outside).collect();
+        row.sort_by_key(|leg| (leg.series, leg.ratio));
+        row
+    }
+
+    /// "No other number has a record 1 to 3 or anything live": those that have.
+    pub fn others(&self) -> impl Iterator<Item = Other> + '_ {
+        let others = (self.own.iter()).filter(|(number, _)| !self.has_entered(**number));
+        others.map(|(number, own)| Other {
+            number: *number,
+            records: own.records,
+            live: own.live,
+        })
+    }
+
+    pub fn series(&self) -> impl Iterator<Item = (i64, Traded)> + '_ {
+        self.series
+            .iter()
+            .map(|(series, traded)| (*series, *traded))
+    }
+
+    /// The cash of records 1, and of the records 2 of leg orders.
+    pub fn cash(&self) -> Cash {
+        let mut cash = self.whole_cash;
+        let mut last = None;
+        for entry in self.entries().filter(|entry| entry.strategy().is_none()) {
+            // A number that was given twice counts once.
+            if last != Some(entry.number) {
+                let own = self.own(entry.number).leg_cash;
+                cash.paid += own.paid;
+                cash.received += own.received;
             }
-            if let (Some(strategy), false) = (entry.strategy(), entry.defined) {
-                list.push(format!(
-                    "number {number}: no accepted event of the day defines strategy {strategy}"
-                ));
-            }
-            if entry.whole_fills > 0 {
-                list.push(format!(
-                    "number {number}: a leg order, and has records 1: {}",
-                    entry.whole_fills
-                ));
-            }
+            last = Some(entry.number);
         }
-        for (number, (records, live)) in &self.others {
-            if *records > 0 {
-                list.push(format!(
-                    "number {number}: did not enter, and has records 1 to 3: {records}"
-                ));
-            }
-            if *live != 0 {
-                list.push(format!(
-                    "number {number}: did not enter, and has live {live}"
-                ));
-            }
-        }
-        for entry in self.entries.iter().filter(|entry| !entry.limit_holds()) {
-            if let Some(worst) = entry.worst {
-                let (number, limit) = (entry.number, entry.terms.limit);
-                let than = if entry.terms.side == 0 {
-                    "above"
-                } else {
-                    "below"
-                };
-                list.push(format!(
-                    "number {number}: filled at {worst}, {than} its limit {limit}"
-                ));
-            }
-        }
-        for entry in &self.entries {
-            for leg in entry.legs.iter().filter(|leg| !entry.leg_holds(leg)) {
-                list.push(format!(
-                    "number {}, series {}: {} contracts, but ratio {} x {} units = {}",
-                    entry.number,
-                    leg.series,
-                    leg.contracts,
-                    leg.ratio,
-                    entry.filled,
-                    leg.ratio * entry.filled
-                ));
-            }
-        }
-        for (series, traded) in &self.series {
-            if traded.bought != traded.sold {
-                list.push(format!(
-                    "series {series}: bought {}, but sold {}",
-                    traded.bought, traded.sold
-                ));
-            }
-        }
-        if self.paid != self.received {
-            list.push(format!(
-                "cash: paid {}, but received {}",
-                self.paid, self.received
-            ));
-        }
-        list
+        cash
     }
 }

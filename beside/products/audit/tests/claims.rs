@@ -3,8 +3,10 @@
 #![forbid(unsafe_code)]
 #![deny(warnings)]
 
+mod common;
+
 use assemble::assemble;
-use audit::audit;
+use common::audited;
 
 const DAY: &str = include_str!("../../../../days/worked-example.txt");
 const LINES: &str = include_str!("../../../../days/worked-example.out");
@@ -26,8 +28,8 @@ fn failures_of(day: &str, lines: &str, end: &str, from: &str, to: &str) -> Vec<S
     assert_eq!(ended.matches(from).count(), 1, "{from}");
     let lines = lines.replace(from, to);
     let ended = ended.replace(from, to);
-    match audit(&frames(day), lines.as_bytes(), ended.as_bytes()) {
-        Ok(report) => report.failures(),
+    match audited(&frames(day), &lines, &ended) {
+        Ok(report) => report.failures,
         Err(wrong) => panic!("{wrong}"),
     }
 }
@@ -358,9 +360,9 @@ fn events_themselves() {
     assert!(failures_of(day, "E 0 3 0 0\n", "E 1 0 0 0\n", "E 1", "E 1").is_empty());
     // The second play is another.
     let ended = format!("{LINES}{END}").replace("E 4 0 2 0", "E 4 6 0 0");
-    let report = audit(&frames(DAY), LINES.as_bytes(), ended.as_bytes()).expect("a report");
+    let report = audited(&frames(DAY), LINES, &ended).expect("a report");
     assert_eq!(
-        report.failures(),
+        report.failures,
         ["day 1, event 4: played twice, it differs"]
     );
 }

@@ -4,8 +4,10 @@
 #![forbid(unsafe_code)]
 #![deny(warnings)]
 
-use audit::audit;
+mod common;
+
 use audit::frames::with_day_end;
+use common::audited;
 use reckoning::generate::{long_list, stream, Random};
 use reckoning::tape::tape;
 
@@ -17,12 +19,8 @@ fn lines(input: &[u8]) -> Vec<String> {
 }
 
 fn failures(input: &[u8], lines: &[String], ended: &[String]) -> Vec<String> {
-    match audit(
-        input,
-        lines.join("\n").as_bytes(),
-        ended.join("\n").as_bytes(),
-    ) {
-        Ok(report) => report.failures(),
+    match audited(input, &lines.join("\n"), &ended.join("\n")) {
+        Ok(report) => report.failures,
         Err(wrong) => panic!("{wrong}"),
     }
 }
@@ -36,7 +34,8 @@ struct Played {
 
 impl Played {
     fn new(input: Vec<u8>) -> Played {
-        let ended = with_day_end(&input).expect("a day end");
+        let mut ended = Vec::new();
+        with_day_end(&input[..], &mut ended).expect("a day end");
         Played {
             lines: lines(&input),
             ended: lines(&ended),

@@ -4,11 +4,13 @@
 #![forbid(unsafe_code)]
 #![deny(warnings)]
 
+mod common;
+
 use assemble::assemble;
-use audit::audit;
-use audit::frames::{event, frames, with_day_end, Event, Leg, Part, Terms, What};
-use audit::table::table;
+use audit::frames::{event, with_day_end, Event, Leg, Part, Parts, Terms, What};
 use audit::table::Column::{Number, Word};
+use audit::table::Table;
+use common::audited;
 
 const DAY: &str = "open 0\nleg-order member 1 buy 2 of series 0 at 3\ncancel member 1 number 1\n";
 const LINES: &str = "E 0 0 0 0\nE 1 0 1 0\nE 2 0 0 1\nR 3 1 0 0 2 0\n";
@@ -22,7 +24,7 @@ fn day(text: &str) -> Vec<u8> {
 fn lines_that_are_not_those_of_the_frames() {
     let read = |lines: &str, end: &str| {
         let ended = format!("{LINES}{end}");
-        audit(&day(DAY), lines.as_bytes(), ended.as_bytes()).map(|report| report.failures())
+        audited(&day(DAY), lines, &ended).map(|report| report.failures)
     };
     assert_eq!(read(LINES, END), Ok(vec![]));
     for (from, to, said) in [
@@ -32,6 +34,14 @@ fn lines_that_are_not_those_of_the_frames() {
         ("E 1 0 1 0", "E 1 0 1 1", "line 3: 1 records fewer than"),
         ("E 1 0 1 0", "E 2 0 1 0", "line 2: index 2 instead of 1"),
         ("E 1 0 1 0", "E 1 6 1 0", "line 2: a refusal with a value"),
+        ("E 1 0 1 0", "E 1 0 1 -1", "line 2: 'E 1 0 1 -1' is no line"),
+        (
+            "E 1 0 1 0\n",
+            "E 1 0 1 0\r\n",
+            "line 2: 'E 1 0 1 0\\r' is no",
+        ),
+        ("E 1 0 1 0", "E 01 0 1 0", "line 2: 'E 01 0 1 0' is no line"),
+        ("E 1 0 1 0", "E 1 -0 1 0", "line 2: 'E 1 -0 1 0' is no line"),
         (
             "R 3 1 0 0 2 0",
             "R 6 1 0 0 2 0",
@@ -76,26 +86,52 @@ fn lines_that_are_not_those_of_the_frames() {
     }
 }
 
+/// The frames of an input, and whether it stops after them.
+fn parts(input: &[u8]) -> (Vec<Vec<u8>>, bool) {
+    let mut parts = Parts::new(input);
+    let mut frames = Vec::new();
+    let mut stops = false;
+    while let Some(part) = parts.next().expect("it is read") {
+        assert!(!stops, "a stop is the last part");
+        match part {
+            Part::Frame(frame) => frames.push(frame.to_vec()),
+            Part::Stop => stops = true,
+        }
+    }
+    assert_eq!((parts.frames(), parts.stopped()), (frames.len(), stops));
+    (frames, stops)
+}
+
+fn ended(input: &[u8]) -> Vec<u8> {
+    let mut output = Vec::new();
+    with_day_end(input, &mut output).expect("a Vec takes every byte");
+    output
+}
+
 #[test]
 fn an_input_is_parted_as_tape_parts_it() {
     let one = [6, 0, 6, 0, 0, 1];
     let end = [6, 0, 8, 0, 0x88, 0x13];
-    assert_eq!(frames(&[]), []);
-    assert_eq!(frames(&one), [Part::Frame(&one)]);
+    assert_eq!(parts(&[]), (vec![], false));
+    assert_eq!(parts(&one), (vec![one.to_vec()], false));
     for rest in [
         &[9][..],
         &[3, 0],
         &[0, 0, 0, 0],
+        &[0, 0, 6, 0, 6, 0, 0, 1],
         &[7, 0, 6, 0, 0, 1],
         &one[..5],
     ] {
         let input = [&one[..], rest].concat();
-        assert_eq!(frames(&input), [Part::Frame(&one), Part::Stop]);
-        assert_eq!(with_day_end(&input), Ok([one, end].concat()));
+        assert_eq!(parts(&input), (vec![one.to_vec()], true));
+        assert_eq!(ended(&input), [one, end].concat());
     }
     let input = [one, one].concat();
-    assert_eq!(frames(&input), [Part::Frame(&one), Part::Frame(&one)]);
-    assert_eq!(with_day_end(&[]), Ok(end.to_vec()));
+    assert_eq!(parts(&input), (vec![one.to_vec(); 2], false));
+    assert_eq!(ended(&[]), end);
+    let long = [&[255, 255][..], &[7; 65_533]].concat();
+    let input = [&long[..], &one].concat();
+    assert_eq!(parts(&input), (vec![long, one.to_vec()], false));
 }
 
 /// The input stops after its last frame: the day end comes in its place.
@@ -105,9 +141,9 @@ fn an_input_that_stops() {
     bytes.push(6);
     let lines = format!("{LINES}E 3 2 0 0\n");
     let ended = format!("{LINES}{END}");
-    let report = audit(&bytes, lines.as_bytes(), ended.as_bytes()).expect("a report");
-    assert!(report.failures().is_empty());
-    assert!(report.text().ends_with("\ntotals hold\n"));
+    let report = audited(&bytes, &lines, &ended).expect("a report");
+    assert!(report.failures.is_empty());
+    assert!(report.text.ends_with("\ntotals hold\n"));
 }
 
 #[test]
@@ -165,16 +201,21 @@ fn events_are_read_with_their_terms() {
 #[test]
 fn columns_are_as_wide_as_what_they_hold() {
     let columns = [Number("n"), Word("what"), Number("long"), Word("")];
-    let row = |cells: [&str; 4]| cells.map(str::to_string).to_vec();
+    let written = |rows: &[[&str; 4]]| {
+        let rows = || rows.iter().map(|row| row.map(str::to_string));
+        let table = Table::new(columns, rows());
+        assert_eq!(table.is_empty(), rows().count() == 0);
+        let mut text = Vec::new();
+        (table.write(&mut text, rows())).expect("a Vec takes every line");
+        String::from_utf8(text).expect("text")
+    };
     assert_eq!(
-        table(
-            &columns,
-            &[
-                row(["1", "a", "2", "holds"]),
-                row(["100", "bcdef", "-34567", "no"])
-            ]
-        ),
-        "  n  what     long\n  1  a           2  holds\n100  bcdef  -34567  no\n"
+        written(&[
+            ["1", "a", "2", "holds"],
+            ["100", "bcdef", "-34567", "no"],
+            ["", "", "3", ""]
+        ]),
+        "  n  what     long\n  1  a           2  holds\n100  bcdef  -34567  no\n                 3\n"
     );
-    assert_eq!(table(&columns, &[]), "n  what  long\n");
+    assert_eq!(written(&[]), "n  what  long\n");
 }

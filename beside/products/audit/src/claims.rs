@@ -1,0 +1,111 @@
+//! The claims of "The totals after a list": what of them does not hold on a day.
+
+use crate::totals::{Entry, Totals};
+
+/// Says what does not hold, in the order of the tables.
+pub fn check(totals: &Totals, fails: &mut impl FnMut(String)) {
+    for entry in totals.entries() {
+        check_sum(totals, &entry, fails);
+    }
+    check_others(totals, fails);
+    for entry in totals.entries() {
+        check_limit(&entry, fails);
+    }
+    for entry in totals.entries() {
+        check_legs(totals, &entry, fails);
+    }
+    check_trades(totals, fails);
+}
+
+fn check_sum(totals: &Totals, entry: &Entry, fails: &mut impl FnMut(String)) {
+    let Entry {
+        number,
+        filled,
+        cancelled,
+        live,
+        whole_fills,
+        ..
+    } = entry;
+    if !entry.sum_holds() {
+        fails(format!(
+            "number {number}: entered {}, but filled {filled} + cancelled {cancelled} + live {live} = {}",
+            entry.terms.quantity,
+            filled + cancelled + live
+        ));
+    }
+    if let (Some(strategy), false) = (entry.strategy(), totals.defines(entry)) {
+        fails(format!(
+            "number {number}: no accepted event of the day defines strategy {strategy}"
+        ));
+    }
+    if *whole_fills > 0 {
+        fails(format!(
+            "number {number}: a leg order, and has records 1: {whole_fills}"
+        ));
+    }
+}
+
+fn check_others(totals: &Totals, fails: &mut impl FnMut(String)) {
+    for other in totals.others() {
+        let number = other.number;
+        if other.records > 0 {
+            fails(format!(
+                "number {number}: did not enter, and has records 1 to 3: {}",
+                other.records
+            ));
+        }
+        if other.live != 0 {
+            fails(format!(
+                "number {number}: did not enter, and has live {}",
+                other.live
+            ));
+        }
+    }
+}
+
+fn check_limit(entry: &Entry, fails: &mut impl FnMut(String)) {
+    let Some(worst) = entry.worst.filter(|_| !entry.limit_holds()) else {
+        return;
+    };
+    let than = match entry.terms.side {
+        0 => "above",
+        _ => "below",
+    };
+    fails(format!(
+        "number {}: filled at {worst}, {than} its limit {}",
+        entry.number, entry.terms.limit
+    ));
+}
+
+fn check_legs(totals: &Totals, entry: &Entry, fails: &mut impl FnMut(String)) {
+    let legs = totals.on_legs(entry);
+    for leg in legs.iter().filter(|leg| !entry.leg_holds(leg)) {
+        fails(format!(
+            "number {}, series {}: {} contracts, but ratio {} x {} units = {}",
+            entry.number,
+            leg.series,
+            leg.contracts,
+            leg.ratio,
+            entry.filled,
+            entry.due(leg)
+        ));
+    }
+}
+
+fn check_trades(totals: &Totals, fails: &mut impl FnMut(String)) {
+    for (series, traded) in totals.series() {
+        if traded.bought != traded.sold {
+            fails(format!(
+                "series {series}: bought {}, but sold {}",
+                traded.bought, traded.sold
+            ));
+        }
+    }
+    let cash = totals.cash();
+    if cash.paid != cash.received {
+        fails(format!(
+            "cash: paid {}, but received {}",
+            cash.paid, cash.received
+        ));
+    }
+}
