@@ -32,7 +32,7 @@ impl<R: Read> Parts<R> {
     }
 
     /// The next part; none at the input's end, and after a stop.
-    pub fn next(&mut self) -> Result<Option<Part<'_>>, Wrong> {
+    pub fn part(&mut self) -> Result<Option<Part<'_>>, Wrong> {
         if self.stopped {
             return Ok(None);
         }
@@ -77,7 +77,7 @@ impl<R: Read> Parts<R> {
 /// is no frame at the end.
 pub fn with_day_end(input: impl Read, output: &mut impl Write) -> Result<(), Wrong> {
     let mut parts = Parts::new(input);
-    while let Some(Part::Frame(frame)) = parts.next()? {
+    while let Some(Part::Frame(frame)) = parts.part()? {
         output.write_all(frame).map_err(Wrong::Write)?;
     }
     let mut row: Row = [0; NUMBERS];

@@ -12,7 +12,7 @@
 #![deny(warnings)]
 
 pub mod claims;
-pub mod days;
+pub mod day;
 pub mod failures;
 pub mod frames;
 pub mod lines;
@@ -20,6 +20,7 @@ pub mod plays;
 pub mod report;
 pub mod table;
 pub mod totals;
+pub mod walk;
 pub mod wrong;
 
-pub use days::audit;
+pub use walk::audit;

@@ -51,7 +51,7 @@ impl<F: Read, L: BufRead, E: BufRead> Plays<F, L, E> {
     /// The next event; none at the end of the list, where `end` goes on. Its
     /// records have to be read before.
     pub fn turn(&mut self) -> Result<Option<Turn>, Wrong> {
-        let Some(part) = self.parts.next()? else {
+        let Some(part) = self.parts.part()? else {
             return match self.lines.answer()? {
                 None => Ok(None),
                 Some(_) => Err(self.miscounted_lines()?),
@@ -119,7 +119,7 @@ impl<F: Read, L: BufRead, E: BufRead> Plays<F, L, E> {
 
     /// Reads the frames to their end, to count them.
     fn count(&mut self) -> Result<usize, Wrong> {
-        while self.parts.next()?.is_some() {}
+        while self.parts.part()?.is_some() {}
         Ok(self.parts.frames())
     }
 

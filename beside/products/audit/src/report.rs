@@ -2,25 +2,13 @@
 //! over; what does not hold comes last.
 
 use crate::claims::check;
+use crate::day::Day;
 use crate::failures::Failures;
 use crate::frames::What;
 use crate::table::Column::{self, Number, Word};
 use crate::table::Table;
 use crate::totals::{Entry, Totals};
 use std::io::{self, Write};
-
-/// One day of a list: the events after the day end before it, up to its own.
-#[derive(Clone, Debug, Default, PartialEq, Eq)]
-pub struct Day {
-    /// The day's number, from 1.
-    pub number: usize,
-    /// The index of its first event.
-    pub first: usize,
-    pub events: usize,
-    /// It has its day end.
-    pub ended: bool,
-    pub totals: Totals,
-}
 
 pub struct Report<'a, W> {
     output: &'a mut W,

@@ -91,7 +91,7 @@ fn parts(input: &[u8]) -> (Vec<Vec<u8>>, bool) {
     let mut parts = Parts::new(input);
     let mut frames = Vec::new();
     let mut stops = false;
-    while let Some(part) = parts.next().expect("it is read") {
+    while let Some(part) = parts.part().expect("it is read") {
         assert!(!stops, "a stop is the last part");
         match part {
             Part::Frame(frame) => frames.push(frame.to_vec()),

@@ -1,20 +1,19 @@
-//! The days of a list, one after the other: what its two plays say goes into the
+//! The walk through the days of a list: what its two plays say goes into the
 //! totals of the day, and a day that is over into the report.
 
+use crate::day::Day;
 use crate::failures::Failures;
 use crate::frames::Event;
 use crate::lines::Record;
 use crate::plays::{Plays, Turn};
-use crate::report::{Day, Report};
+use crate::report::Report;
 use crate::wrong::Wrong;
 use std::io::{BufRead, Read, Write};
 
-struct Days<'a, F, L, E, W> {
+struct Walk<'a, F, L, E, W> {
     plays: Plays<F, L, E>,
     report: Report<'a, W>,
     day: Day,
-    /// How many events were read.
-    events: usize,
 }
 
 /// Writes the report on the days of these frames. `lines` is what `tape` printed
@@ -30,37 +29,25 @@ pub fn audit(
     ended: impl BufRead,
     output: &mut impl Write,
 ) -> Result<Failures, Wrong> {
-    let mut days = Days {
+    let mut walk = Walk {
         plays: Plays::new(frames, lines, ended),
         report: Report::new(output),
-        day: Day::after(&Day::default()),
-        events: 0,
+        day: Day::first(),
     };
-    while let Some(turn) = days.plays.turn()? {
-        days.turn(turn)?;
+    while let Some(turn) = walk.plays.turn()? {
+        walk.turn(turn)?;
     }
-    days.end()?;
-    days.report.end().map_err(Wrong::Write)
+    walk.end()?;
+    walk.report.end().map_err(Wrong::Write)
 }
 
-impl Day {
-    /// The day after this one.
-    fn after(day: &Day) -> Day {
-        Day {
-            number: day.number + 1,
-            first: day.first + day.events,
-            ..Day::default()
-        }
-    }
-}
-
-impl<F: Read, L: BufRead, E: BufRead, W: Write> Days<'_, F, L, E, W> {
+impl<F: Read, L: BufRead, E: BufRead, W: Write> Walk<'_, F, L, E, W> {
     /// An event with its records. The numbers begin anew after an accepted day
     /// end.
     fn turn(&mut self, turn: Turn) -> Result<(), Wrong> {
         if self.day.ended {
             self.report.day(&self.day).map_err(Wrong::Write)?;
-            self.day = Day::after(&self.day);
+            self.day = self.day.next_day();
         }
         let accepted = turn.answer.answer == 0;
         if let (Event::Refused(refusal), true) = (&turn.event, accepted) {
@@ -78,13 +65,13 @@ impl<F: Read, L: BufRead, E: BufRead, W: Write> Days<'_, F, L, E, W> {
             self.fails("played twice, it differs");
         }
         self.day.events += 1;
-        self.events += 1;
         Ok(())
     }
 
     /// What does not hold of the event.
     fn fails(&mut self, failure: &str) {
-        let failure = format!("event {}: {failure}", self.events);
+        let index = self.day.first + self.day.events;
+        let failure = format!("event {index}: {failure}");
         self.report.fails(&self.day, &failure);
     }
 
@@ -120,7 +107,7 @@ impl<F: Read, L: BufRead, E: BufRead, W: Write> Days<'_, F, L, E, W> {
     fn end(&mut self) -> Result<(), Wrong> {
         // After the last day end there may be nothing.
         let (over, mut last) = match self.day.ended {
-            true => (Some(&self.day), Day::after(&self.day)),
+            true => (Some(&self.day), self.day.next_day()),
             false => (None, std::mem::take(&mut self.day)),
         };
         let refused = self.plays.end()?.answer != 0;

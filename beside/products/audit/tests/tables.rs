@@ -1,0 +1,444 @@
+//! The tables of generated days, with right lines and with lines that were
+//! tampered with, beside sums that are taken here over lists of all events and
+//! records. The reckoning reads the frames.
+
+#![forbid(unsafe_code)]
+#![deny(warnings)]
+
+mod common;
+
+use audit::frames::with_day_end;
+use common::audited;
+use reckoning::frames::{read, values};
+use reckoning::generate::{stream, Random};
+use reckoning::tape::tape;
+use std::collections::BTreeSet;
+
+/// Kind, number, place, side, quantity, price.
+type Record = [i64; 6];
+
+/// An event with its answer: its kind, 0 for a refused one, and its fields.
+struct Logged {
+    kind: u32,
+    fields: [i64; 19],
+    value: i64,
+    records: Vec<Record>,
+}
+
+/// An order or sweep with its number.
+struct Entered {
+    number: i64,
+    kind: u32,
+    member: i64,
+    place: i64,
+    side: i64,
+    quantity: i64,
+    limit: i64,
+}
+
+/// A day, and the records of the day end after the list.
+#[derive(Default)]
+struct Day {
+    first: usize,
+    log: Vec<Logged>,
+    ended: bool,
+    live: Vec<Record>,
+}
+
+fn numbers(line: &str) -> Vec<i64> {
+    let words = line.split(' ').skip(1);
+    words.map(|word| word.parse().expect("a number")).collect()
+}
+
+fn record(line: &str) -> Record {
+    numbers(line).try_into().expect("six numbers")
+}
+
+/// The kind and the fields of the event that the input begins with, and the rest.
+fn first(input: &[u8]) -> ((u32, [i64; 19]), &[u8]) {
+    let length = match input {
+        [low, high, ..] => usize::from(*low) + 256 * usize::from(*high),
+        _ => 0,
+    };
+    match input.get(..length).map(read) {
+        Some(Ok(event)) => (values(&event), &input[length..]),
+        _ => ((0, [0; 19]), input.get(length..).unwrap_or(&[])),
+    }
+}
+
+/// The days of an input with its lines, and those with the day end.
+fn days(mut input: &[u8], lines: &[String], ended: &[String]) -> Vec<Day> {
+    let mut days = vec![Day::default()];
+    let mut index = 0;
+    for line in lines {
+        if days.last().is_some_and(|day| day.ended) && line.starts_with('E') {
+            days.push(Day {
+                first: index,
+                ..Day::default()
+            });
+        }
+        let day = days.last_mut().expect("a day");
+        if line.starts_with('R') {
+            let last = day.log.last_mut().expect("an event");
+            last.records.push(record(line));
+            continue;
+        }
+        let ((kind, fields), rest) = first(input);
+        input = rest;
+        let answer = numbers(line);
+        let accepted = answer[1] == 0;
+        day.ended = accepted && kind == 8;
+        day.log.push(Logged {
+            kind: if accepted { kind } else { 0 },
+            fields,
+            value: answer[2],
+            records: Vec::new(),
+        });
+        index += 1;
+    }
+    let live = ended.iter().rev().take_while(|line| line.starts_with('R'));
+    let live: Vec<Record> = live.map(|line| record(line)).collect();
+    if days.last().is_some_and(|day| day.ended) && !live.is_empty() {
+        days.push(Day {
+            first: index,
+            ..Day::default()
+        });
+    }
+    days.last_mut().expect("a day").live = live;
+    days.retain(|day| !day.log.is_empty() || !day.live.is_empty());
+    days
+}
+
+fn quantity(records: &[Record]) -> i64 {
+    records.iter().map(|record| record[4]).sum()
+}
+
+/// Cash of a side.
+fn cash(fills: &[Record], side: i64) -> i64 {
+    let own = fills.iter().filter(|fill| fill[3] == side);
+    own.map(|fill| fill[4] * fill[5]).sum()
+}
+
+fn said(holds: bool) -> &'static str {
+    ["FAILS", "holds"][usize::from(holds)]
+}
+
+impl Entered {
+    fn of(logged: &Logged) -> Option<Entered> {
+        let at = match logged.kind {
+            2 => 5,
+            3 | 4 => 3,
+            _ => return None,
+        };
+        let [member, place, side, ..] = logged.fields;
+        (logged.value != 0).then_some(Entered {
+            number: logged.value,
+            kind: logged.kind,
+            member,
+            place,
+            side,
+            quantity: logged.fields[at],
+            limit: logged.fields[at + 1],
+        })
+    }
+
+    fn side(&self) -> &'static str {
+        ["buy", "sell"][self.side as usize]
+    }
+}
+
+impl Day {
+    fn entered(&self) -> Vec<Entered> {
+        let mut list: Vec<Entered> = self.log.iter().filter_map(Entered::of).collect();
+        list.sort_by_key(|entered| entered.number);
+        list
+    }
+
+    /// The records that are asked for.
+    fn records(&self, asked: impl Fn(&Record) -> bool) -> Vec<Record> {
+        let all = self.log.iter().flat_map(|logged| &logged.records);
+        all.filter(|record| asked(record)).copied().collect()
+    }
+
+    fn fills(&self, entered: &Entered) -> Vec<Record> {
+        let kind = if entered.kind == 4 { 2 } else { 1 };
+        self.records(|record| record[..2] == [kind, entered.number])
+    }
+
+    fn live(&self, number: i64) -> i64 {
+        let own = self.live.iter().filter(|record| record[..2] == [3, number]);
+        own.map(|record| record[4]).sum()
+    }
+
+    /// Series and ratio of each leg.
+    fn legs(&self, strategy: i64) -> Vec<(i64, i64)> {
+        let answered = |logged: &&Logged| logged.kind == 1 && logged.value == strategy;
+        let fields = self.log.iter().find(answered).expect("a definition").fields;
+        let given = fields[1..].chunks(3).take(fields[0] as usize);
+        let divides = |by: &i64| given.clone().all(|leg| leg[2] % by == 0);
+        let common = (1..=12).filter(divides).max().expect("1 divides");
+        given.map(|leg| (leg[0], leg[2] / common)).collect()
+    }
+
+    fn numbers(&self) -> Vec<String> {
+        let row = |entered: &Entered| {
+            let number = entered.number;
+            let filled = quantity(&self.fills(entered));
+            let cancelled = quantity(&self.records(|record| record[..2] == [3, number]));
+            let live = self.live(number);
+            let (what, place) = match entered.kind {
+                2 => ("complex order", "strategy"),
+                3 => ("sweep", "strategy"),
+                _ => ("leg order", "series"),
+            };
+            format!(
+                "{number} {what} {} {place} {} {} {} {} {filled} {cancelled} {live} {}",
+                entered.member,
+                entered.place,
+                entered.side(),
+                entered.limit,
+                entered.quantity,
+                said(entered.quantity == filled + cancelled + live)
+            )
+        };
+        self.entered().iter().map(row).collect()
+    }
+
+    fn worst_fills(&self) -> Vec<String> {
+        let row = |entered: &Entered| {
+            // A buy's prices and a sell's less than 0: the higher, the worse.
+            let sign = 1 - 2 * entered.side;
+            let fills = self.fills(entered);
+            let worst = fills.iter().map(|fill| sign * fill[5]).max()?;
+            let better = sign * entered.limit - worst;
+            Some(format!(
+                "{} {} {} {} {better} {}",
+                entered.number,
+                entered.side(),
+                entered.limit,
+                sign * worst,
+                said(better >= 0)
+            ))
+        };
+        self.entered().iter().filter_map(row).collect()
+    }
+
+    fn on_legs(&self) -> Vec<String> {
+        let mut rows = Vec::new();
+        for entered in self.entered().iter().filter(|entered| entered.kind != 4) {
+            let fills = self.fills(entered);
+            let units = quantity(&fills);
+            let legs = self.legs(entered.place);
+            let own = self.records(|record| record[..2] == [2, entered.number]);
+            let mut series: BTreeSet<i64> = own.iter().map(|record| record[2]).collect();
+            series.extend(legs.iter().map(|leg| leg.0));
+            for series in series {
+                let ratio = legs
+                    .iter()
+                    .find(|leg| leg.0 == series)
+                    .map_or(0, |leg| leg.1);
+                let on_leg = own.iter().filter(|record| record[2] == series);
+                let contracts: i64 = on_leg.map(|record| record[4]).sum();
+                let holds = contracts == ratio * units;
+                if !fills.is_empty() || !holds {
+                    rows.push(format!(
+                        "{} {} {units} {series} {ratio} {} {contracts} {}",
+                        entered.number,
+                        entered.place,
+                        ratio * units,
+                        said(holds)
+                    ));
+                }
+            }
+        }
+        rows
+    }
+
+    fn series(&self) -> Vec<String> {
+        let trades = self.records(|record| record[0] == 2);
+        let series: BTreeSet<i64> = trades.iter().map(|trade| trade[2]).collect();
+        let row = |series: i64| {
+            let sum = |side| quantity(&self.records(|r| r[0] == 2 && r[2..4] == [series, side]));
+            let (bought, sold) = (sum(0), sum(1));
+            format!("{series} {bought} {sold} {}", said(bought == sold))
+        };
+        series.into_iter().map(row).collect()
+    }
+
+    fn cash(&self) -> Vec<String> {
+        let mut fills = self.records(|record| record[0] == 1);
+        for entered in self.entered().iter().filter(|entered| entered.kind == 4) {
+            fills.extend(self.fills(entered));
+        }
+        let (paid, received) = (cash(&fills, 0), cash(&fills, 1));
+        vec![format!("{paid} {received} {}", said(paid == received))]
+    }
+
+    /// How many failures no table shows: numbers that did not enter, leg orders
+    /// with records 1, and events with a quantity below 0.
+    fn unseen(&self) -> usize {
+        let entered = self.entered();
+        let own = self.records(|record| record[0] <= 3);
+        let other = |numbers: BTreeSet<i64>| {
+            let entered = |number: &&i64| entered.iter().any(|one| one.number == **number);
+            numbers.len() - numbers.iter().filter(entered).count()
+        };
+        let with_records = other(own.iter().map(|record| record[1]).collect());
+        let live: BTreeSet<i64> = self.live.iter().map(|record| record[1]).collect();
+        let with_live = other(live.into_iter().filter(|n| self.live(*n) != 0).collect());
+        let whole = |one: &&Entered| own.iter().any(|record| record[..2] == [1, one.number]);
+        let legs = entered.iter().filter(|one| one.kind == 4);
+        let negative = |logged: &&Logged| logged.records.iter().any(|record| record[4] < 0);
+        let events = self.log.iter().filter(negative).count();
+        with_records + with_live + legs.filter(whole).count() + events
+    }
+
+    /// Its report, with one blank between words.
+    fn report(&self, number: usize) -> Vec<String> {
+        let events = match self.log.len() {
+            1 => "1 event".to_string(),
+            count => format!("{count} events"),
+        };
+        let end = match self.ended {
+            true => "its day end is the last, so nothing is live",
+            false => "not ended; live is what a day end would cancel",
+        };
+        let heading = format!("Day {number}: {events} from index {}, {end}", self.first);
+        let nothing = self.entered().is_empty()
+            && self.records(|record| record[0] <= 3).is_empty()
+            && self.live.iter().all(|record| record[0] != 3);
+        if nothing {
+            let said = "No order or sweep entered, and no record 1 to 3 was written.";
+            return [&heading, "", said, ""].map(str::to_string).to_vec();
+        }
+        let mut lines = vec![heading];
+        for (heading, columns, none, rows) in [
+            (
+                "Each number: entered = filled + cancelled + live, in units, of a leg order in contracts",
+                "number what member place side limit entered filled cancelled live sum",
+                "no number was given",
+                self.numbers(),
+            ),
+            (
+                "Each number with a fill: its worst fill against its limit, in cents",
+                "number side limit worst fill better by",
+                "no number has a fill",
+                self.worst_fills(),
+            ),
+            (
+                "Each leg of a complex order or sweep with a fill: contracts = ratio x units",
+                "number strategy units series ratio ratio x units contracts",
+                "no complex order or sweep has a fill",
+                self.on_legs(),
+            ),
+            (
+                "Each series: contracts bought = contracts sold",
+                "series bought sold",
+                "no contract was traded",
+                self.series(),
+            ),
+            (
+                "Cash: paid = received, in cents",
+                "paid received",
+                "",
+                self.cash(),
+            ),
+        ] {
+            let first = if rows.is_empty() { none } else { columns };
+            lines.extend(["", heading, first].map(str::to_string));
+            lines.extend(rows);
+        }
+        lines.push(String::new());
+        lines
+    }
+}
+
+fn played(input: &[u8]) -> Vec<String> {
+    let mut printed = Vec::new();
+    tape(input, &mut printed).expect("a Vec takes every line");
+    let text = String::from_utf8(printed).expect("text");
+    text.lines().map(str::to_string).collect()
+}
+
+/// Compares what is printed with the sums, and answers how many failures there
+/// are.
+fn compared(input: &[u8], lines: &[String], ended: &[String], name: &str) -> usize {
+    let audit = audited(input, &lines.join("\n"), &ended.join("\n"));
+    let audit = audit.unwrap_or_else(|wrong| panic!("{name}: {wrong}"));
+    let days = days(input, lines, ended);
+    let reports = days.iter().zip(1..).flat_map(|(day, at)| day.report(at));
+    let expected: Vec<String> = reports.collect();
+    let fails = expected
+        .iter()
+        .filter(|line| line.ends_with("FAILS"))
+        .count();
+    let failures = fails + days.iter().map(Day::unseen).sum::<usize>();
+    let words = |line: &str| line.split_whitespace().collect::<Vec<&str>>().join(" ");
+    let printed: Vec<String> = audit.text.lines().map(words).collect();
+    let (tables, last) = printed.split_at(expected.len());
+    assert_eq!(tables, expected, "{name}");
+    assert_eq!(audit.failures.len(), failures, "{name}: {last:?}");
+    match failures {
+        0 => assert_eq!(last, ["totals hold"], "{name}"),
+        _ => assert_eq!(last[0], "totals do not hold:", "{name}"),
+    }
+    failures
+}
+
+fn with_end(input: &[u8]) -> Vec<u8> {
+    let mut bytes = Vec::new();
+    with_day_end(input, &mut bytes).expect("a Vec takes every byte");
+    bytes
+}
+
+#[test]
+fn the_tables_of_generated_days() {
+    for seed in 1..=48 {
+        let input = stream(seed, 250);
+        let (lines, ended) = (played(&input), played(&with_end(&input)));
+        let failures = compared(&input, &lines, &ended, &format!("seed {seed}"));
+        assert_eq!(failures, 0);
+    }
+}
+
+/// Another value in a field of a record 1, 2 or 3.
+fn tampered(line: &str, random: &mut Random) -> String {
+    let mut words = numbers(line);
+    match random.below(6) {
+        0 => words[0] = random.range(1, 3),
+        1 => words[1] += random.pick(&[-1, 1, 100_000]),
+        2 => words[2] = random.range(-1, 33),
+        3 => words[3] = random.range(0, 2),
+        4 => words[4] += random.pick(&[-1, 1, -50, 1_000_000]),
+        _ => words[5] += random.pick(&[-1, 1, 300, -70_000]),
+    }
+    let words: Vec<String> = words.iter().map(i64::to_string).collect();
+    format!("R {}", words.join(" "))
+}
+
+#[test]
+fn the_tables_of_lines_that_were_tampered_with() {
+    let mut random = Random::new(11);
+    let mut failures = 0;
+    for seed in 1..=150 {
+        let input = stream(seed, 120);
+        let (lines, mut ended) = (played(&input), played(&with_end(&input)));
+        let records: Vec<usize> = (0..ended.len())
+            .filter(|at| matches!(&ended[*at][..3], "R 1" | "R 2" | "R 3"))
+            .collect();
+        for _ in 0..random.range(1, 6) {
+            if !records.is_empty() {
+                let at = random.pick(&records);
+                ended[at] = tampered(&ended[at], &mut random);
+            }
+        }
+        // Where it stops, the first play has a line that the second has not.
+        let mut first: Vec<String> = ended.iter().take(lines.len()).cloned().collect();
+        if lines.last().is_some_and(|line| line.starts_with("E")) {
+            first.truncate(lines.len() - 1);
+            first.extend(lines.last().cloned());
+        }
+        failures += compared(&input, &first, &ended, &format!("seed {seed}"));
+    }
+    assert!(failures > 500, "{failures}");
+}
