@@ -125,5 +125,11 @@ check "no such program" ends 2 "the program $out/none is missing" tape_is "$out/
 check "lines that are cut" ends 2 "audit: lines: line 1: 'E 0 0 0' is no line of tape" tape_is "$out/cut"
 check "a program that ends badly" ends 2 "$out/broken ended with status 3" tape_is "$out/broken"
 
+# Output that does not arrive.
+full() { ./audit >/dev/full; }
+closed() { ./audit >&-; }
+check "a full output" ends 2 'audit: writing the output: No space left' full
+check "a closed output" ends 2 'audit: writing the output: ' closed
+
 echo "audit: $passed passed, $failed failed"
 [ "$failed" -eq 0 ] && [ "$passed" -gt 0 ]

@@ -28,10 +28,10 @@ status is 1. The list has the first 1,000 and, if there are more, ends with the
 line 'and N more'. The exit status is 2 if the files cannot be read, or cannot
 belong together, or the output cannot be written.
 
-The files are read in step, as streams, and each day is printed when it is over.
-So the days before an error are printed, those from it on are not. Memory is
-bounded by the numbers of a day: a day with more than 200,000 cannot be audited
-(document 01 gives 100,000).
+The files are read in step, as streams. A day is printed when the event after it
+was read, or the files have ended: so days before an error are printed, and the
+error is said on standard error. Memory is bounded by the numbers of a day: one
+with more than 200,000 cannot be audited, where document 01 gives 100,000.
 ";
 
 /// A file whose errors have its name.

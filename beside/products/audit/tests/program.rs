@@ -150,41 +150,40 @@ fn days_before_an_error_are_printed() {
     let (status, whole, said) = seen(&run(&two_days("days", "E 7 ", "E 7 ")));
     assert_eq!((status, said.as_str()), (0, ""));
     let (first, _) = whole.split_once("Day 2: ").expect("two days");
-    for (name, from, to, said) in [
+    for (name, from, to, days, said) in [
         (
             "second",
             "E 12 0 3 5\n",
             "X\n",
+            first,
             "lines: line 20: 'X' is no line of tape",
         ),
         (
             "end",
             "E 13 0 0 2\n",
             "E 13 0 0 1\n",
+            first,
             "lines: line 28: a record past the count of its event",
         ),
         (
             "first",
             "E 6 0 0 2\n",
             "E 6 0 0 1\n",
+            "",
             "lines: line 14: a record past the count of its event",
         ),
+        // A day is printed when the event after it was read.
         (
             "after",
             "E 7 0 0 0\n",
             "E 7 0\n",
+            "",
             "lines: line 15: 'E 7 0' is no line of tape",
         ),
     ] {
         let (status, printed, told) = seen(&run(&two_days(name, from, to)));
         assert_eq!((status, told), (2, format!("audit: {said}\n")));
-        // A day is printed when the event after it was read.
-        let first = if ["first", "after"].contains(&name) {
-            ""
-        } else {
-            first
-        };
-        assert_eq!(printed, first, "{name}");
+        assert_eq!(printed, days, "{name}");
     }
 }
 
