@@ -351,6 +351,14 @@ fn events_themselves() {
         "E 5 0 3 7\nR 3 3 0 0 1 0\nR 3 3 0 0 -1 0\n",
         &["day 1, event 5: a record of number 3 has quantity -1"],
     )]);
+    // Of several in one event the first.
+    reported(&[(
+        "E 5 0 3 5\n",
+        "E 5 0 3 8\nR 3 3 0 0 3 0\nR 3 3 0 0 -1 0\nR 3 3 0 0 -2 0\n",
+        &["day 1, event 5: a record of number 3 has quantity -1"],
+    )]);
+    // The day end cancels by records 3 alone.
+    reported(&[("E 6 0 0 2\n", "E 6 0 0 3\nR 5 1 0 0 9 0\n", &[])]);
     // A frame that the reader refuses.
     let day = "bytes 06 00 06 00 20 01";
     assert_eq!(
@@ -358,13 +366,29 @@ fn events_themselves() {
         ["day 1, event 0: accepted, and its frame reads as refused 3"]
     );
     assert!(failures_of(day, "E 0 3 0 0\n", "E 1 0 0 0\n", "E 1", "E 1").is_empty());
-    // The second play is another.
-    let ended = format!("{LINES}{END}").replace("E 4 0 2 0", "E 4 6 0 0");
-    let report = audited(&frames(DAY), LINES, &ended).expect("a report");
-    assert_eq!(
-        report.failures,
-        ["day 1, event 4: played twice, it differs"]
-    );
+}
+
+/// The second play is another: the first event that differs is told.
+#[test]
+fn plays_that_differ() {
+    let frames = frames(DAY);
+    for (from, to, event) in [
+        ("E 4 0 2 0", "E 4 6 0 0", 4),
+        ("E 3 0 1 0", "E 3 0 2 0", 3),
+        ("R 1 3 0 0 2 200", "R 1 3 0 0 2 201", 5),
+        (
+            "E 4 0 2 0\n",
+            "E 4 0 2 2\nR 3 2 0 0 1 0\nR 3 2 0 0 1 0\n",
+            4,
+        ),
+        ("E 5 0 3 5\nR 1 3 0 0 2 200\n", "E 5 0 3 4\n", 5),
+    ] {
+        let other = LINES.replace(from, to);
+        assert_ne!(other, LINES);
+        let report = audited(&frames, LINES, &format!("{other}{END}")).expect("a report");
+        let said = format!("day 1, event {event}: played twice, it differs");
+        assert_eq!(report.failures, [said]);
+    }
 }
 
 /// Each day has its own numbers.
@@ -410,4 +434,23 @@ fn several_days() {
         said("E 7 0 0 1\nR 3 1 0 1 3 0\n"),
         ["day 2, number 1: did not enter, and has live 3"]
     );
+    // A day without events is printed where the day end after it has records, or
+    // is refused.
+    let refused = "totals do not hold:\n  \
+        day 2, the day end after the list is refused: what is live is unknown";
+    for (end, last) in [
+        ("E 7 0 0 1\nR 5 1 0 0 0 0\n", "totals hold"),
+        ("E 7 2 0 0\n", refused),
+    ] {
+        let ended = format!("{lines}{end}");
+        let report = audited(&frames(&text), &lines, &ended).expect("a report");
+        let (_, day) = report.text.split_once("Day 2: ").expect("a second day");
+        assert_eq!(
+            day,
+            format!(
+                "0 events from index 7, not ended; live is what a day end would cancel\n\n\
+                 No order or sweep entered, and no record 1 to 3 was written.\n\n{last}\n"
+            )
+        );
+    }
 }
