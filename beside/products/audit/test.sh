@@ -112,24 +112,28 @@ tape_is() { TAPE=$1 ./audit; }
 printf 'open 0\nopen 32\n' >"$out/high.txt"
 printf '#!/bin/sh\necho E 0 0 0\n' >"$out/cut"
 printf '#!/bin/sh\nexit 3\n' >"$out/broken"
-chmod +x "$out/cut" "$out/broken"
+printf '#!/bin/sh\n"%s/target/bin/tape"\necho trouble >&2\n' "$PWD" >"$out/troubled"
+chmod +x "$out/cut" "$out/broken" "$out/troubled"
+small_stack() { (ulimit -S -s 200 && ./audit); }
 check "--help" help
 check "an unknown word" ends 2 '^usage: ./audit' ./audit --unknown
 check "two days" ends 2 '^usage: ./audit' ./audit days/halt.txt days/halt.txt
 check "--raw alone" ends 2 '^usage: ./audit' ./audit --raw
 check "a number outside its range" ends 2 'high.txt: line 2: series 32 is outside its range' ./audit "$out/high.txt"
 check "no such day" ends 2 'none.txt: No such file' ./audit "$out/none.txt"
-check "no such frames" ends 2 'none.bin is no file that can be read' ./audit --raw "$out/none.bin"
-check "a folder" ends 2 'days is no file that can be read' ./audit --raw days
+check "no such frames" ends 2 'audit: .*none.bin: No such file' ./audit --raw "$out/none.bin"
+check "a folder" ends 2 'audit: days: Is a directory' ./audit --raw days
 check "no such program" ends 2 "the program $out/none is missing" tape_is "$out/none"
 check "lines that are cut" ends 2 "audit: lines: line 1: 'E 0 0 0' is no line of tape" tape_is "$out/cut"
 check "a program that ends badly" ends 2 "$out/broken ended with status 3" tape_is "$out/broken"
+check "a program that says something" ends 2 'audit: tape: trouble' tape_is "$out/troubled"
+check "too small a stack" ends 2 'audit: .*tape ended by a violation of memory: has it a stack of 400 KB' small_stack
 
 # Output that does not arrive.
 full() { ./audit >/dev/full; }
 closed() { ./audit >&-; }
 check "a full output" ends 2 'audit: writing the output: No space left' full
-check "a closed output" ends 2 'audit: writing the output: ' closed
+check "a closed output" ends 2 'audit: standard output is closed' closed
 
 echo "audit: $passed passed, $failed failed"
 [ "$failed" -eq 0 ] && [ "$passed" -gt 0 ]
