@@ -20,33 +20,50 @@ crates_below() {
 }
 
 # progress WHAT COUNT: reads what rt prints, and shows each crate that is proved
-# anew: on a terminal all on one line, elsewhere a line each.
+# anew: elsewhere than on a terminal a line each; there all on one line, with the
+# seconds so far, each second.
 progress() {
-    local what=$1 count=$2 at=0 line crate shown=0
-    while IFS= read -r line; do
+    local what=$1 count=$2 at=0 part rest='' line shown=''
+    while true; do
+        if IFS= read -r -t 1 part; then
+            line=$rest$part
+            rest=
+        elif [ $? -gt 128 ]; then
+            rest+=$part
+            if [ -t 2 ]; then
+                printf '\r\033[K%s: %s (%d s so far)' "$name" "${shown:-proving $what, crate 1 of $count}" "$SECONDS" >&2
+            fi
+            continue
+        else
+            break
+        fi
         case $line in
-            'rt: '*' proved ('*)
+            'rt: '*' proved ('* | 'rt: target/staticlib/'*)
                 at=$((at + 1))
-                case $line in *'unchanged since'*) continue ;; esac
-                crate=${line#rt: }
-                crate=${crate/ proved/}
+                case $line in
+                    *'unchanged since'*) continue ;;
+                    *' proved ('*)
+                        line=${line#rt: }
+                        shown="proved for $what: crate $at of $count, ${line/ proved/}"
+                        ;;
+                    *) shown="built $what: crate $at of $count" ;;
+                esac
                 if [ -t 2 ]; then
-                    printf '\r\033[K%s: proving %s, crate %d of %d: %s' "$name" "$what" "$at" "$count" "$crate" >&2
-                    shown=1
+                    printf '\r\033[K%s: %s' "$name" "$shown" >&2
                 else
-                    printf '%s: proving %s, crate %d of %d: %s\n' "$name" "$what" "$at" "$count" "$crate" >&2
+                    echo "$name: $shown" >&2
                 fi
                 ;;
-            'rt: ok'*) ;;
-            'rt: '*' ran as '* | 'rt: '*' wrote '* | 'rt: target/'*) ;;
+            'rt: ok'* | 'rt: '*' ran as '*) ;;
             'rt: '*)
-                [ "$shown" -eq 0 ] || echo >&2
-                shown=0
+                [ ! -t 2 ] || printf '\r\033[K' >&2
                 echo "$line" >&2
                 ;;
         esac
     done
-    [ "$shown" -eq 0 ] || echo >&2
+    if [ -t 2 ] && [ -n "$shown" ]; then
+        echo >&2
+    fi
 }
 
 # proves WHAT CRATE COMMAND...: runs rt in the repository, on all its processors, and
