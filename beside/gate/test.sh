@@ -225,9 +225,10 @@ ends() {
 check "./test --help" ends 0 printed --help
 check "./test with an unknown word" ends 2 said unknown
 check "./test with two parts" ends 2 said gate gate
-full_help() { ./test --help >/dev/full 2>"$out/said"; }
-lost_help() { ! full_help; }
-check "./test --help to a full disk" lost_help
+lost_help() { ! "$1" --help >/dev/full 2>"$out/said" && [ -s "$out/said" ]; }
+for script in test play audit bench; do
+    check "./$script --help to a full disk" lost_help "./$script"
+done
 
 echo "gate: $good passed, $bad failed"
 [ "$bad" -eq 0 ] && [ "$good" -gt 0 ]
