@@ -5,6 +5,7 @@
 #![forbid(unsafe_code)]
 #![deny(warnings)]
 
+pub mod answers;
 pub mod event;
 pub mod grouping;
 pub mod notes;

@@ -1,11 +1,11 @@
 //! The day in words: each line with its event, the answer, and a sentence for
 //! each thing that its records say; at the end of each day the totals.
 
-use crate::event::{Event, DAY_END, STRATEGY};
+use crate::answers::answered;
+use crate::event::{Event, DAY_END};
 use crate::grouping::groups;
 use crate::parties::{Parties, Party};
 use crate::printed::{Answer, Printed, Record};
-use crate::refusals::cause;
 use crate::sentences::sentence;
 use crate::totals::Totals;
 use assemble::check::changed;
@@ -253,35 +253,4 @@ fn about(part: &Part, event: &Event) -> String {
         true => String::new(),
         false => format!(" ({})", said.join(": ")),
     }
-}
-
-/// What the value of an accepted event is, by kind; a number where it is not 0.
-const VALUES: &[(u32, &str)] = &[
-    (STRATEGY, "strategy"),
-    (2, "number"),
-    (3, "number"),
-    (4, "number"),
-];
-
-/// An answer in words. What follows from the records that came is left out.
-fn answered(answer: &Answer, event: &Event, records: usize, new: bool) -> String {
-    let mut said = match answer.answer {
-        0 => "accepted".to_string(),
-        refusal => format!("refused {refusal}, {}", cause(refusal, event)),
-    };
-    let kind = event.kind().filter(|_| answer.answer == 0);
-    let name = VALUES.iter().find(|(known, _)| Some(*known) == kind);
-    match (name, answer.value) {
-        (Some((STRATEGY, name)), value) => said += &format!(", {name} {value}"),
-        (_, 0) => {}
-        (Some((_, name)), value) => said += &format!(", {name} {value}"),
-        (None, value) => said += &format!("; value {value}"),
-    }
-    if !new {
-        said += "; given before";
-    }
-    if answer.count != records as i64 {
-        said += &format!("; counts {} records", answer.count);
-    }
-    said
 }

@@ -146,6 +146,15 @@ const ALONE: &[&[&str]] = &[
         "1 8 0 -1 3 99",
         "2 8 0 1 3 0",
     ],
+    &["1 5 0 0 0 99", "2 5 0 0 3 0", "1 8 0 1 0 99", "2 8 0 1 3 0"],
+    &["2 1 0 0 0 300", "2 2 0 1 0 300"],
+    &["2 1 0 0 -5 300", "2 2 0 1 -5 300"],
+    &[
+        "1 6 0 1 4 94",
+        "2 6 0 1 4 300",
+        "2 1 0 0 0 300",
+        "2 3 0 0 4 300",
+    ],
     // Legs that do not add up, of another price, or of a complex order.
     &["1 6 0 1 4 94", "2 6 0 1 4 300", "2 1 0 0 3 300"],
     &["1 6 0 1 4 94", "2 6 0 1 4 300", "2 1 0 0 5 300"],
@@ -414,4 +423,15 @@ fn a_long_line_is_cut() {
     let first = words.lines().next().expect("a line");
     assert_eq!(first.chars().count(), "line 1: ".len() + 120);
     assert!(first.ends_with(".."), "{first}");
+}
+
+/// More records than an event can have: those past a bound are told as lines.
+#[test]
+fn an_event_without_an_end_of_records() {
+    let count = 70_000;
+    let lines = format!("E 0 0 0 {count}\n{}", "R 5 1 0 0 0 0\n".repeat(count));
+    let words = words("clock 1", lines.as_bytes());
+    assert!(words.contains("\n  event 0: accepted; counts 70000 records\n"));
+    assert!(words.contains("\ntape prints: R 5 1 0 0 0 0\n"));
+    assert!(reader::lines(&words) == Ok(lines.into_bytes()));
 }

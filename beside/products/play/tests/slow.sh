@@ -1,5 +1,10 @@
 #!/bin/bash
-# A tape that answers one event, and ends later.
+# A tape that answers one event, and ends when the file SEEN is there; that must
+# be within 20 seconds.
 cat >/dev/null
 echo 'E 0 0 0 0'
-exec sleep 3
+for _ in {1..200}; do
+    [ -e "$SEEN" ] && exit 0
+    sleep 0.1
+done
+exit 1
