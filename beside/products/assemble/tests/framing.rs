@@ -4,10 +4,12 @@
 #![forbid(unsafe_code)]
 #![deny(warnings)]
 
-use assemble::check::{check, Checked};
+use assemble::check::{changed, check, Checked};
 use assemble::day::Day;
 use assemble::framing::{Part, Parts, What, Why};
 use assemble::lines::Lines;
+use std::fs;
+use std::path::Path;
 
 fn parts(text: &str) -> Vec<Part> {
     Parts::new(Lines::new(text.as_bytes()))
@@ -211,4 +213,18 @@ fn where_a_line_is_bad_there_are_no_warnings() {
             "line 4: series 33 is outside its range, 0 to 31"
         ]
     );
+}
+
+/// Where a day is no longer what was checked, no bytes of it are made up.
+#[test]
+fn a_day_that_changes_is_an_error() {
+    let path = Path::new(env!("CARGO_TARGET_TMPDIR")).join("changes.txt");
+    fs::write(&path, "open 0\nopen 1\n").expect("a file");
+    let day = Day::open(&path).expect("a day");
+    let mut none = |message| panic!("{message}");
+    assert_eq!(check(&day, &mut none).expect("it is read").lines, 2);
+    fs::write(&path, "open 0\nopen 99\n").expect("a file");
+    let wrong = day.lines().find_map(Result::err).expect("a bad line");
+    let said = changed(wrong).to_string();
+    assert_eq!(said, "line 2 changed while the day was read");
 }

@@ -435,6 +435,24 @@ fn a_tape_that_stops_reading_is_no_error() {
     }
 }
 
+#[test]
+fn a_day_that_changes_is_told() {
+    let day = "open 0\n".repeat(200_000);
+    for words in [&[][..], &["--words"]] {
+        let path = file("change.txt", &day);
+        let run = run(Command::new(PLAY)
+            .arg("--tape")
+            .arg(odd_tape())
+            .args(words)
+            .arg(&path)
+            .env("ACT", "change")
+            .env("DAY", &path));
+        let changed = "play: change.txt: line 142858 changed while the day was read";
+        assert_eq!(said(&run), [changed]);
+        assert_eq!(run.status, Some(1));
+    }
+}
+
 /// What is printed comes while the program still runs: it waits until the line
 /// was seen.
 #[test]

@@ -2,6 +2,11 @@
 # A tape that does what ACT says, after it has read its input.
 case $ACT in
     early) ;;
+    change)
+        # The day gets a bad line, far behind what is in the pipe.
+        printf '\nwhat\n' | dd of="$DAY" conv=notrunc bs=1 seek=1000000 status=none
+        cat >/dev/null
+        ;;
     *) cat >/dev/null ;;
 esac
 case $ACT in
