@@ -8,7 +8,7 @@ mod runs;
 
 use runs::{repository, run, tape, Run, PLAY};
 use std::fs;
-use std::io::Read;
+use std::io::{self, Read};
 use std::path::{Path, PathBuf};
 use std::process::{Command, Stdio};
 use std::time::{Duration, Instant};
@@ -453,27 +453,34 @@ fn a_day_that_changes_is_told() {
     }
 }
 
-/// What is printed comes while the program still runs: it waits until the line
-/// was seen.
+/// What is printed comes while the program still runs: it waits until this was
+/// seen.
 #[test]
-fn lines_come_as_they_are_printed() {
-    let day = file("slow.txt", "open 0\n");
+fn lines_and_words_come_as_they_are_printed() {
+    let day = file("slow.txt", "open 0\nopen 1\n");
     let seen = day.with_extension("seen");
-    fs::remove_file(&seen).ok();
-    let mut child = Command::new(PLAY)
-        .arg("--tape")
-        .arg(Path::new(env!("CARGO_MANIFEST_DIR")).join("tests/slow.sh"))
-        .arg(&day)
-        .env("SEEN", &seen)
-        .stdout(Stdio::piped())
-        .spawn()
-        .expect("it runs");
-    let mut first = [0; 10];
-    let mut output = child.stdout.take().expect("a pipe");
-    output.read_exact(&mut first).expect("a line");
-    assert_eq!(&first, b"E 0 0 0 0\n");
-    fs::write(&seen, "").expect("a file");
-    assert!(child.wait().expect("it ends").success());
+    for (words, due) in [
+        (&[][..], "E 0 0 0 0\nE 1 0 0 0\n"),
+        (&["--words"], "line 1: open 0\n  event 0: accepted\n"),
+    ] {
+        fs::remove_file(&seen).ok();
+        let mut child = Command::new(PLAY)
+            .arg("--tape")
+            .arg(Path::new(env!("CARGO_MANIFEST_DIR")).join("tests/slow.sh"))
+            .args(words)
+            .arg(&day)
+            .env("SEEN", &seen)
+            .stdout(Stdio::piped())
+            .spawn()
+            .expect("it runs");
+        let mut first = vec![0; due.len()];
+        let mut output = child.stdout.take().expect("a pipe");
+        output.read_exact(&mut first).expect("text");
+        assert_eq!(first, due.as_bytes());
+        fs::write(&seen, "").expect("a file");
+        io::copy(&mut output, &mut io::sink()).expect("the rest");
+        assert!(child.wait().expect("it ends").success());
+    }
 }
 
 #[test]

@@ -1,8 +1,8 @@
 #!/bin/bash
-# A tape that answers one event, and ends when the file SEEN is there; that must
+# A tape that answers two events, and ends when the file SEEN is there; that must
 # be within 20 seconds.
 cat >/dev/null
-echo 'E 0 0 0 0'
+printf 'E 0 0 0 0\nE 1 0 0 0\n'
 for _ in {1..200}; do
     [ -e "$SEEN" ] && exit 0
     sleep 0.1
