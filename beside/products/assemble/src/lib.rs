@@ -17,6 +17,7 @@ pub mod forms;
 pub mod framing;
 pub mod lines;
 pub mod output;
+pub mod plural;
 pub mod ranges;
 pub mod warnings;
 

@@ -2,6 +2,7 @@
 
 use crate::framing::{Part, What, Why};
 use crate::lines::Line;
+use crate::plural::counted;
 
 /// The length field of a line's bytes, if it has one.
 fn length(line: &Line) -> Option<u16> {
@@ -79,13 +80,5 @@ pub fn reason(why: Why) -> &'static str {
         Why::Under4(_) => "under 4",
         Why::PastEnd(_) => "past the end of the input",
         Why::LoneByte => "a lone last byte",
-    }
-}
-
-/// `1 byte`, `2 bytes`.
-pub fn counted(count: usize, what: &str) -> String {
-    match count {
-        1 => format!("1 {what}"),
-        _ => format!("{count} {what}s"),
     }
 }

@@ -17,11 +17,3 @@ pub mod sentences;
 pub mod tape;
 pub mod teller;
 pub mod totals;
-
-/// `1 unit`, `2 units`.
-pub fn counted(count: impl Into<i128>, what: &str) -> String {
-    match count.into() {
-        1 => format!("1 {what}"),
-        count => format!("{count} {what}s"),
-    }
-}

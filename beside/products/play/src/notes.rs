@@ -1,10 +1,10 @@
 //! What is said after a play of the lines that were not played as they stand:
 //! those after a stop, and those that became one frame.
 
-use crate::counted;
 use assemble::check::changed;
 use assemble::day::Day;
 use assemble::framing::{Part, Parts, What, Why};
+use assemble::plural::counted;
 use assemble::warnings::reason;
 use std::io;
 
@@ -88,10 +88,7 @@ fn stopped(part: &Part, why: Why) -> String {
     let line = part.first;
     let place = match part.inside {
         0 => format!("at line {line}"),
-        inside => format!(
-            "inside line {line}, after {}",
-            counted(inside as i64, "byte")
-        ),
+        inside => format!("inside line {line}, after {}", counted(inside, "byte")),
     };
     match why {
         Why::Under4(length) | Why::PastEnd(length) => {

@@ -1,8 +1,8 @@
 //! Who a number is, and what of it is filled and cancelled.
 
-use crate::counted;
 use crate::event::Event;
 use crate::printed::Record;
+use assemble::plural::counted;
 use std::collections::BTreeMap;
 
 /// What a party trades.

@@ -1,6 +1,5 @@
 //! One play: the day is checked, played, and what is to be said is said.
 
-use crate::counted;
 use crate::notes::Notes;
 use crate::printed::{read, Checker, Splitter};
 use crate::tape::{Broken, Ended, Tape};
@@ -9,6 +8,7 @@ use assemble::check::{check, Checked};
 use assemble::day::Day;
 use assemble::echo;
 use assemble::output::{failed, say, Output};
+use assemble::plural::counted;
 use std::io::{self, Write};
 use std::path::Path;
 use std::sync::Arc;

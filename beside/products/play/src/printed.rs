@@ -2,6 +2,7 @@
 //! `R` kind, number, place, side, quantity, price.
 
 use assemble::echo;
+use assemble::plural::counted;
 
 /// A line `E`.
 #[derive(Clone, Copy, Debug, PartialEq, Eq)]
@@ -156,7 +157,7 @@ impl Checker {
     /// At an end no record is due.
     fn all_came(&mut self) {
         if self.due > 0 {
-            let missing = crate::counted(self.due, "record");
+            let missing = counted(self.due, "record");
             self.note(format!("{missing} fewer than the event before counts"));
         }
         self.due = 0;

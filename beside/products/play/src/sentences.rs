@@ -1,10 +1,10 @@
 //! What a group of records says, as one sentence. It has each number of each of
 //! its records: the records can be read from the sentence.
 
-use crate::counted;
 use crate::grouping::Group;
 use crate::parties::{side, Parties};
 use crate::printed::Record;
+use assemble::plural::counted;
 
 /// What a record of each kind is.
 const RECORDS: &[(i64, &str)] = &[

@@ -1,9 +1,9 @@
 //! The totals of one day in words.
 
-use crate::counted;
 use crate::grouping::Group;
 use crate::parties::{Parties, Sort};
 use crate::printed::{Answer, Record};
+use assemble::plural::counted;
 use std::collections::BTreeMap;
 
 /// Of side 0 and of side 1.

@@ -6,6 +6,7 @@
 mod reader;
 mod teller;
 
+use assemble::plural::counted;
 use teller::words;
 
 /// Numbers 1 to 4 are leg orders, 5 to 7 complex orders, 8 a sweep; then a clock.
@@ -191,10 +192,7 @@ fn what_fits_no_sentence_is_told_record_by_record() {
             );
         }
         let lines = lines(records);
-        let told = format!(
-            "\n  {} told one by one\n",
-            play::counted(records.len() as i64, "record")
-        );
+        let told = format!("\n  {} told one by one\n", counted(records.len(), "record"));
         assert!(words(DAY, lines.as_bytes()).contains(&told), "{told}");
     }
 }
