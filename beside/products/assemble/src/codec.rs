@@ -13,8 +13,18 @@ pub const LONGEST: usize = 23;
 #[allow(unsafe_code)]
 mod library {
     extern "C" {
-        fn complex_book_read(frame: *const u8, length: usize, values: *mut u32, count: usize) -> u32;
-        fn complex_book_write(values: *const u32, count: usize, space: *mut u8, length: usize) -> u32;
+        fn complex_book_read(
+            frame: *const u8,
+            length: usize,
+            values: *mut u32,
+            count: usize,
+        ) -> u32;
+        fn complex_book_write(
+            values: *const u32,
+            count: usize,
+            space: *mut u8,
+            length: usize,
+        ) -> u32;
     }
 
     // Each function reads its first slice only, and writes its second only
