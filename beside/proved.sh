@@ -55,6 +55,9 @@ progress() {
                 fi
                 ;;
             'rt: ok'* | 'rt: '*' ran as '*) ;;
+            *': waiting for another command'*)
+                echo "$line" >&2
+                ;;
             'rt: '*)
                 [ ! -t 2 ] || printf '\r\033[K' >&2
                 echo "$line" >&2
@@ -71,7 +74,7 @@ progress() {
 proves() {
     local what=$1 crate=$2
     shift 2
-    (cd "$root" && "$@" 2>&1) | progress "$what" "$(crates_below "$crate")"
+    (cd "$root" && locked "$@" 2>&1) | progress "$what" "$(crates_below "$crate")"
     [ "${PIPESTATUS[0]}" -eq 0 ] || {
         echo "$name: '$*' failed; run it in $root to see why" >&2
         return 1
@@ -107,6 +110,16 @@ proved_tape() {
     if [ ! -x "$tape" ]; then
         echo "$name: the program $tape is missing" >&2
         return 1
+    fi
+    warn_of_stack
+}
+
+# Says where the stack is limited to less than tape needs.
+warn_of_stack() {
+    local limit
+    limit=$(ulimit -S -s)
+    if [[ $limit =~ ^[0-9]+$ ]] && [ "$limit" -lt "$stack_kb" ]; then
+        echo "$name: warning: the stack is limited to $limit KB (ulimit -s), and tape needs $stack_kb" >&2
     fi
 }
 

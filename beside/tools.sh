@@ -1,6 +1,7 @@
 # shellcheck shell=bash disable=SC2154
-# What every script needs, to be sourced by bash with `name`, the script, set:
-# commands that must be there, and output that arrives whole.
+# What every script needs, to be sourced by bash with `name`, the script, and `root`,
+# the repository, set: commands that must be there, output that arrives whole, words of
+# the user in messages, one command at a time that proves.
 
 # package_of COMMAND: the Debian packages that have it; nothing where there are none.
 package_of() {
@@ -96,6 +97,42 @@ readable() {
     else
         return 0
     fi
-    printf '%s: %s: %s\n' "$name" "$1" "$wrong" >&2
+    printf '%s: %s: %s\n' "$name" "$(shown "$1")" "$wrong" >&2
     return 1
+}
+
+# shown WORDS: as messages show them: control characters escaped, the last 40 characters.
+shown() {
+    local words
+    printf -v words '%q' "$1"
+    case $words in
+        \$\'*) ;;
+        *) words=$1 ;;
+    esac
+    [ ${#words} -le 40 ] || words=..${words: -38}
+    printf '%s' "$words"
+}
+
+# bad_usage WORDS: says what is wrong with the words of the command, and its usage.
+bad_usage() {
+    echo "$name: $1" >&2
+    usage >&2
+    exit 2
+}
+
+# locked COMMAND...: runs the command while no other that proves runs in the repository
+# `root`; waits for one, and says so.
+locked() {
+    local status
+    if command -v flock >/dev/null && exec 8<"$root/crates.txt"; then
+        if ! flock -n 8; then
+            echo "$name: waiting for another command that proves here" >&2
+            flock 8
+        fi
+        "$@" 8<&-
+        status=$?
+        exec 8<&-
+        return "$status"
+    fi
+    "$@"
 }

@@ -194,6 +194,39 @@ check "no file is told" said "made-up: $out/none: No such file or directory"
 check "a folder" prints 1 folder
 check "a folder is told" said "made-up: $out: Is a directory"
 
+# What a message shows of the user's words.
+shows() { [ "$(name=made-up && . beside/tools.sh && shown "$1")" = "$2" ]; }
+check "plain words" shows 'my day.txt' 'my day.txt'
+check "control characters" shows $'a\e[31m\nb' "\$'a\\E[31m\\nb'"
+check "long words" shows "$(printf 'x%.0s' {1..60})end" "..$(printf 'x%.0s' {1..35})end"
+
+# One command at a time that proves: the second waits, and says so.
+slow() {
+    echo "$1 begins"
+    sleep 1
+    echo "$1 ends"
+}
+one_after_the_other() {
+    # shellcheck disable=SC2030
+    (
+        root=$PWD name=made-up
+        . beside/tools.sh
+        locked slow one >>"$out/order" &
+        sleep 0.3
+        locked slow two >>"$out/order" 2>"$out/said"
+        wait
+    )
+    [ "$(paste -sd , "$out/order")" = 'one begins,one ends,two begins,two ends' ]
+}
+check "one command at a time" one_after_the_other
+check "the other waits, and says so" said 'made-up: waiting for another command that proves here'
+fails_locked() { (root=$PWD name=made-up && . beside/tools.sh && locked much) >/dev/null; }
+not_three() {
+    fails_locked
+    [ $? -eq 3 ]
+}
+check "its status is the command's" not_three
+
 # What ./play shows while crates are proved.
 shown() {
     printf '%s\n' 'fn base::x: proved' 'rt: base proved (unchanged since it was last proved)' 'rt: events proved (23 s)' \

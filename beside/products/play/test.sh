@@ -149,6 +149,15 @@ check "tape stops at the last line" says 0 'ends.txt: line 2: warning: ' ./play 
 check "a frame over two lines" says 0 'takes.txt: line 2: warning: ' ./play "$out/takes.txt"
 check "it played three lines" three_lines
 
+# Two at once.
+at_once() {
+    ./play days/auction.txt >"$out/one" 2>"$out/said" &
+    ./play --words days/halt.txt >"$out/two" 2>"$out/said.two"
+    local two=$?
+    wait $! && [ "$two" -eq 0 ] && cmp "$out/one" days/auction.out && cmp "$out/two" days/halt.words
+}
+check "two at once" at_once
+
 # A program without its proof: the same lines, and it says what it is.
 unproved() { ./play --unproved days/auction.txt; }
 check "--unproved" says 0 'play: nothing was proved: tape and the writer were built without their proofs (--unproved)' unproved

@@ -32,6 +32,16 @@ fn a_frame_is_answered_before_the_wait_for_more() {
     assert_eq!(answers(&tape(), &pieces), Ok(()));
 }
 
+/// "A length under 4 .. prints refusal 2 and stops": the length alone is enough.
+#[test]
+fn a_length_under_4_is_answered_at_once() {
+    for length in 0..4 {
+        let bytes = [length, 0];
+        let pieces: [(&[u8], &str); 1] = [(&bytes, "E 0 2 0 0\n")];
+        assert_eq!(answers(&tape(), &pieces), Ok(()), "{length}");
+    }
+}
+
 /// So many events that the text is written out between them, too.
 #[test]
 fn many_frames_are_answered_before_the_wait_for_more() {

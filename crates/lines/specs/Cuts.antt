@@ -13,9 +13,9 @@ use Rattle.frames.specs.Number.{number}
 unfoldable pub toldLength : List ℕ → ℕ
 toldLength rest = number 2 rest 0
 
--- the bytes that must be there to judge the first frame
+-- the bytes that must be there to judge the first frame: of a length under 4 the length alone
 unfoldable pub neededOf : List ℕ → ℕ
-neededOf rest = pick (ltb (length rest) 2) 2 (toldLength rest)
+neededOf rest = pick (ltb (length rest) 2) 2 (pick (ltb (toldLength rest) 4) 2 (toldLength rest))
 
 -- "A length under 4 or past the input's end, a lone last byte included, prints refusal 2 and stops.": such a length counts as 0
 unfoldable pub cutOf : List ℕ → ℕ
@@ -28,6 +28,14 @@ unfolding cutOf
 cut-within rest =
     let P : ℕ → Type 0 = λ (n : ℕ). n ≤ length rest in
     pick-by P _ (λ e. omega arith) (λ e. pick-by P _ (λ e. omega arith) (λ e. pick-by P _ (λ e. omega arith) (λ e. ltb-false _ _ e)))
+
+pub needed-under : (rest : List ℕ) {n : ℕ} → n ≡ toldLength rest → 2 ≤ length rest → n < 4 → 2 ≡ neededOf rest
+unfolding neededOf
+needed-under rest e l h = let k : toldLength rest < 4 = omega arith in search tests
+
+pub needed-whole : (rest : List ℕ) {n : ℕ} → n ≡ toldLength rest → 2 ≤ length rest → 4 ≤ n → n ≡ neededOf rest
+unfolding neededOf
+needed-whole rest e l h = let k : 4 ≤ toldLength rest = omega arith in e ∙ search tests
 
 pub cut-under : (rest : List ℕ) {n : ℕ} → n ≡ toldLength rest → 2 ≤ length rest → n < 4 → 0 ≡ cutOf rest
 unfolding cutOf

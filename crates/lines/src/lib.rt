@@ -37,7 +37,11 @@ pub fn needed(rest: &[u8]) -> usize
     if rest.len() < 2 {
         return 2;
     }
-    told_length(rest)
+    let n = told_length(rest);
+    if n < 4 {
+        return 2;
+    }
+    n
 }
 
 // The length of the first frame of the rest of the input; 0 where it is under 4 or past the input's end.
