@@ -9,6 +9,9 @@ pub const LONGEST: usize = 1_000_000;
 /// How a file may begin that is no plain text.
 const MARK: &[u8] = &[0xef, 0xbb, 0xbf];
 
+/// The same in UTF-16, where no line can be told from the next.
+const MARKS_OF_UTF_16: [[u8; 2]; 2] = [[0xff, 0xfe], [0xfe, 0xff]];
+
 /// A line that stands for an event.
 #[derive(Clone, Debug, PartialEq, Eq)]
 pub struct Line {
@@ -73,6 +76,13 @@ impl<R: BufRead> Lines<R> {
                 "the file begins with a byte order mark (EF BB BF); store it without one"
                     .to_string(),
             );
+        }
+        let mark = |mark: &&[u8; 2]| self.number == 1 && text.starts_with(*mark);
+        if let Some([one, two]) = MARKS_OF_UTF_16.iter().find(mark) {
+            self.ended = true;
+            return wrong(format!(
+                "the file begins with a byte order mark ({one:02X} {two:02X}), that of UTF-16; store it as UTF-8 without one"
+            ));
         }
         let words = words(text.split(|byte| *byte == b'#').next().unwrap_or(text));
         let (first, rest) = words.split_first()?;

@@ -121,6 +121,39 @@ fn a_byte_order_mark_is_named() {
     assert!(bad[0].1.starts_with("'\\u{feff}open' begins"), "{bad:?}");
 }
 
+/// Its lines end elsewhere, so nothing else of it is told.
+#[test]
+fn a_byte_order_mark_of_utf_16_is_named() {
+    let text = "\u{feff}open 0\n\nopen 99\nwhat\n";
+    let little: Vec<u8> = text.encode_utf16().flat_map(u16::to_le_bytes).collect();
+    let big: Vec<u8> = text.encode_utf16().flat_map(u16::to_be_bytes).collect();
+    for (text, mark) in [
+        (&little[..], "FF FE"),
+        (&big, "FE FF"),
+        (b"\xff\xfe", "FF FE"),
+        (b"\xfe\xffopen 0\nopen\n", "FE FF"),
+    ] {
+        let said = format!(
+            "the file begins with a byte order mark ({mark}), that of UTF-16; store it as UTF-8 without one"
+        );
+        assert_eq!(bad(text), [(1, said)]);
+    }
+    // Elsewhere they are bytes like others, and one alone is no mark.
+    for (text, line, said) in [
+        (
+            &b"open 0\n\xff\xfeopen 0\n"[..],
+            2,
+            "'\\xff\\xfeopen' begins",
+        ),
+        (b"\xffopen 0\nopen 0\n", 1, "'\\xffopen' begins"),
+        (b"\xfe", 1, "'\\xfe' begins"),
+    ] {
+        let bad = bad(text);
+        assert_eq!((bad.len(), bad[0].0), (1, line));
+        assert!(bad[0].1.starts_with(said), "{bad:?}");
+    }
+}
+
 #[test]
 fn a_line_that_does_not_end_is_not_read_on() {
     let whole = format!("open 0 #{}", "x".repeat(LONGEST - 8));
