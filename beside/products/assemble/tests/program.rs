@@ -186,3 +186,19 @@ fn memory_does_not_grow_with_the_day() {
     assert_eq!((status(&output), said(&output)), (0, String::new()));
     assert!(output.stdout == OPEN.repeat(3_000_000));
 }
+
+/// Each package of this folder says from which Rust on it can be built.
+#[test]
+fn the_least_rust_is_named() {
+    let folder = PathBuf::from(env!("CARGO_MANIFEST_DIR")).join("..");
+    let mut packages = 0;
+    for entry in fs::read_dir(folder).expect("a folder") {
+        let manifest = entry.expect("an entry").path().join("Cargo.toml");
+        if let Ok(text) = fs::read_to_string(&manifest) {
+            packages += 1;
+            let named = text.lines().any(|line| line == "rust-version = \"1.85\"");
+            assert!(named, "{}", manifest.display());
+        }
+    }
+    assert!(packages >= 3, "{packages}");
+}
