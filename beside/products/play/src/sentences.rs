@@ -101,15 +101,15 @@ fn legs_alone(legs: &[Record]) -> String {
 
 /// A leg with the leg orders that fill it; where they are several, how much each.
 fn leg_with(record: &Record, orders: &[Record], parties: &Parties) -> String {
-    let orders: Vec<String> = match orders {
-        [order] => vec![parties.who(order.number)],
-        _ => (orders.iter())
-            .map(|order| format!("{} for {}", parties.who(order.number), order.quantity))
-            .collect(),
-    };
     let (_, with) = does(record);
     let (leg, price) = (leg(record), record.price);
-    format!("{leg} at {price} {with} {}", orders.join(" and "))
+    if let [order] = orders {
+        return format!("{leg} at {price} {with} {}", parties.who(order.number));
+    }
+    let orders: Vec<String> = (orders.iter())
+        .map(|order| format!("{} {with} {}", order.quantity, parties.who(order.number)))
+        .collect();
+    format!("{leg} at {price}, {}", orders.join(" and "))
 }
 
 fn trade(one: &Record, two: &Record, parties: &Parties) -> String {

@@ -83,7 +83,12 @@ const SENTENCES: &[(&[&str], &[&str])] = &[
     // Several leg orders on a leg.
     (
         &["1 5 0 0 4 9", "2 5 0 0 4 300", "2 5 1 1 8 103", "2 1 0 1 1 300", "2 2 0 1 3 300", "2 3 1 0 2 103", "2 4 1 0 5 103", "2 1 1 0 1 103"],
-        &["number 5 (customer order, member 20) buys 4 units of strategy 0 at net 9 from the legs: series 0 buy 4 at 300 from number 1 (leg order, member 1) for 1 and number 2 (leg order, member 1) for 3, series 1 sell 8 at 103 to number 3 (leg order, member 2) for 2 and number 4 (leg order, member 3) for 5 and number 1 (leg order, member 1) for 1"],
+        &["number 5 (customer order, member 20) buys 4 units of strategy 0 at net 9 from the legs: series 0 buy 4 at 300, 1 from number 1 (leg order, member 1) and 3 from number 2 (leg order, member 1), series 1 sell 8 at 103, 2 to number 3 (leg order, member 2) and 5 to number 4 (leg order, member 3) and 1 to number 1 (leg order, member 1)"],
+    ),
+    // One on a leg, and several of the same size on the other.
+    (
+        &["1 6 0 1 3 98", "2 6 0 1 6 100", "2 6 1 0 3 102", "2 1 0 0 3 100", "2 3 0 0 3 100", "2 4 1 1 3 102"],
+        &["number 6 (broker-dealer order, member 21) sells 3 units of strategy 0 at net 98 to the legs: series 0 sell 6 at 100, 3 to number 1 (leg order, member 1) and 3 to number 3 (leg order, member 2), series 1 buy 3 at 102 from number 4 (leg order, member 3)"],
     ),
     // Leg orders alone, two trades.
     (

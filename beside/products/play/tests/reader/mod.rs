@@ -195,20 +195,8 @@ fn against_legs(active: Record, rest: &mut Rest) -> Option<Vec<Record>> {
         let mut record = leg(active[1], rest)?;
         rest.text(" at ")?;
         record[5] = rest.number()?;
-        (rest.one_of(WITH)? == record[3]).then_some(())?;
         legs.push(record);
-        loop {
-            let mut order = record;
-            order[1] = rest.who()?;
-            order[3] = 1 - record[3];
-            if rest.text(" for ").is_some() {
-                order[4] = rest.number()?;
-            }
-            orders.push(order);
-            if rest.text(" and ").is_none() {
-                break;
-            }
-        }
+        orders.extend(orders_of(record, rest)?);
         if rest.text(", ").is_none() {
             break;
         }
@@ -217,6 +205,27 @@ fn against_legs(active: Record, rest: &mut Rest) -> Option<Vec<Record>> {
     records.extend(legs);
     records.extend(orders);
     Some(records)
+}
+
+/// The leg orders that fill a leg: one with all of it, or several, each with how
+/// much.
+fn orders_of(leg: Record, rest: &mut Rest) -> Option<Vec<Record>> {
+    let several = rest.text(", ").is_some();
+    let mut orders = Vec::new();
+    loop {
+        let mut order = leg;
+        if several {
+            order[4] = rest.number()?;
+        }
+        (rest.one_of(WITH)? == leg[3]).then_some(())?;
+        order[1] = rest.who()?;
+        order[3] = 1 - leg[3];
+        orders.push(order);
+        if !several || rest.text(" and ").is_none() {
+            break;
+        }
+    }
+    Some(orders)
 }
 
 /// An event: its index, answer and value, its count where that is said, and its
