@@ -28,7 +28,8 @@ DAY is a text file with one event a line; '#' starts a comment. The lines:
 played.
 
 The status is 0; 1 where something fails; 2 for a wrong use; 3 where lines of
-events were not played, as the program stopped before them.
+events were not played, as the program stopped before them or took them into the
+frame of another line. What was not played is told.
 "
     )
 }

@@ -1,5 +1,5 @@
 //! What is said after a play of the lines that were not played as they stand:
-//! those after a stop, and those that became one frame.
+//! those after a stop, and those that the frame of a line before took.
 
 use assemble::check::changed;
 use assemble::day::Day;
@@ -9,7 +9,7 @@ use assemble::warnings::reason;
 use std::io;
 
 /// The most frames of several lines that are named.
-const MOST: u64 = 20;
+const MOST: usize = 20;
 
 /// What the frames of a day ask for.
 #[derive(Default)]
@@ -17,10 +17,15 @@ pub struct Notes {
     /// The lines `E` that are due.
     pub answers: u64,
     /// The lines of events after the stop.
-    pub not_played: u64,
+    after: u64,
     stop: Option<String>,
+    /// The lines that went into the frame of a line before.
+    taken: u64,
     joined: Vec<String>,
-    joins: u64,
+    /// The frames of several lines that are not named, and the lines that they
+    /// took.
+    more: u64,
+    taken_more: u64,
 }
 
 impl Notes {
@@ -45,31 +50,52 @@ impl Notes {
             What::Frame(_) => {
                 self.answers += 1;
                 if part.first != part.last {
-                    self.joins += 1;
-                    if self.joins <= MOST {
-                        self.joined.push(joined(part));
-                    }
+                    self.join(part);
                 }
             }
             What::Stop(why) => {
                 self.answers += 1;
                 self.stop = Some(stopped(part, why));
-                let after = part.lines.iter().filter(|line| line.number > part.first);
-                self.not_played += after.count() as u64;
+                self.after += after_the_first(part);
             }
-            What::NotReached => self.not_played += 1,
+            What::NotReached => self.after += 1,
         }
+    }
+
+    /// A frame of several lines.
+    fn join(&mut self, part: &Part) {
+        let taken = after_the_first(part);
+        self.taken += taken;
+        if self.joined.len() < MOST {
+            let lines = format!("lines {} to {}", part.first, part.last);
+            let taken = as_they_stand(taken);
+            self.joined
+                .push(format!("{lines} became one frame: {taken}"));
+        } else {
+            self.more += 1;
+            self.taken_more += taken;
+        }
+    }
+
+    /// Each line of the day was played as it stands.
+    pub fn all_played(&self) -> bool {
+        self.after == 0 && self.taken == 0
     }
 
     /// Each note, to be said after the name of the day.
     pub fn lines(&self) -> Vec<String> {
+        if self.answers == 0 {
+            return vec!["the day has no events".to_string()];
+        }
         let mut lines = self.joined.clone();
-        if self.joins > MOST {
-            let more = counted(self.joins - MOST, "frame");
-            lines.push(format!("{more} more of several lines"));
+        if self.more > 0 {
+            let more = counted(self.more, "frame");
+            let taken = as_they_stand(self.taken_more);
+            lines.push(format!("{more} more of several lines: {taken}"));
         }
         if let Some(stop) = &self.stop {
-            lines.push(match self.not_played {
+            lines.push(match self.after {
+                0 if self.taken > 0 => format!("{stop}; no line stands after it"),
                 0 => format!("{stop}; it is the last event of the day"),
                 1 => format!("{stop}; 1 line after it was not played"),
                 count => format!("{stop}; {count} lines after it were not played"),
@@ -79,8 +105,17 @@ impl Notes {
     }
 }
 
-fn joined(part: &Part) -> String {
-    format!("lines {} to {} became one frame", part.first, part.last)
+/// How many lines begin in the part after its first.
+fn after_the_first(part: &Part) -> u64 {
+    let lines = part.lines.iter().filter(|line| line.number > part.first);
+    lines.count() as u64
+}
+
+fn as_they_stand(lines: u64) -> String {
+    match lines {
+        1 => "1 line was not played as it stands".to_string(),
+        count => format!("{count} lines were not played as they stand"),
+    }
 }
 
 /// Where `tape` stopped, and why.

@@ -17,7 +17,8 @@ use std::sync::Arc;
 pub const PLAYED: u8 = 0;
 pub const FAILED: u8 = 1;
 pub const USAGE: u8 = 2;
-/// Lines of events were not played, as `tape` stopped before them.
+/// Lines of events were not played, as `tape` stopped before them or took them
+/// into the frame of another.
 pub const NOT_ALL: u8 = 3;
 
 /// A day, and the name by which messages speak of it.
@@ -147,8 +148,8 @@ fn after(
     for note in notes.lines() {
         day.tell(&note);
     }
-    Ok(match notes.not_played {
-        0 => PLAYED,
-        _ => NOT_ALL,
+    Ok(match notes.all_played() {
+        true => PLAYED,
+        false => NOT_ALL,
     })
 }

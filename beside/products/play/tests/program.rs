@@ -81,8 +81,19 @@ fn a_good_day_says_nothing() {
     assert!(words
         .printed
         .starts_with("line 1: open 0\n  event 0: accepted\nline 3: open 1\n"));
-    let [lines, words] = both("empty.txt", "", 0, &[]);
-    assert_eq!((lines.printed.as_str(), words.printed.as_str()), ("", ""));
+}
+
+#[test]
+fn a_day_without_events_is_told() {
+    for (name, day) in [
+        ("empty.txt", ""),
+        ("blank.txt", "\n \t\n"),
+        ("comment.txt", "# open 0\n"),
+    ] {
+        let said = format!("play: {name}: the day has no events");
+        let [lines, words] = both(name, day, 0, &[&said]);
+        assert_eq!((lines.printed.as_str(), words.printed.as_str()), ("", ""));
+    }
 }
 
 #[test]
@@ -122,6 +133,15 @@ fn a_stop_is_told() {
         ],
     );
     assert_eq!(lines.printed, first);
+    both(
+        "past-all.txt",
+        "bytes 14 00 06 00 00 01\nopen 5\nopen 6\n",
+        3,
+        &[
+            "play: past-all.txt: line 1: warning: the length field is 20 and the line has 6 bytes: tape stops there (past the end of the input)",
+            "play: past-all.txt: tape stopped at line 1, whose length field is 20 (past the end of the input); 2 lines after it were not played",
+        ],
+    );
     let [lines, _] = both(
         "lone.txt",
         "open 0\nbytes 60\n",
@@ -148,28 +168,77 @@ fn lines_that_become_one_frame_are_told() {
     let [lines, _] = both(
         "joined.txt",
         "open 0\nbytes 0a 00 06 00\n\nopen 1\nopen 2\n",
-        0,
+        3,
         &[
             "play: joined.txt: line 2: warning: the length field is 10 and the line has 4 bytes: tape takes bytes of the next lines, up to line 4, into the frame",
-            "play: joined.txt: lines 2 to 4 became one frame",
+            "play: joined.txt: lines 2 to 4 became one frame: 1 line was not played as it stands",
         ],
     );
     assert_eq!(lines.printed, "E 0 0 0 0\nE 1 2 0 0\nE 2 0 0 0\n");
+    let [lines, _] = both(
+        "my-day.txt",
+        "bytes 12 00 06 00 00 01\nopen 5\nopen 6\n",
+        3,
+        &[
+            "play: my-day.txt: line 1: warning: the length field is 18 and the line has 6 bytes: tape takes bytes of the next lines, up to line 3, into the frame",
+            "play: my-day.txt: lines 1 to 3 became one frame: 2 lines were not played as they stand",
+        ],
+    );
+    assert_eq!(lines.printed, "E 0 2 0 0\n");
     // Not more than twenty are named.
     let path = file("many.txt", "bytes 04 00\nbytes 09 00\n".repeat(23));
     let run = play(&tape(), &[], &path);
     let told = said(&run);
-    assert_eq!(run.status, Some(0));
+    assert_eq!(run.status, Some(3));
     let warnings = 46;
     assert_eq!(told.len(), warnings + 21);
     assert_eq!(
         told[warnings],
-        "play: many.txt: lines 1 to 2 became one frame"
+        "play: many.txt: lines 1 to 2 became one frame: 1 line was not played as it stands"
     );
     assert_eq!(
         told[warnings + 20],
-        "play: many.txt: 3 frames more of several lines"
+        "play: many.txt: 3 frames more of several lines: 3 lines were not played as they stand"
     );
+    // Several frames in one line take no other line.
+    let frames = "bytes 06 00 06 00 00 01 04 00 09 00\nopen 1\n";
+    let [lines, _] = both(
+        "within.txt",
+        frames,
+        0,
+        &["play: within.txt: line 1: warning: the length field is 6 and the line has 10 bytes: tape begins another frame inside the line, after 6 bytes"],
+    );
+    assert_eq!(lines.printed, "E 0 0 0 0\nE 1 2 0 0\nE 2 0 0 0\n");
+}
+
+/// A frame of several lines ends inside the last, whose rest is no frame.
+#[test]
+fn a_stop_after_lines_that_became_one_frame_is_told() {
+    let [lines, words] = both(
+        "then.txt",
+        "bytes 10 00 06 00 00 01\nopen 5\nopen 6\n",
+        3,
+        &[
+            "play: then.txt: line 1: warning: the length field is 16 and the line has 6 bytes: tape takes bytes of the next lines, up to line 3, into the frame, and begins the next inside line 3",
+            "play: then.txt: lines 1 to 3 became one frame: 2 lines were not played as they stand",
+            "play: then.txt: tape stopped inside line 3, after 4 bytes, where the length field is 262 (past the end of the input); no line stands after it",
+        ],
+    );
+    assert_eq!(lines.printed, "E 0 2 0 0\nE 1 2 0 0\n");
+    assert!(words.printed.contains(" (lines 1 to 3 as one frame): "));
+    let run = play(
+        &tape(),
+        &[],
+        &file("then-more.txt", "bytes 0c 00\nopen 0\nclock 0\nopen 1\n"),
+    );
+    assert_eq!(
+        said(&run)[1..],
+        [
+            "play: then-more.txt: lines 1 to 3 became one frame: 2 lines were not played as they stand",
+            "play: then-more.txt: tape stopped inside line 3, after 4 bytes, where the length field is 0 (under 4); 1 line after it was not played",
+        ]
+    );
+    assert_eq!(run.status, Some(3));
 }
 
 #[test]
@@ -236,6 +305,10 @@ fn uses() {
     assert!(run
         .printed
         .starts_with("usage: play --tape TAPE [--words] DAY\n"));
+    let three = "3 where lines of
+events were not played, as the program stopped before them or took them into the
+frame of another line.";
+    assert!(run.printed.contains(three));
 }
 
 /// The worked example by the proved tape, run by a shell with this redirection.
@@ -431,7 +504,9 @@ fn a_tape_that_stops_reading_is_no_error() {
     assert!(said(&run)[1].ends_with("(under 4); 200000 lines after it were not played"));
     let act = [("ACT", "early")];
     for run in acted("early-empty.txt", "", &act) {
-        assert_eq!((run.status, run.said.as_str()), (Some(0), ""));
+        let said = said(&run);
+        let none = "play: early-empty.txt: the day has no events";
+        assert_eq!((run.status, &said[..]), (Some(0), &[none.to_string()][..]));
     }
 }
 
