@@ -183,7 +183,7 @@ impl<I: Iterator<Item = Result<Line, Wrong>>, W: Write> Teller<I, W> {
 
     fn records(&mut self, records: &[Record]) -> Done {
         for group in groups(records, &self.parties) {
-            self.totals.group(&group);
+            self.totals.group(&group, &self.parties);
             self.write(&format!("  {}", sentence(&group, &self.parties)))?;
         }
         for record in records {

@@ -9,20 +9,20 @@ use std::collections::BTreeMap;
 /// Of side 0 and of side 1.
 type Sides = [i128; 2];
 
-/// How many fills there were of one sort, and of how much.
+/// How many fills or cancels there were of one sort, and of how much.
 #[derive(Default)]
-struct Fills {
+struct Sum {
     count: u64,
     quantity: i128,
 }
 
-impl Fills {
-    fn add(&mut self, active: &Record) {
+impl Sum {
+    fn add(&mut self, record: &Record) {
         self.count += 1;
-        self.quantity += i128::from(active.quantity);
+        self.quantity += i128::from(record.quantity);
     }
 
-    /// Of fills of this sort, in these units; nothing where there are none.
+    /// Of those of this sort, in these units; nothing where there are none.
     fn words(&self, sort: &str, what: &str) -> Option<String> {
         let quantity = counted(self.quantity, what);
         (self.count > 0).then(|| format!("{} {sort} ({quantity})", self.count))
@@ -37,9 +37,11 @@ pub struct Totals {
     refused: BTreeMap<i64, u64>,
     begun: u64,
     ended: u64,
-    whole: Fills,
-    legs: Fills,
-    trades: Fills,
+    whole: Sum,
+    legs: Sum,
+    trades: Sum,
+    cancelled_whole: Sum,
+    cancelled_leg: Sum,
     /// Records that fit no sentence.
     alone: u64,
     contracts: BTreeMap<i64, Sides>,
@@ -55,11 +57,14 @@ impl Totals {
         }
     }
 
-    pub fn group(&mut self, group: &Group) {
+    pub fn group(&mut self, group: &Group, parties: &Parties) {
         match group {
             Group::AuctionBegun(_) => self.begun += 1,
             Group::AuctionEnded(_) => self.ended += 1,
-            Group::Cancelled(_) => {}
+            Group::Cancelled(record) => match parties.sort(record.number) {
+                Some(Sort::Leg) => self.cancelled_leg.add(record),
+                _ => self.cancelled_whole.add(record),
+            },
             Group::Whole { active, .. } => self.whole.add(active),
             Group::Legs { active, .. } => self.legs.add(active),
             Group::Trade(one, _) => self.trades.add(one),
@@ -97,7 +102,12 @@ impl Totals {
 
     /// A sentence a line.
     pub fn lines(&self, parties: &Parties) -> Vec<String> {
-        let mut lines = vec![self.answers(), self.auctions(), self.fills()];
+        let mut lines = vec![
+            self.answers(),
+            self.auctions(),
+            self.fills(),
+            self.cancels(),
+        ];
         if self.alone > 0 {
             let records = counted(self.alone, "record");
             lines.push(format!("{records} told one by one"));
@@ -139,16 +149,39 @@ impl Totals {
     }
 
     fn fills(&self) -> String {
-        let sorts = [
-            self.whole.words("of whole with whole", "unit"),
-            self.legs.words("of whole with the legs", "unit"),
-            self.trades.words("of leg orders alone", "contract"),
-        ];
-        let sorts: Vec<String> = sorts.into_iter().flatten().collect();
-        let count = self.whole.count + self.legs.count + self.trades.count;
-        match count {
-            0 => "no fills".to_string(),
-            _ => format!("{}: {}", counted(count, "fill"), sorts.join(", ")),
-        }
+        sums(
+            "fill",
+            &[
+                (&self.whole, "of whole with whole", "unit"),
+                (&self.legs, "of whole with the legs", "unit"),
+                (&self.trades, "of leg orders alone", "contract"),
+            ],
+        )
+    }
+
+    fn cancels(&self) -> String {
+        sums(
+            "cancel",
+            &[
+                (
+                    &self.cancelled_whole,
+                    "of complex orders and sweeps",
+                    "unit",
+                ),
+                (&self.cancelled_leg, "of leg orders", "contract"),
+            ],
+        )
+    }
+}
+
+/// How many there were, and of each sort that there was how many and how much.
+fn sums(name: &str, sorts: &[(&Sum, &str, &str)]) -> String {
+    let count: u64 = sorts.iter().map(|(sum, ..)| sum.count).sum();
+    let words: Vec<String> = (sorts.iter())
+        .filter_map(|(sum, sort, what)| sum.words(sort, what))
+        .collect();
+    match count {
+        0 => format!("no {name}s"),
+        _ => format!("{}: {}", counted(count, name), words.join(", ")),
     }
 }

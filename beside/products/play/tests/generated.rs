@@ -78,7 +78,7 @@ fn same(back: &str, lines: &[u8], what: &str) {
 
 #[test]
 fn words_turn_back_into_the_lines() {
-    let (mut events, mut records) = (0, 0);
+    let (mut events, mut records, mut several) = (0, 0, 0);
     for seed in 1..=80 {
         let input = stream(seed, 1_000);
         let lines = played(&input);
@@ -88,10 +88,13 @@ fn words_turn_back_into_the_lines() {
         events += text.matches("E ").count();
         records += text.matches("R ").count();
         // Each record of such a tape fits a sentence.
-        assert!(!words(&day, &lines).contains("\n  record "), "seed {seed}");
+        let words = words(&day, &lines);
+        assert!(!words.contains("\n  record "), "seed {seed}");
+        several += words.matches(") and ").count();
     }
-    println!("{events} events, {records} records");
+    println!("{events} events, {records} records, {several} leg orders beside others");
     assert!(events > 50_000 && records > 20_000, "{events} {records}");
+    assert!(several > 100, "{several}");
 }
 
 #[test]

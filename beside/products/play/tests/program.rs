@@ -574,7 +574,7 @@ fn memory_does_not_grow_with_the_day() {
         "memory.txt",
         format!("open 0 # {comment}\n").repeat(600_000),
     );
-    for (words, lines) in [("", 600_000), ("--words", 1_200_006)] {
+    for (words, lines) in [("", 600_000), ("--words", 1_200_007)] {
         let script = format!("ulimit -v 40000; exec \"$0\" --tape \"$1\" {words} \"$2\"");
         let run = run(Command::new("bash")
             .args(["-c", &script, PLAY])

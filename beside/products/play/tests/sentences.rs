@@ -244,6 +244,7 @@ totals of day 1, events 0 to 3
   3 events accepted, 1 refused: 1 with 6
   0 auctions begun, 1 ended
   no fills
+  no cancels
   cash in cents: 0 paid, 0 received
   live: number 1 (leg order, member 4): 5 contracts of series 6 to sell
 ",
@@ -265,6 +266,7 @@ totals of day 1, events 0 to 1
   2 events accepted, none refused
   no auctions
   no fills
+  1 cancel: 1 of leg orders (2 contracts)
   cash in cents: 0 paid, 0 received
   nothing is live
 line 3: clock 1
@@ -276,6 +278,7 @@ totals of day 2, events 2 to 3
   1 event accepted, 1 refused: 1 with 3
   0 auctions begun, 1 ended
   no fills
+  no cancels
   cash in cents: 0 paid, 0 received
   nothing is live
 ",
@@ -304,6 +307,7 @@ totals of day 1, events 0 to 2
   1 event accepted, 2 refused: 1 with 2, 1 with 3
   no auctions
   no fills
+  no cancels
   cash in cents: 0 paid, 0 received
   nothing is live
 ",
@@ -328,6 +332,7 @@ totals of day 1, events 0 to 1
   1 event accepted, 1 refused: 1 with 2
   no auctions
   no fills
+  no cancels
   cash in cents: 0 paid, 0 received
   nothing is live
 ",
@@ -345,6 +350,7 @@ totals of day 1, event 0
   1 event accepted, none refused
   no auctions
   no fills
+  no cancels
   cash in cents: 0 paid, 0 received
   nothing is live
 ",
@@ -360,6 +366,7 @@ totals of day 1, event 0
   1 event accepted, none refused
   no auctions
   no fills
+  no cancels
   cash in cents: 0 paid, 0 received
   nothing is live
 past the last event of the day
@@ -372,6 +379,7 @@ totals of day 2, event 1
   1 event accepted, none refused
   0 auctions begun, 1 ended
   no fills
+  no cancels
   cash in cents: 0 paid, 0 received
   nothing is live
 ",
@@ -397,6 +405,7 @@ fn totals() {
         "4 5 0 0 9 94",
         "3 8 0 1 6 0",
         "3 6 0 1 7 0",
+        "3 4 0 1 1 0",
     ]);
     let words = words(DAY, lines.as_bytes());
     let totals = words.split_once("totals of day 1").expect("totals").1;
@@ -405,13 +414,14 @@ fn totals() {
   9 events accepted, none refused
   1 auction begun, 0 ended
   3 fills: 1 of whole with whole (3 units), 1 of whole with the legs (4 units), 1 of leg orders alone (5 contracts)
+  3 cancels: 2 of complex orders and sweeps (13 units), 1 of leg orders (1 contract)
   series 0: 12 contracts bought, 12 sold
   series 1: 14 contracts bought, 14 sold
   cash in cents: 2997 paid, 2997 received
   live: number 1 (leg order, member 1): 11 contracts of series 0 to buy
   live: number 2 (leg order, member 1): 15 contracts of series 0 to sell
   live: number 3 (leg order, member 2): 20 contracts of series 1 to buy
-  live: number 4 (leg order, member 3): 12 contracts of series 1 to sell
+  live: number 4 (leg order, member 3): 11 contracts of series 1 to sell
   live: number 5 (customer order, member 20): 6 units of strategy 0 to buy
   live: number 6 (broker-dealer order, member 21): -2 units of strategy 0 to sell
   live: number 7 (market-maker order, member 22): 9 units of strategy 0 to buy
