@@ -1,8 +1,10 @@
 //! The frames of an input, one after the other, and what the proved reader reads
 //! in them.
 
+use crate::stop::Stop;
 use crate::wrong::Wrong;
 use assemble::codec::{read, write, Row, NUMBERS};
+use assemble::framing::Why;
 use std::io::{self, Read, Write};
 
 /// A part of the input that `tape` answers with a line `E`: a frame, or where it
@@ -18,7 +20,9 @@ pub struct Parts<R> {
     input: R,
     frame: Vec<u8>,
     frames: usize,
-    stopped: bool,
+    /// How many bytes stand before the next part.
+    at: u64,
+    stop: Option<Stop>,
 }
 
 impl<R: Read> Parts<R> {
@@ -27,39 +31,51 @@ impl<R: Read> Parts<R> {
             input,
             frame: Vec::new(),
             frames: 0,
-            stopped: false,
+            at: 0,
+            stop: None,
         }
     }
 
     /// The next part; none at the input's end, and after a stop.
     pub fn part(&mut self) -> Result<Option<Part<'_>>, Wrong> {
-        if self.stopped {
+        if self.stopped() {
             return Ok(None);
         }
         self.frame.clear();
         self.fill(2).map_err(Wrong::Read)?;
         let length = match self.frame[..] {
             [] => return Ok(None),
-            [low, high] => usize::from(u16::from_le_bytes([low, high])),
-            _ => 0,
+            [low, high] => u16::from_le_bytes([low, high]),
+            _ => return Ok(Some(self.stops(Why::LoneByte))),
         };
-        if length >= 4 {
-            self.fill(length).map_err(Wrong::Read)?;
+        self.fill(usize::from(length)).map_err(Wrong::Read)?;
+        if length < 4 {
+            return Ok(Some(self.stops(Why::Under4(length))));
         }
-        if length < 4 || self.frame.len() < length {
-            self.stopped = true;
-            return Ok(Some(Part::Stop));
+        if self.frame.len() < usize::from(length) {
+            return Ok(Some(self.stops(Why::PastEnd(length))));
         }
         self.frames += 1;
+        self.at += u64::from(length);
         Ok(Some(Part::Frame(&self.frame)))
     }
 
     /// Reads on until the frame has this length or the input ends.
     fn fill(&mut self, length: usize) -> io::Result<()> {
-        let missing = (length - self.frame.len()) as u64;
+        let missing = length.saturating_sub(self.frame.len()) as u64;
         let input = self.input.by_ref();
         input.take(missing).read_to_end(&mut self.frame)?;
         Ok(())
+    }
+
+    /// `tape` stops at what was read last.
+    fn stops(&mut self, why: Why) -> Part<'_> {
+        self.stop = Some(Stop {
+            at: self.at,
+            why,
+            after: 0,
+        });
+        Part::Stop
     }
 
     /// How many frames were read.
@@ -69,7 +85,17 @@ impl<R: Read> Parts<R> {
 
     /// The last part is no frame.
     pub fn stopped(&self) -> bool {
-        self.stopped
+        self.stop.is_some()
+    }
+
+    /// Where the parts stopped, if they did; the bytes after it are read and
+    /// counted, and none is held.
+    pub fn stop(&mut self) -> Result<Option<Stop>, Wrong> {
+        if let Some(stop) = &mut self.stop {
+            let after = io::copy(&mut self.input, &mut io::sink());
+            stop.after += after.map_err(Wrong::Read)?;
+        }
+        Ok(self.stop)
     }
 }
 

@@ -18,9 +18,10 @@ pub mod frames;
 pub mod lines;
 pub mod plays;
 pub mod report;
+pub mod stop;
 pub mod table;
 pub mod totals;
 pub mod walk;
 pub mod wrong;
 
-pub use walk::audit;
+pub use walk::{audit, Audited};

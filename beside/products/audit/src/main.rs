@@ -5,9 +5,9 @@
 
 use assemble::echo;
 use assemble::output::{print, say, Output};
-use audit::audit;
 use audit::frames::with_day_end;
 use audit::wrong::Wrong;
+use audit::{audit, Audited};
 use std::ffi::{OsStr, OsString};
 use std::fs::File;
 use std::io::{self, BufReader, Read};
@@ -28,11 +28,24 @@ status is 1. The list has the first 1,000 and, if there are more, ends with the
 line 'and N more'. The exit status is 2 if the files cannot be read, or cannot
 belong together, or the output cannot be written.
 
+A length under 4 or past the end of the frames, or a lone last byte, stops `tape`.
+Standard error then says at which byte, from 0, and why, and how many bytes after
+it were not played. The exit status is 3 if there are such bytes and the totals of
+what was played hold.
+
 The files are read in step, as streams. A day is printed when the event after it
 was read, or the files have ended: so days before an error are printed, and the
 error is said on standard error. Memory is bounded by the numbers of a day: one
 with more than 200,000 cannot be audited, where document 01 gives 100,000.
 ";
+
+/// The statuses of the program.
+const DONE: u8 = 0;
+const FAILS: u8 = 1;
+const WRONG: u8 = 2;
+/// The totals hold, and bytes of the frames were not played, as `tape` stopped
+/// before them.
+const NOT_ALL: u8 = 3;
 
 /// A file whose errors have its name.
 struct Named {
@@ -69,41 +82,49 @@ fn ended<T>(output: Output, result: Result<T, Wrong>) -> Result<T, Wrong> {
     result.and_then(|answer| written.map(|()| answer))
 }
 
-fn print_totals(frames: &OsStr, lines: &OsStr, end: &OsStr) -> Result<ExitCode, Wrong> {
+fn print_totals(frames: &OsStr, lines: &OsStr, end: &OsStr) -> Result<u8, Wrong> {
     let (frames, lines, end) = (open(frames)?, open(lines)?, open(end)?);
     let mut output = output()?;
     let result = audit(frames, lines, end, &mut output);
-    let failures = ended(output, result)?;
-    Ok(ExitCode::from(u8::from(!failures.is_empty())))
+    let Audited { failures, stop } = ended(output, result)?;
+    if let Some(stop) = stop {
+        say(&format!("audit: {stop}"));
+    }
+    let not_played = stop.is_some_and(|stop| stop.after > 0);
+    Ok(match (failures.is_empty(), not_played) {
+        (false, _) => FAILS,
+        (true, true) => NOT_ALL,
+        (true, false) => DONE,
+    })
 }
 
-fn print_with_day_end(frames: &OsStr) -> Result<ExitCode, Wrong> {
+fn print_with_day_end(frames: &OsStr) -> Result<u8, Wrong> {
     let frames = open(frames)?;
     let mut output = output()?;
     let result = with_day_end(frames, &mut output);
     ended(output, result)?;
-    Ok(ExitCode::SUCCESS)
+    Ok(DONE)
 }
 
-fn run(words: &[OsString]) -> Result<ExitCode, Wrong> {
+fn run(words: &[OsString]) -> Result<u8, Wrong> {
     match words {
         [word] if word == "--help" => {
             print(USAGE).map_err(Wrong::Write)?;
-            Ok(ExitCode::SUCCESS)
+            Ok(DONE)
         }
         [word, frames] if word == "--with-day-end" => print_with_day_end(frames),
         [frames, lines, end] => print_totals(frames, lines, end),
         _ => {
             say(USAGE.trim_end());
-            Ok(ExitCode::from(2))
+            Ok(WRONG)
         }
     }
 }
 
 fn main() -> ExitCode {
     let words: Vec<OsString> = std::env::args_os().skip(1).collect();
-    run(&words).unwrap_or_else(|wrong| {
+    ExitCode::from(run(&words).unwrap_or_else(|wrong| {
         say(&format!("audit: {wrong}"));
-        ExitCode::from(2)
-    })
+        WRONG
+    }))
 }

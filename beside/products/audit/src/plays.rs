@@ -4,6 +4,7 @@
 
 use crate::frames::{event, Event, Part, Parts};
 use crate::lines::{Answer, Lines, Record};
+use crate::stop::Stop;
 use crate::wrong::Wrong;
 use std::io::{BufRead, Read};
 
@@ -88,6 +89,11 @@ impl<F: Read, L: BufRead, E: BufRead> Plays<F, L, E> {
         let first = self.differs && !self.told;
         self.told |= first;
         first
+    }
+
+    /// Where `tape` stopped, if it did. The frames are read to their end.
+    pub fn stop(&mut self) -> Result<Option<Stop>, Wrong> {
+        self.parts.stop()
     }
 
     /// The answer to the day end after the list.

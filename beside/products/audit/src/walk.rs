@@ -7,6 +7,7 @@ use crate::frames::Event;
 use crate::lines::Record;
 use crate::plays::{Plays, Turn};
 use crate::report::Report;
+use crate::stop::Stop;
 use crate::wrong::Wrong;
 use std::io::{BufRead, Read, Write};
 
@@ -16,9 +17,18 @@ struct Walk<'a, F, L, E, W> {
     day: Day,
 }
 
+/// What was seen of a list.
+#[derive(Clone, Debug, PartialEq, Eq)]
+pub struct Audited {
+    /// What does not hold.
+    pub failures: Failures,
+    /// Where `tape` stopped, if it did.
+    pub stop: Option<Stop>,
+}
+
 /// Writes the report on the days of these frames. `lines` is what `tape` printed
 /// for them, `ended` what it printed for `frames::with_day_end` of them. What
-/// does not hold is answered. An error if the lines cannot be those of the
+/// does not hold is answered, and where `tape` stopped. An error if the lines cannot be those of the
 /// frames: by then earlier days may be written.
 ///
 /// A day is written when the event after it was read, or all inputs ended as
@@ -28,7 +38,7 @@ pub fn audit(
     lines: impl BufRead,
     ended: impl BufRead,
     output: &mut impl Write,
-) -> Result<Failures, Wrong> {
+) -> Result<Audited, Wrong> {
     let mut walk = Walk {
         plays: Plays::new(frames, lines, ended),
         report: Report::new(output),
@@ -37,8 +47,10 @@ pub fn audit(
     while let Some(turn) = walk.plays.turn()? {
         walk.turn(turn)?;
     }
+    let stop = walk.plays.stop()?;
     walk.end()?;
-    walk.report.end().map_err(Wrong::Write)
+    let failures = walk.report.end().map_err(Wrong::Write)?;
+    Ok(Audited { failures, stop })
 }
 
 impl<F: Read, L: BufRead, E: BufRead, W: Write> Walk<'_, F, L, E, W> {

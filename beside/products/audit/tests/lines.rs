@@ -7,10 +7,14 @@
 mod common;
 
 use assemble::assemble;
+use assemble::framing::Why;
+use audit::audit;
 use audit::frames::{event, with_day_end, Event, Leg, Part, Parts, Terms, What};
+use audit::stop::Stop;
 use audit::table::Column::{Number, Word};
 use audit::table::Table;
 use common::audited;
+use std::io::{self, Read};
 
 const DAY: &str = "open 0\nleg-order member 1 buy 2 of series 0 at 3\ncancel member 1 number 1\n";
 const LINES: &str = "E 0 0 0 0\nE 1 0 1 0\nE 2 0 0 1\nR 3 1 0 0 2 0\n";
@@ -144,6 +148,139 @@ fn an_input_that_stops() {
     let report = audited(&bytes, &lines, &ended).expect("a report");
     assert!(report.failures.is_empty());
     assert!(report.text.ends_with("\ntotals hold\n"));
+}
+
+/// Where an input stops, and what is said of it.
+fn stop(input: &[u8]) -> Option<(Stop, String)> {
+    let mut parts = Parts::new(input);
+    while parts.part().expect("bytes can be read").is_some() {}
+    let stop = parts.stop().expect("bytes can be read");
+    assert_eq!(parts.stop().expect("the same"), stop);
+    stop.map(|stop| (stop, stop.to_string()))
+}
+
+/// What stands after the frames, why it is no frame, how many of its bytes are
+/// after the stop, and what is said after the place.
+const STOPS: &[(&[u8], Why, u64, &str)] = &[
+    (
+        &[0, 0],
+        Why::Under4(0),
+        0,
+        "whose length field is 0 (under 4); nothing stands after it",
+    ),
+    (
+        &[0, 0, 0],
+        Why::Under4(0),
+        1,
+        "whose length field is 0 (under 4); 1 byte after it was not played",
+    ),
+    (
+        &[1, 0, 6, 0, 6, 0, 0, 1],
+        Why::Under4(1),
+        6,
+        "whose length field is 1 (under 4); 6 bytes after it were not played",
+    ),
+    (
+        &[2, 0, 6, 0],
+        Why::Under4(2),
+        2,
+        "whose length field is 2 (under 4); 2 bytes after it were not played",
+    ),
+    // The third byte of a length 3 is the stop's own.
+    (
+        &[3, 0],
+        Why::Under4(3),
+        0,
+        "whose length field is 3 (under 4); nothing stands after it",
+    ),
+    (
+        &[3, 0, 6],
+        Why::Under4(3),
+        0,
+        "whose length field is 3 (under 4); nothing stands after it",
+    ),
+    (
+        &[3, 0, 6, 0, 6],
+        Why::Under4(3),
+        2,
+        "whose length field is 3 (under 4); 2 bytes after it were not played",
+    ),
+    // All that is left is the stop's own.
+    (
+        &[6, 0, 6, 0, 0],
+        Why::PastEnd(6),
+        0,
+        "whose length field is 6 (past the end of the input); nothing stands after it",
+    ),
+    (
+        &[255, 255, 6, 0, 6, 0, 0, 1],
+        Why::PastEnd(65_535),
+        0,
+        "whose length field is 65535 (past the end of the input); nothing stands after it",
+    ),
+    (
+        &[4, 0],
+        Why::PastEnd(4),
+        0,
+        "whose length field is 4 (past the end of the input); nothing stands after it",
+    ),
+    (
+        &[6],
+        Why::LoneByte,
+        0,
+        "a lone last byte; nothing stands after it",
+    ),
+];
+
+#[test]
+fn where_an_input_stops_is_said() {
+    assert_eq!(stop(&[]), None);
+    let frames = day(DAY);
+    assert_eq!(stop(&frames), None);
+    for (rest, why, after, said) in STOPS {
+        for before in [0, 1, 3] {
+            let frames = frames.repeat(before);
+            let at = frames.len() as u64;
+            let seen = stop(&[&frames[..], rest].concat());
+            let said = format!("tape stopped at byte {at} of the frames, {said}");
+            let due = Stop {
+                at,
+                why: *why,
+                after: *after,
+            };
+            assert_eq!(seen, Some((due, said)), "{rest:?}");
+        }
+    }
+}
+
+/// An input that fails where it is read.
+struct Fails;
+
+impl Read for Fails {
+    fn read(&mut self, _: &mut [u8]) -> io::Result<usize> {
+        Err(io::Error::other("it fails"))
+    }
+}
+
+/// What comes after the stop is read before the last day is printed.
+#[test]
+fn an_input_that_fails_after_its_stop() {
+    let frames = [&day(DAY)[..], &[0, 0, 6]].concat();
+    let lines = format!("{LINES}E 3 2 0 0\n");
+    let ended = format!("{LINES}{END}");
+    let mut text = Vec::new();
+    let wrong = audit(
+        frames.chain(Fails),
+        lines.as_bytes(),
+        ended.as_bytes(),
+        &mut text,
+    );
+    assert_eq!(wrong.expect_err("no report").to_string(), "it fails");
+    assert_eq!(text, b"");
+    // For a day end nothing is read after it.
+    let mut output = Vec::new();
+    with_day_end(frames.chain(Fails), &mut output).expect("a day end");
+    assert_eq!(output, self::ended(&day(DAY)));
 }
 
 #[test]

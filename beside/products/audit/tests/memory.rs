@@ -162,3 +162,27 @@ fn many_events_and_records() {
     );
     assert_eq!(files.day_end(20_000).trim(), "06 00 08 00 88 13");
 }
+
+/// Many bytes after a stop: they are counted, not held.
+#[test]
+fn many_bytes_after_a_stop() {
+    let count = 300_000_000;
+    let clock = bytes(&Event::Clock { milliseconds: 0 });
+    let frames = [&clock[..], &[0, 0]].concat();
+    let lines = |output: &mut dyn Write| writeln!(output, "E 0 0 0 0").expect("room");
+    let files = Files::new("after", &frames, &lines, "E 1 0 0 0\n");
+    fs::write(&files.lines, "E 0 0 0 0\nE 1 2 0 0\n").expect("room");
+    // Zeros that take no room.
+    let file = File::options().append(true).open(&files.frames);
+    file.and_then(|file| file.set_len(frames.len() as u64 + count))
+        .expect("room");
+    let output = Command::new("bash")
+        .args(["-c", "ulimit -v 20000; exec \"$0\" \"$@\"", AUDIT])
+        .args([&files.frames, &files.lines, &files.ended])
+        .output()
+        .expect("bash runs");
+    let said = format!("audit: tape stopped at byte {} of the frames, whose length field is 0 (under 4); {count} bytes after it were not played\n", clock.len());
+    assert_eq!(String::from_utf8_lossy(&output.stderr), said);
+    assert_eq!(output.status.code(), Some(3));
+    assert!(output.stdout.ends_with(b"\ntotals hold\n"));
+}

@@ -12,6 +12,11 @@ const AUDIT: &str = env!("CARGO_BIN_EXE_audit");
 const DAY: &str = include_str!("../../../../days/worked-example.txt");
 const LINES: &str = include_str!("../../../../days/worked-example.out");
 const PRINTED: &str = include_str!("../../../../days/worked-example.audit");
+const REFUSALS: [&str; 3] = [
+    include_str!("../../../../days/refusals.txt"),
+    include_str!("../../../../days/refusals.out"),
+    include_str!("../../../../days/refusals.audit"),
+];
 /// What `tape` prints for a day end after the worked example.
 const END: &str = "E 6 0 0 2\nR 3 1 0 1 3 0\nR 3 2 0 0 3 0\n";
 
@@ -89,6 +94,85 @@ fn a_day_end_after_the_frames() {
     assert_eq!((output.status.code(), output.stdout), (Some(0), ended));
 }
 
+/// The worked example and these bytes after it.
+fn stopped(name: &str, rest: &str, end: &str) -> [String; 3] {
+    let day = format!("{DAY}\nbytes {rest}\n");
+    let lines = format!("{LINES}E 6 2 0 0\n");
+    files(name, &day, &lines, &format!("{LINES}{end}"))
+}
+
+/// What is printed is what would be without the bytes that were not played, but
+/// for the event that was refused.
+#[test]
+fn bytes_that_were_not_played_are_told() {
+    let printed = PRINTED.replace("Day 1: 6 events", "Day 1: 7 events");
+    for (rest, status, said) in [
+        (
+            "00 00 00 06 00 06 00 00 01",
+            3,
+            "whose length field is 0 (under 4); 7 bytes after it were not played",
+        ),
+        (
+            "03 00 06 00",
+            3,
+            "whose length field is 3 (under 4); 1 byte after it was not played",
+        ),
+        (
+            "03 00 06",
+            0,
+            "whose length field is 3 (under 4); nothing stands after it",
+        ),
+        (
+            "07 00 06 00 00 01",
+            0,
+            "whose length field is 7 (past the end of the input); nothing stands after it",
+        ),
+        ("07", 0, "a lone last byte; nothing stands after it"),
+    ] {
+        let words = stopped("stopped", rest, END);
+        let said = format!("audit: tape stopped at byte 67 of the frames, {said}\n");
+        assert_eq!(seen(&run(&words)), (status, printed.clone(), said));
+        // The frames with a day end are written without a word.
+        let output = run(&["--with-day-end".to_string(), words[0].clone()]);
+        assert_eq!(output.status.code(), Some(0));
+        assert_eq!(
+            (output.stdout.len(), text(&output.stderr)),
+            (73, String::new())
+        );
+    }
+}
+
+/// Totals that do not hold, and files that do not belong together, stay so.
+#[test]
+fn a_stop_beside_something_wrong() {
+    let rest = "00 00 00";
+    let wrong = END.replace("R 3 2 0 0 3 0", "R 3 2 0 0 4 0");
+    let (status, printed, said) = seen(&run(&stopped("stop-fails", rest, &wrong)));
+    assert_eq!(
+        (status, said.as_str()),
+        (1, "audit: tape stopped at byte 67 of the frames, whose length field is 0 (under 4); 1 byte after it was not played\n")
+    );
+    assert!(printed.contains("totals do not hold:\n"), "{printed}");
+    let (status, printed, said) = seen(&run(&stopped("stop-wrong", rest, "")));
+    assert_eq!((status, printed.as_str()), (2, ""));
+    assert_eq!(
+        said,
+        "audit: lines with the day end: 6 events are answered, and the input has 7\n"
+    );
+}
+
+/// The day of refusals ends in a length past its end.
+#[test]
+fn a_stop_at_the_end_leaves_the_status_0() {
+    let [day, lines, printed] = REFUSALS;
+    let (before, _) = lines.split_once("E 40 ").expect("the last event");
+    let end = "E 40 0 0 4\nR 5 3 0 0 0 0\nR 3 1 0 0 5 0\nR 3 2 0 1 15 0\nR 3 3 0 0 3 0\n";
+    let words = files("refusals", day, lines, &format!("{before}{end}"));
+    let at = fs::metadata(&words[0]).expect("a file").len() - 5;
+    let said = format!("audit: tape stopped at byte {at} of the frames, whose length field is 6 (past the end of the input); nothing stands after it\n");
+    assert_eq!(seen(&run(&words)), (0, printed.to_string(), said));
+}
+
 #[test]
 fn uses() {
     for words in [&[][..], &["a"], &["a", "b"], &["a", "b", "c", "d"]] {
@@ -100,6 +184,7 @@ fn uses() {
     assert_eq!((status, said.as_str()), (0, ""));
     assert!(printed.starts_with("usage: audit FRAMES LINES ENDED\n"));
     assert!(printed.contains("'and N more'"));
+    assert!(printed.contains("The exit status is 3 if there are such bytes and the totals of\n"));
 }
 
 #[test]

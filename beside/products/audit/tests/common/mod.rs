@@ -15,9 +15,9 @@ pub fn audited(frames: &[u8], lines: &str, ended: &str) -> Result<Audited, Strin
     let mut text = Vec::new();
     match audit(frames, lines.as_bytes(), ended.as_bytes(), &mut text) {
         Err(wrong) => Err(wrong.to_string()),
-        Ok(failures) => Ok(Audited {
+        Ok(seen) => Ok(Audited {
             text: String::from_utf8(text).expect("text"),
-            failures: failures.lines().collect(),
+            failures: seen.failures.lines().collect(),
         }),
     }
 }
