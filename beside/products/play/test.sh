@@ -146,7 +146,7 @@ check "tape stops" says 3 'stops.txt: tape stopped at line 2' ./play "$out/stops
 check "it played two lines" two_lines
 check "it says what was not played" grep -q '2 lines after it were not played' "$out/said"
 check "tape stops at the last line" says 0 'ends.txt: line 2: warning: ' ./play "$out/ends.txt"
-check "a frame over two lines" says 0 'takes.txt: line 2: warning: ' ./play "$out/takes.txt"
+check "a frame over two lines" says 3 'takes.txt: lines 2 to 3 became one frame: 1 line was not played' ./play "$out/takes.txt"
 check "it played three lines" three_lines
 
 # Two at once.
