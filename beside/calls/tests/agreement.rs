@@ -181,11 +181,11 @@ fn inputs_in_pieces_and_from_a_file() {
     }
 }
 
-/// The example in README.md runs as written and prints what stands there.
+/// The example in docs/PROGRAMS.md runs as written and prints what stands there.
 #[test]
-fn the_example_of_the_readme() {
-    let text = std::fs::read_to_string(format!("{ROOT}/README.md")).expect("README.md");
-    let section = text.split_once("## Calls of the book\n").expect("it").1;
+fn the_example_of_the_page() {
+    let text = std::fs::read_to_string(format!("{ROOT}/docs/PROGRAMS.md")).expect("the page");
+    let section = text.split_once("## `calls`\n").expect("its section").1;
     let block = |kind: &str| {
         let start = format!("```{kind}\n");
         let after = section.split_once(&start).expect("a block").1;
