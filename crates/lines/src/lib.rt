@@ -30,7 +30,8 @@ fn told_length(rest: &[u8]) -> usize
     two_bytes(rest, 0)
 }
 
-// How many bytes of the rest of the input must be there to judge its first frame: the two of the length, then the frame.
+// How many bytes of the rest of the input must be there to judge its first frame: the two of the length, then the frame, if the
+// length is not under 4.
 pub fn needed(rest: &[u8]) -> usize
     ensures { λ r. ⌜ r ≡ neededOf (now (rest .entry)) ⌝ }
 {
