@@ -21,7 +21,7 @@ use Rattle.rules.specs.State.{noOrder}
 use Rattle.rules.specs.Nets.{stands, priceWith, priceStep, priceOf, lot, lotAt, lots}
 use Rattle.rules.specs.Lookups.{LookedUp, values, refusedBy, depthTells, depthOf, noOrderEntry, asOrder, wellFormed, wellFormedAt, rowDepth}
 use Rattle.rules.specs.Valid.{FitOrder, Valid}
-use Rattle.nets.specs.Best.{Priced}
+use Rattle.ranges.specs.Fit.{Priced, priced-at, priced-sound}
 use Rattle.lookups.specs.Lookups.{bookDepth, entryOf, lentAt, lentRow}
 use Rattle.depths.specs.declared.RowOrders.{RowOrders}
 
@@ -117,10 +117,10 @@ orders-sound row (suc k) =
     let a = orders-sound row k in
     pick-by (λ (r : RowOrders). All Sound (r .orders)) _ (λ w. all-set _ (order-sound _ w) a k) (λ w. a)
 
-pub orders-fit : (row : List OrderEntry) (k : ℕ) → All FitOrder (ordersN row k .orders) × Priced (ordersN row k .orders)
+pub orders-fit : (row : List OrderEntry) (k : ℕ) → All FitOrder (ordersN row k .orders) × All Priced (ordersN row k .orders)
 orders-fit row k =
     let a = orders-sound row k in
-    (all-map (λ o s. s .fit) a, record { at = λ i. all-at noOrder no-order-sound a i .price })
+    (all-map (λ o s. s .fit) a, all-map (λ o s. record { price = s .price }) a)
 
 -- the code's start and step
 pub orders-first : (row : List OrderEntry) → noOrders ≡ ordersN row 0
@@ -265,12 +265,12 @@ row-like os l i =
     (lt-or-le i 32))
 
 -- the depth of the table's row is the table's
-row-agrees : (os : List LegOrder) (s side : ℕ) → length os ≡ 32 → All FitOrder os → Priced os → rowDepth (lentRow os) s side ≡ bookDepth os s side
+row-agrees : (os : List LegOrder) (s side : ℕ) → length os ≡ 32 → All FitOrder os → All Priced os → rowDepth (lentRow os) s side ≡ bookDepth os s side
 unfolding rowDepth bookDepth lentRow
 row-agrees os s side l f p =
     let n : length (table (lentAt os) 32) ≡ 32 = length-table (lentAt os) 32 in
     let fine : allN (wellFormedAt (table (lentAt os) 32)) (length (table (lentAt os) 32)) ≡ true =
-    all-every _ _ (λ i h. ap wellFormed (table-slot (lentAt os) noOrderEntry 32 i (omega arith)) ∙ entry-formed (getD os i noOrder) (all-at noOrder (no-order-sound .fit) f i) (p .at i)) in
+    all-every _ _ (λ i h. ap wellFormed (table-slot (lentAt os) noOrderEntry 32 i (omega arith)) ∙ entry-formed (getD os i noOrder) (all-at noOrder (no-order-sound .fit) f i) (priced-at p i .price)) in
     ap (λ (x : LookedUp). pick (ltb 31 s) (refusedBy 3) (pick (ltb 1 side) (refusedBy 3) x))
     (pick-false _ _ _ (le-ltb 32 (length (table (lentAt os) 32)) (omega arith)) ∙ pick-true _ _ _ fine ∙ depth-alike _ _ s side (row-like os l))
 
@@ -278,4 +278,4 @@ row-agrees os s side l f p =
 pub row-depth-book : (b : State) (s side : ℕ) → Valid b → rowDepth (lentRow (b .orders)) s side ≡ bookDepth (b .orders) s side
 row-depth-book b s side v =
     let w = v .sound in
-    row-agrees (b .orders) s side (w .orderRows) (w .orders) (record { at = λ i l. w .liveOrder i l .price })
+    row-agrees (b .orders) s side (w .orderRows) (w .orders) (priced-sound w)

@@ -8,7 +8,7 @@ ghost use Rattle.base.specs.All.{All};
 ghost use Rattle.rules.specs.Sizes.{tableRows};
 ghost use Rattle.rules.specs.Lookups.{wellFormed, rowDepth, depthTells};
 ghost use Rattle.rules.specs.Valid.{FitOrder};
-ghost use Rattle.nets.specs.Best.{Priced};
+ghost use Rattle.ranges.specs.Fit.{Priced};
 ghost use Rattle.depths.specs.Rows.{orderOf, noOrders, ordersWith, ordersN, ordersDepth};
 use lookups::depth;
 use rules::Depth;
@@ -87,7 +87,7 @@ fn with_entry(r: RowOrders, i: usize, e: OrderEntry) -> RowOrders
 
 // The depth that the leg orders of a row give.
 fn orders_depth(r: RowOrders, series: u32, side: u32) -> Depth
-    requires { ⌜ All FitOrder (r .orders) × Priced (r .orders) ⌝ }
+    requires { ⌜ All FitOrder (r .orders) × All Priced (r .orders) ⌝ }
     ensures { λ x. ⌜ depthTells x ≡ ordersDepth r series side ⌝ }
 {
     if r.fine {

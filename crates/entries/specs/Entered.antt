@@ -17,6 +17,7 @@ fit-enter e b g h f =
       strategies = f .strategies;
       entries = behind-all live noEntry e (b .entries) fit-none h (f .entries);
       orders = f .orders;
+      priced = f .priced;
       strategyRows = f .strategyRows;
       entryRows = behind-length live noEntry e (b .entries);
       orderRows = f .orderRows;

@@ -15,7 +15,7 @@ use Rattle.rules.proofs.Control.{tradeAll-kept, shrinks-kept}
 use Rattle.rules.proofs.Entering.{fit-no-order}
 use Rattle.rules.proofs.Tables.{behind-all, behind-length}
 use Rattle.records.specs.Done.{Done}
-use Rattle.ranges.specs.Fit.{Fit, fit-done}
+use Rattle.ranges.specs.Fit.{Fit, Priced, priced-none, fit-done}
 use Rattle.base.specs.Pick.{pick-true, pick-false}
 
 module _ (s a : ℕ) (b : State) where
@@ -36,19 +36,20 @@ slot-is b e h = rw e h
 
 -- THE RANGES
 
-enter-fit : (o : LegOrder) (b : State) → FitOrder o → Fit b → Fit (enterOrder o b)
+enter-fit : (o : LegOrder) (b : State) → FitOrder o → Priced o → Fit b → Fit (enterOrder o b)
 unfolding enterOrder withLast withOrders
-enter-fit o b h f = record {
+enter-fit o b h p f = record {
   strategies = f .strategies;
   entries = f .entries;
   orders = behind-all liveOrder noOrder o (b .orders) fit-no-order h (f .orders);
+  priced = behind-all liveOrder noOrder o (b .orders) priced-none p (f .priced);
   strategyRows = f .strategyRows;
   entryRows = f .entryRows;
   orderRows = behind-length liveOrder noOrder o (b .orders);
 }
 
-pub fit-enter : (o : LegOrder) (b : State) {c : State} → c ≡ enterOrder o b → FitOrder o → Fit b → Fit c
-fit-enter o b e h f = rw e (enter-fit o b h f)
+pub fit-enter : (o : LegOrder) (b : State) {c : State} → c ≡ enterOrder o b → FitOrder o → Priced o → Fit b → Fit c
+fit-enter o b e h p f = rw e (enter-fit o b h p f)
 
 pub fit-trades : (a : ℕ) (b : State) {c : State} {sp sq : List ℤ} {n m : ℕ} → Fit b → Done sp sq n m c (tradeAll a b) → Fit c
 fit-trades a b f d = fit-done d (tradeAll-kept shrinks-kept a b (f .orderRows)) f

@@ -6,7 +6,7 @@ ghost use Rattle.rules.specs.Events.{freeOrderSlot, ifRests, onLegOrder};
 ghost use Rattle.rules.specs.Valid.{FitOrder};
 ghost use Rattle.records.specs.Space.{Room};
 ghost use Rattle.records.specs.Done.{Done};
-ghost use Rattle.ranges.specs.Fit.{Fit};
+ghost use Rattle.ranges.specs.Fit.{Fit, Priced};
 use legs::enter_order;
 use legs::free_order_slot;
 use matching::leg_passes;
@@ -30,7 +30,7 @@ fn if_rests(b: State, s: u8, a: usize, space: &mut [i32], n: usize) -> After
 
 // A leg order enters and trades; if any rests, the passes by legs only.
 pub fn on_leg_order(b: State, o: LegOrder, space: &mut [i32], n: usize) -> After
-    requires { ⌜ (freeOrderSlot b < tableRows) × FitOrder o × Fit b ⌝ }
+    requires { ⌜ (freeOrderSlot b < tableRows) × FitOrder o × Priced o × Fit b ⌝ }
     requires { ⌜ Room (now space) n (onLegOrder o b .records) ⌝ }
     ensures { λ t. ⌜ Done (now (space .entry)) (now (space .exit)) n (t .count) (t .state) (onLegOrder o b) ⌝ }
 {

@@ -8,7 +8,7 @@ ghost use Rattle.rules.specs.Sizes.{strategySlots};
 ghost use Rattle.rules.specs.Strategies.{shutSet};
 ghost use Rattle.rules.specs.Lookups.{liveQuantity, shutLegs, depthTells, shutTells};
 ghost use Rattle.rules.specs.Valid.{FitOrder, Valid};
-ghost use Rattle.nets.specs.Best.{Priced};
+ghost use Rattle.ranges.specs.Fit.{Priced};
 ghost use Rattle.lookups.specs.Lookups.{bookDepth, entryOf, lentRow};
 use nets::best_of;
 use rules::Depth;
@@ -61,7 +61,7 @@ pub fn shut_legs(b: State, k: u32) -> Shut
 
 // The best price of a series and side and its contracts.
 pub fn depth(os: [LegOrder; State::LEG_ORDERS], s: u32, side: u32) -> Depth
-    requires { ⌜ All FitOrder os × Priced os ⌝ }
+    requires { ⌜ All FitOrder os × All Priced os ⌝ }
     ensures { λ r. ⌜ depthTells r ≡ bookDepth os s side ⌝ }
 {
     if 31 < s {

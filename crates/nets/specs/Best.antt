@@ -17,13 +17,10 @@ use Rattle.rules.specs.State.{noOrder}
 use Rattle.rules.specs.Sides.{better, bestPrice}
 use Rattle.rules.specs.Nets.{stands, priceWith, priceStep, priceOf, lot, lotAt}
 use Rattle.rules.specs.Valid.{FitOrder}
+use Rattle.ranges.specs.Fit.{Priced, priced-at}
 use Rattle.rules.proofs.Firsts.{better-turn, better-past, better-alike}
 use Rattle.nets.specs.declared.Best.{Best}
 use Rattle.nets.specs.Nets.{contractsAt, contracts-most}
-
--- every live order has a price
-pub record Priced (os : List LegOrder) : Type 0 where
-  pub at : (i : ℕ) → 0 < getD os i noOrder .contracts → 1 ≤ getD os i noOrder .price
 
 unfoldable pub bestOf : List LegOrder → ℕ → ℕ → Best
 bestOf os s side = record { price = priceOf os s side; contracts = contractsAt os s side (priceOf os s side) }
@@ -110,7 +107,7 @@ module _ (s side p : ℕ) (o : LegOrder) where
   unfolding lot
   lot-none e = pick-false _ _ _ e
 
-module _ (os : List LegOrder) (s side : ℕ) (w : Priced os) where
+module _ (os : List LegOrder) (s side : ℕ) (w : All Priced os) where
   abbrev at : ℕ → LegOrder
   at i = getD os i noOrder
 
@@ -121,7 +118,7 @@ module _ (os : List LegOrder) (s side : ℕ) (w : Priced os) where
   leads (suc k) i h e =
       let p : ℕ = priceIn os s side k in
       pick-by (λ (r : ℕ). Leads side r (at i .price)) (stands s side (at k))
-      (λ g. let q = w .at k (stands-live s side (at k) g) in
+      (λ g. let q = priced-at w k .price (stands-live s side (at k) g) in
       ⊎-elim (λ z. rw z (best-self side p (at k .price) q)) (λ l. best-keeps side p (at k .price) (at i .price) q (leads k i l e)) (below h))
       (λ g. ⊎-elim (λ z. absurd (clash (rw z at e) g)) (λ l. leads k i l e) (below h))
 

@@ -1,12 +1,14 @@
 -- Bounds of prices, contracts and nets, and the rules by what the code tests.
 use mathlib.Core.Path.{_≡_, refl, sym, ap}
-use mathlib.Core.Bool.{true, false}
+use mathlib.Core.Bool.{Bool, true, false, not}
 use mathlib.Core.List.{List}
 use Prim.Native.Nat.{ℕ, zero, suc, _+_, _*_, _-_, _≤_}
 use native.Mathlib.Nat.{mul-le-mul}
 use native.Mathlib.Omega.{arith}
+use borrow.Author.Tests.{eq-eqb, ne-eqb}
+use lib.Dec.{eqb}
 use lib.ListN.{length, getD, List·getD-eq-default}
-use Rattle.base.specs.Pick.{pick, pick-all, tests}
+use Rattle.base.specs.Pick.{pick, pick-all, pick-false, tests}
 use Rattle.base.specs.All.{All}
 use Rattle.base.specs.Walks.{sumN, slot, allN, walk, sum-le, sum-same, table-slot}
 use Rattle.rules.specs.declared.Leg.{Leg}
@@ -15,7 +17,7 @@ use Rattle.rules.specs.declared.LegOrder.{LegOrder}
 use Rattle.rules.specs.declared.State.{State}
 use Rattle.rules.specs.State.{noLeg, noOrder, noStrategy, strategyAt}
 use Rattle.rules.specs.Sides.{other, legSide, bestPrice}
-use Rattle.rules.specs.Nets.{priceWith, priceStep, priceOf, lot, lotAt, lots, legPrice, priceAt, prices, known, weight, weightAt, weighed, netOf, legNet}
+use Rattle.rules.specs.Nets.{stands, priceWith, priceStep, priceOf, lot, lotAt, lots, legPrice, priceAt, prices, known, weight, weightAt, weighed, netOf, legNet}
 use Rattle.rules.specs.Valid.{FitLeg, FitOrder}
 use Rattle.ranges.specs.Most.{AtMost, table-most}
 use Rattle.ranges.specs.Fit.{FitLegs, fit-leg, fit-order}
@@ -28,6 +30,24 @@ contractsAt os s side price = sumN (lotAt os s side price) 32
 -- the best prices that a complex party of that side meets on the legs of a strategy, and their net
 unfoldable pub legPrices : List LegOrder → ℕ → Strategy → LegPrices
 legPrices os side s = record { prices = prices os side (s .legs); net = netOf s (prices os side (s .legs)) }
+
+-- whether an order stands in a series and side, by what the code tests: its series first, which differs most often
+module _ (s side : ℕ) (o : LegOrder) where
+  pub stands-other-series : ¬ (o .series ≡ s) → false ≡ stands s side o
+  unfolding stands
+  stands-other-series n = pick-all (λ (t : Bool). false ≡ t) _ refl (sym (pick-false _ _ _ (ne-eqb _ _ n)))
+
+  pub stands-other-side : ¬ (o .side ≡ side) → false ≡ stands s side o
+  unfolding stands
+  stands-other-side n = let P : Bool → Type 0 = λ (t : Bool). false ≡ t in pick-all P _ refl (pick-all P _ (sym (ne-eqb _ _ n)) refl)
+
+  pub stands-there : o .series ≡ s → o .side ≡ side → not (eqb (o .contracts) 0) ≡ stands s side o
+  unfolding stands pick
+  stands-there e g = rw (eq-eqb _ _ e, eq-eqb _ _ g) (by (eqb (o .contracts) 0))
+    where
+      by : (t : Bool) → not t ≡ pick t false true
+      by true = refl
+      by false = refl
 
 -- the contracts at a price are the sum over the lots
 pub contracts-lots : (os : List LegOrder) (s side price : ℕ) → contractsAt os s side price ≡ sumN (slot (lots os s side price)) 32

@@ -15,13 +15,14 @@ use Rattle.base.specs.Walks.{sumN, slot, walk, sum-more, all-more, all-none, al
 use Rattle.rules.specs.declared.Leg.{Leg}
 use Rattle.rules.specs.declared.Strategy.{Strategy}
 use Rattle.rules.specs.declared.LegOrder.{LegOrder}
-use Rattle.rules.specs.State.{noLeg, noOrder}
+use Rattle.rules.specs.State.{noLeg}
 use Rattle.rules.specs.Sides.{other, legSide}
-use Rattle.rules.specs.Nets.{priceOf, priceStep, lot, lotAt, legPrice, priceAt, prices, pricedAt, known, weight, weighed, netOf, legUnits, unitsStep, unitsOf}
+use Rattle.rules.specs.Nets.{priceOf, legPrice, priceAt, prices, pricedAt, known, weight, weighed, netOf, legUnits, unitsStep, unitsOf}
 use Rattle.rules.specs.Valid.{FitLeg, FitOrder}
 use Rattle.ranges.specs.Most.{AtMost}
-use Rattle.ranges.specs.Fit.{fit-order}
-use Rattle.nets.specs.Nets.{contractsAt, contracts-lots, contracts-most, lot-most, weight-most, weighed-most, price-most, net-unknown, net-known}
+use Rattle.nets.specs.declared.Best.{Best}
+use Rattle.nets.specs.Best.{bestIn}
+use Rattle.nets.specs.Nets.{contractsAt, contracts-lots, weight-most, weighed-most, price-most, net-unknown, net-known}
 
 unfoldable pub netReady : List LegOrder → ℕ → Strategy → ℕ
 netReady os side s = pick (eqb (unitsOf os side s (prices os side (s .legs)) 1) 0) 0 (netOf s (prices os side (s .legs)))
@@ -35,28 +36,20 @@ pub record Netting (os : List LegOrder) (side : ℕ) (legs : List Leg) (i buys s
 
 -- laws
 
--- the sum that a loop makes is in range
-pub contracts-add : (s side p : ℕ) {os : List LegOrder} {j n x : ℕ} → All FitOrder os → j < 32 → n ≡ sumN (lotAt os s side p) j → x ≡ lot s side p (getD os j noOrder) → n + x ≤ 319_968
-contracts-add s side p {os} {j} a h e f = omega (arith, contracts-most os s side p a j, lot-most s side p (getD os j noOrder) (fit-order a j))
-
--- and one slot more of it
-pub sum-next : (f : ℕ → ℕ) (i : ℕ) {n x : ℕ} → n ≡ sumN f i → x ≡ f i → n + x ≡ sumN f (i + 1)
-sum-next f i e g = rw (sum-more, e, g)
-
--- the sums over the legs are in range too
+-- the sums over the legs are in range
 pub weight-add : (w : ℕ) (l : Leg) (legs : List Leg) (ps : List ℕ) {i n p x : ℕ} → All FitLeg legs → AtMost 99_999 ps → i < 6 → n ≡ weighed w legs ps i → FitLeg l → p ≤ 99_999
     → x ≡ weight w l p → n + x ≤ 7_199_928
 weight-add w l legs ps {i} {p = p} a m h e f q g = omega (arith, weighed-most w legs ps a m i, weight-most w l p (f .ratio) q)
 
--- the price and the units of a leg that two loops found
+-- the price and the units of a leg that the walk over the orders found
 module _ (os : List LegOrder) (side : ℕ) (l : Leg) {taken on : ℕ} (t : taken ≡ legSide side l) (o : on ≡ other taken) where
-  pub price-is : {p j : ℕ} → p ≡ walk (priceStep os (l .series) on) 0 j → j ≡ 32 → p ≡ legPrice os side l
-  unfolding legPrice priceOf
+  pub price-is : {b : Best} {j : ℕ} → b ≡ bestIn os (l .series) on j → j ≡ 32 → b .price ≡ legPrice os side l
+  unfolding legPrice priceOf bestIn
   price-is e h = rw (e, h, o, t)
 
-  pub units-is : (p : ℕ) {n h u : ℕ} → n ≡ sumN (lotAt os (l .series) on p) h → h ≡ 32 → u ≡ n / l .ratio → u ≡ legUnits os side p l
-  unfolding legUnits contractsAt
-  units-is p e h u = rw (u, e, h, o, t) (ap (λ (x : ℕ). x / l .ratio) (contracts-lots os (l .series) (other (legSide side l)) p))
+  pub units-is : {b : Best} {j u : ℕ} → b ≡ bestIn os (l .series) on j → j ≡ 32 → u ≡ b .contracts / l .ratio → u ≡ legUnits os side (b .price) l
+  unfolding legUnits contractsAt bestIn
+  units-is e h u = rw (u, e, h, o, t) (ap (λ (x : ℕ). x / l .ratio) (contracts-lots os (l .series) (other (legSide side l)) _))
 
 pub leg-price-most : (os : List LegOrder) (side : ℕ) (l : Leg) {p : ℕ} → All FitOrder os → p ≡ legPrice os side l → p ≤ 99_999
 unfolding legPrice priceOf

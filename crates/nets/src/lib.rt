@@ -5,9 +5,9 @@ ghost use Rattle.base.specs.All.{All};
 ghost use Rattle.rules.specs.Nets.{stands, priceWith, priceOf, lot, lots, legPrice, prices, known, weight, weighed, netOf, legUnits, unitsOf, legNet};
 ghost use Rattle.rules.specs.Valid.{FitLeg, FitOrder};
 ghost use Rattle.ranges.specs.Most.{AtMost};
-ghost use Rattle.ranges.specs.Fit.{FitLegs};
+ghost use Rattle.ranges.specs.Fit.{FitLegs, Priced};
 ghost use Rattle.nets.specs.Nets.{contractsAt, legPrices};
-ghost use Rattle.nets.specs.Best.{Priced, bestOf, bestWith};
+ghost use Rattle.nets.specs.Best.{bestOf, bestWith};
 ghost use Rattle.nets.specs.Ready.{netReady};
 use records::least;
 use rules::Leg;
@@ -35,13 +35,13 @@ pub struct LegPrices {
 pub fn stands(s: u8, side: u8, o: LegOrder) -> bool
     ensures { λ r. ⌜ r ≡ stands s side o ⌝ }
 {
-    if o.contracts == 0 {
-        return false;
-    }
     if o.series != s {
         return false;
     }
-    o.side == side
+    if o.side != side {
+        return false;
+    }
+    o.contracts != 0
 }
 
 fn price_with(s: u8, side: u8, p: u32, o: LegOrder) -> u32
@@ -268,7 +268,7 @@ fn best_with(s: u8, side: u8, b: Best, o: LegOrder) -> Best
 
 // The best price of a series and side with the contracts at it, in one walk.
 pub fn best_of(os: [LegOrder; State::LEG_ORDERS], s: u8, side: u8) -> Best
-    requires { ⌜ All FitOrder os × Priced os ⌝ }
+    requires { ⌜ All FitOrder os × All Priced os ⌝ }
     ensures { λ b. ⌜ b ≡ bestOf os s side ⌝ }
 {
     let mut b = Best {
@@ -297,9 +297,10 @@ pub fn leg_net(b: State, side: u8, k: usize) -> u32
     p.net
 }
 
-// The leg net that a complex party of that side meets where the legs give one unit, else 0.
+// The leg net that a complex party of that side meets where the legs give one unit, else 0. Each leg's best price and its
+// contracts are found in one walk.
 pub fn net_ready(os: [LegOrder; State::LEG_ORDERS], side: u8, s: Strategy) -> u32
-    requires { ⌜ All FitOrder os × FitLegs s ⌝ }
+    requires { ⌜ All FitOrder os × All Priced os × FitLegs s ⌝ }
     ensures { λ r. ⌜ r ≡ netReady os side s ⌝ }
 {
     let count = s.count as usize;
@@ -310,27 +311,24 @@ pub fn net_ready(os: [LegOrder; State::LEG_ORDERS], side: u8, s: Strategy) -> u3
     while i < count {
         let l = legs[i];
         let on = other(leg_side(side, l));
-        let mut p: u32 = 0;
+        let mut best = Best {
+            price: 0,
+            contracts: 0,
+        };
         let mut j: usize = 0;
         while j < State::LEG_ORDERS {
-            p = price_with(l.series, on, p, os[j]);
+            best = best_with(l.series, on, best, os[j]);
             j += 1;
         }
-        if p == 0 {
+        if best.price == 0 {
             return 0;
         }
-        let mut n: u32 = 0;
-        let mut h: usize = 0;
-        while h < State::LEG_ORDERS {
-            n += lot(l.series, on, p, os[h]);
-            h += 1;
-        }
-        let units = whole_units(n, l.ratio as u32);
+        let units = whole_units(best.contracts, l.ratio as u32);
         if units == 0 {
             return 0;
         }
-        buys += weight(0, l, p);
-        sells += weight(1, l, p);
+        buys += weight(0, l, best.price);
+        sells += weight(1, l, best.price);
         i += 1;
     }
     ZERO_LEVEL + buys - sells

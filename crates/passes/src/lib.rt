@@ -7,7 +7,7 @@ ghost use Rattle.rules.specs.Valid.{FitOrder};
 ghost use Rattle.rules.specs.Passes.{legsFirst, turnAt, meetLimit, takeTurn, pass};
 ghost use Rattle.records.specs.Space.{Room};
 ghost use Rattle.records.specs.Done.{Done};
-ghost use Rattle.ranges.specs.Fit.{FitLegs, Fit};
+ghost use Rattle.ranges.specs.Fit.{FitLegs, Priced, Fit};
 ghost use Rattle.passes.specs.Passes.{stopsAt, oppositeIn, netIn};
 use fills::give_in_turn;
 use fills::give_shared;
@@ -72,7 +72,7 @@ fn opposite(way: Allocation, es: [Entry; State::ROWS], e: Entry) -> u32
 
 // The leg net of a complex party of that side where the legs may be used and are ready, else 0.
 fn ready_net(legs: bool, os: [LegOrder; State::LEG_ORDERS], side: u8, s: Strategy) -> u32
-    requires { ⌜ All FitOrder os × FitLegs s ⌝ }
+    requires { ⌜ All FitOrder os × All Priced os × FitLegs s ⌝ }
     ensures { λ r. ⌜ r ≡ netIn legs os side s ⌝ }
 {
     if legs {
@@ -90,7 +90,7 @@ fn turn_of(
     os: [LegOrder; State::LEG_ORDERS],
     s: Strategy,
 ) -> Turn
-    requires { ⌜ All FitOrder os × FitLegs s ⌝ }
+    requires { ⌜ All FitOrder os × All Priced os × FitLegs s ⌝ }
     ensures { λ t. ⌜ t ≡ turnAt e (oppositeIn way es e) (netIn legs os (e .side) s) ⌝ }
 {
     if e.units == 0 {

@@ -15,7 +15,7 @@ use Rattle.rules.specs.State.{noLeg, noStrategy, noEntry, noOrder, legAt}
 use Rattle.rules.specs.Moves.{Moved}
 use Rattle.rules.specs.Valid.{FitLeg, FitEntry, FitOrder, Sound}
 use Rattle.rules.proofs.Tables.{all-of}
-use Rattle.rules.proofs.Shrinks.{SameStrategy, Shrinks}
+use Rattle.rules.proofs.Shrinks.{SameOrder, SameStrategy, Shrinks}
 use Rattle.rules.proofs.Entering.{fit-no-leg, fit-none, fit-no-order, entry-fits, order-fits}
 use Rattle.records.specs.Done.{Done}
 
@@ -25,10 +25,15 @@ pub record FitLegs (s : Strategy) : Type 0 where
   pub legs : All FitLeg (s .legs)
   pub used : (i : ℕ) → i < s .count → 0 < legAt s i .ratio
 
+-- a live leg order has a price
+pub record Priced (o : LegOrder) : Type 0 where
+  pub price : 0 < o .contracts → 1 ≤ o .price
+
 pub record Fit (b : State) : Type 0 where
   pub strategies : All FitLegs (b .strategies)
   pub entries : All FitEntry (b .entries)
   pub orders : All FitOrder (b .orders)
+  pub priced : All Priced (b .orders)
   pub strategyRows : length (b .strategies) ≡ 16
   pub entryRows : length (b .entries) ≡ 32
   pub orderRows : length (b .orders) ≡ 32
@@ -37,6 +42,9 @@ pub record Fit (b : State) : Type 0 where
 
 no-legs : FitLegs noStrategy
 no-legs = record { count = omega arith; legs = all-nil; used = λ i h. absurd (omega arith) }
+
+pub priced-none : Priced noOrder
+priced-none = record { price = λ h. absurd (omega arith) }
 
 -- so every row fits, at any place
 pub fit-leg : {ls : List Leg} → All FitLeg ls → (i : ℕ) → FitLeg (getD ls i noLeg)
@@ -51,12 +59,19 @@ fit-entry a i = all-at noEntry fit-none a i
 pub fit-order : {os : List LegOrder} → All FitOrder os → (i : ℕ) → FitOrder (getD os i noOrder)
 fit-order a i = all-at noOrder fit-no-order a i
 
+pub priced-at : {os : List LegOrder} → All Priced os → (i : ℕ) → Priced (getD os i noOrder)
+priced-at a i = all-at noOrder priced-none a i
+
 -- a sound state
+pub priced-sound : {b : State} → Sound b → All Priced (b .orders)
+priced-sound {b} s = all-of Priced noOrder (b .orders) (λ i. record { price = λ h. s .liveOrder i h .price })
+
 pub fit-sound : {b : State} → Sound b → Fit b
 fit-sound s = record {
   strategies = all-map (λ t f. record { count = f .count; legs = f .legs; used = f .used }) (s .strategies);
   entries = s .entries;
   orders = s .orders;
+  priced = priced-sound s;
   strategyRows = s .strategyRows;
   entryRows = s .entryRows;
   orderRows = s .orderRows;
@@ -70,11 +85,16 @@ same-legs s t e h = record {
   used = λ i l. rw (e .legs) (h .used i (omega (arith, e .count)));
 }
 
+-- a leg order that kept its price and gained no contracts
+priced-same : {o p : LegOrder} → SameOrder o p → Priced o → Priced p
+priced-same {o} {p} e h = record { price = λ l. (let k = h .price (omega (arith, e .contracts)) in omega (arith, e .price)) }
+
 pub fit-shrinks : {b c : State} → Shrinks b c → Fit b → Fit c
 fit-shrinks {b} {c} s f = record {
   strategies = all-of FitLegs noStrategy (c .strategies) (λ k. same-legs _ _ (s .strategy k) (fit-legs (f .strategies) k));
   entries = all-of FitEntry noEntry (c .entries) (λ i. entry-fits (s .entry i) (fit-entry (f .entries) i));
   orders = all-of FitOrder noOrder (c .orders) (λ i. order-fits (s .order i) (fit-order (f .orders) i));
+  priced = all-of Priced noOrder (c .orders) (λ i. priced-same (s .order i) (priced-at (f .priced) i));
   strategyRows = s .strategyRows ∙ f .strategyRows;
   entryRows = s .entryRows ∙ f .entryRows;
   orderRows = s .orderRows ∙ f .orderRows;

@@ -14,7 +14,7 @@ trade-all-requires : tie.Need-trade-all-requires
 trade-all-requires c κs = room-then _ _ (room-of (leg-is _ _ (c .before .before .free-order-slot .ensures) (c .before .enter-order .ensures)) (c .before .before .before .pre .1))
 
 if-rests-requires : tie.Need-if-rests-requires
-if-rests-requires c κs = ((slot-is _ (c .before .before .before .before .before .before .free-order-slot .ensures) (c .before .before .before .before .before .before .before .pre .0 .0), fit-trades _ _ (fit-enter _ _ (c .before .before .before .before .before .enter-order .ensures) (c .before .before .before .before .before .before .before .pre .0 .1) (c .before .before .before .before .before .before .before .pre .0 .2)) (c .before .before .before .trade-all .ensures)), room-after _ _ (room-of (leg-is _ _ (c .before .before .before .before .before .before .free-order-slot .ensures) (c .before .before .before .before .before .enter-order .ensures)) (c .before .before .before .before .before .before .before .pre .1)) (c .before .before .before .trade-all .ensures))
+if-rests-requires c κs = ((slot-is _ (c .before .before .before .before .before .before .free-order-slot .ensures) (c .before .before .before .before .before .before .before .pre .0 .0), fit-trades _ _ (fit-enter _ _ (c .before .before .before .before .before .enter-order .ensures) (c .before .before .before .before .before .before .before .pre .0 .1) (c .before .before .before .before .before .before .before .pre .0 .2) (c .before .before .before .before .before .before .before .pre .0 .3)) (c .before .before .before .trade-all .ensures)), room-after _ _ (room-of (leg-is _ _ (c .before .before .before .before .before .before .free-order-slot .ensures) (c .before .before .before .before .before .enter-order .ensures)) (c .before .before .before .before .before .before .before .pre .1)) (c .before .before .before .trade-all .ensures))
 
 same-length : tie.Need-same-length
 same-length c = search needs

@@ -43,7 +43,7 @@ element-copy-out-s : tie.Need-element-copy-out-s Inv-loop μ-loop
 element-copy-out-s c = fit-entry (fits (c .before .before .before .before .before) .entries) (c .before .before .before .before .before .loop .i) .strategy
 
 net-ready-requires : tie.Need-net-ready-requires Inv-loop μ-loop
-net-ready-requires c κs = let fit = fits (c .before .before .before .before .before .before .before) in (fit .orders, fit-legs (fit .strategies) _)
+net-ready-requires c κs = let fit = fits (c .before .before .before .before .before .before .before) in (fit .orders, fit .priced, fit-legs (fit .strategies) _)
 
 legs-idle-requires : tie.Need-legs-idle-requires Inv-loop μ-loop
 legs-idle-requires c κs = search needs

@@ -49,7 +49,7 @@ element-copy-out-s : tie.Need-element-copy-out-s Inv-loop μ-loop
 element-copy-out-s c = fit-entry (fits (c .before .before .before) .entries) (c .before .before .before .before .before .args .a) .strategy
 
 turn-of-requires : tie.Need-turn-of-requires Inv-loop μ-loop
-turn-of-requires c κs = let fit = fits (c .before .before .before .before .before .before) in (fit .orders, fit-legs (fit .strategies) _)
+turn-of-requires c κs = let fit = fits (c .before .before .before .before .before .before) in (fit .orders, fit .priced, fit-legs (fit .strategies) _)
 
 stops-requires : tie.Need-stops-requires Inv-loop μ-loop
 stops-requires c κs = search needs

@@ -1,9 +1,10 @@
 use borrow.Author.Needs.{needs}
+use Rattle.ranges.specs.Fit.{priced-sound}
 use Rattle.book.proofs.Book.depth.Statement.{statement}
 use Rattle.book.proofs.Book.depth.Tie as tie
 
 depth-requires : tie.Need-depth-requires
-depth-requires c κs = let v = c .before .before .pre .sound in (v .orders, record { at = λ i l. v .liveOrder i l .price })
+depth-requires c κs = let v = c .before .before .pre .sound in (v .orders, priced-sound v)
 
 returns : tie.Need-returns
 returns c = search needs
