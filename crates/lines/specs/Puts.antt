@@ -3,7 +3,7 @@ use mathlib.Core.Path.{_≡_, refl, sym, _∙_, ap}
 use mathlib.Core.Bool.{true, false}
 use mathlib.Core.List.{List, [], _∷_, _++_, append-assoc}
 use Prim.Native.Nat.{ℕ, zero, suc, _+_, _*_, _/_, _%_, _^_, _≤_, _<_}
-use native.Mathlib.Nat.{add-zero, add-suc, suc-add, div-add-mod', pow-suc}
+use native.Mathlib.Nat.{add-zero, add-suc, suc-add, div-add-mod', div-div-eq-div-mul, pow-suc}
 use native.Mathlib.Numerals.{add-one}
 use native.Mathlib.Omega.{arith}
 use lib.Dec.{ltb}
@@ -27,6 +27,10 @@ pub record Put (s q : List ℕ) (a m : ℕ) (t : List ℕ) : Type 0 where
 pub record Within (k : ℕ) (s q : List ℕ) (a m : ℕ) (t : List ℕ) : Type 0 where
   pub put : Put s q a m t
   pub few : m ≤ a + k
+
+-- the last two digits of a number
+unfoldable pub lastTwo : ℕ → List ℕ
+lastTwo v = (48 + v / 10 % 10) ∷ ((48 + v % 10) ∷ [])
 
 -- laws
 
@@ -90,6 +94,39 @@ length-more v h = ap length (decimal-more v h) ∙ length-append (decimal (v / 1
 
 pub put-one : {s q : List ℕ} {a m : ℕ} (v : ℕ) → v < 10 → Put s q a m ((48 + v) ∷ []) → Put s q a m (decimal v)
 put-one v h p = rw (decimal-one v h) p
+
+pub put-last-two : {s q r : List ℕ} {a m k : ℕ} (v : ℕ) → Put s q a m ((48 + v / 10 % 10) ∷ []) → Put q r m k ((48 + v % 10) ∷ []) → Put s r a k (lastTwo v)
+unfolding lastTwo
+put-last-two v p x = put-then p x
+
+-- a number of two digits is its last two; one of more is its hundreds and its last two
+decimal-two : (v : ℕ) → 10 ≤ v → v < 100 → decimal v ≡ lastTwo v
+unfolding lastTwo
+decimal-two v h l =
+    let t : v / 10 < 10 = omega (arith, div-add-mod' v 10) in
+    let e : v / 10 % 10 ≡ v / 10 = omega (arith, div-add-mod' (v / 10) 10) in
+    decimal-more v h ∙ rw (decimal-one (v / 10) t, e) (refl)
+
+decimal-hundreds : (v : ℕ) → 100 ≤ v → decimal v ≡ decimal (v / 100) ++ lastTwo v
+unfolding lastTwo
+decimal-hundreds v h =
+    let t : 10 ≤ v / 10 = omega (arith, div-add-mod' v 10) in
+    decimal-more v (omega arith)
+    ∙ rw (decimal-more (v / 10) t, div-div-eq-div-mul v 10 10) (append-assoc (decimal (v / 100)) ((48 + v / 10 % 10) ∷ []) ((48 + v % 10) ∷ []))
+
+pub length-two : (v : ℕ) → 10 ≤ v → v < 100 → length (decimal v) ≡ 2
+unfolding lastTwo
+length-two v h l = ap length (decimal-two v h l)
+
+pub length-hundreds : (v : ℕ) → 100 ≤ v → length (decimal v) ≡ length (decimal (v / 100)) + 2
+unfolding lastTwo
+length-hundreds v h = ap length (decimal-hundreds v h) ∙ length-append (decimal (v / 100)) (lastTwo v)
+
+pub put-two-digits : {s q : List ℕ} {a m : ℕ} (v : ℕ) → 10 ≤ v → v < 100 → Put s q a m (lastTwo v) → Put s q a m (decimal v)
+put-two-digits v h l p = rw (decimal-two v h l) p
+
+pub put-hundreds : {s q r : List ℕ} {a m k : ℕ} (v : ℕ) → 100 ≤ v → Put s q a m (decimal (v / 100)) → Put q r m k (lastTwo v) → Put s r a k (decimal v)
+put-hundreds v h p x = rw (decimal-hundreds v h) (put-then p x)
 
 pub put-more : {s q r : List ℕ} {a m k : ℕ} (v : ℕ) → 10 ≤ v → Put s q a m (decimal (v / 10)) → Put q r m k ((48 + v % 10) ∷ []) → Put s r a k (decimal v)
 put-more v h p x = rw (decimal-more v h) (put-then p x)

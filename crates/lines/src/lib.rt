@@ -8,7 +8,7 @@ ghost use Rattle.frames.specs.Number.{number};
 ghost use Rattle.rules.specs.Step.{answerCount};
 ghost use Rattle.lines.specs.Lines.{decimal, signed, spaced, textLine, recordLines, eventText};
 ghost use Rattle.lines.specs.Cuts.{toldLength, neededOf, cutOf};
-ghost use Rattle.lines.specs.Puts.{Put, Within};
+ghost use Rattle.lines.specs.Puts.{lastTwo, Put, Within};
 use frames::numbers::wide;
 use rules::Answer;
 
@@ -71,16 +71,86 @@ pub fn put_byte(out: &mut [u8], at: usize, byte: u8) -> usize
     at + 1
 }
 
-// The digits of a number, the highest first.
+// The last two digits of a number.
+fn put_last_two(out: &mut [u8], at: usize, n: u32) -> usize
+    requires { ⌜ at + 2 ≤ length (now out) ⌝ }
+    ensures { λ m. ⌜ Put (now (out .entry)) (now (out .exit)) at m (lastTwo n) ⌝ }
+{
+    let m = put_byte(out, at, 48 + (n / 10 % 10) as u8);
+    put_byte(out, m, 48 + (n % 10) as u8)
+}
+
+// A number of one digit.
+fn put_under_10(out: &mut [u8], at: usize, n: u32) -> usize
+    requires { ⌜ n < 10 ⌝ }
+    requires { ⌜ at + length (decimal n) ≤ length (now out) ⌝ }
+    ensures { λ m. ⌜ Put (now (out .entry)) (now (out .exit)) at m (decimal n) ⌝ }
+{
+    put_byte(out, at, 48 + n as u8)
+}
+
+// A number of at most two digits.
+fn put_under_100(out: &mut [u8], at: usize, n: u32) -> usize
+    requires { ⌜ n < 100 ⌝ }
+    requires { ⌜ at + length (decimal n) ≤ length (now out) ⌝ }
+    ensures { λ m. ⌜ Put (now (out .entry)) (now (out .exit)) at m (decimal n) ⌝ }
+{
+    if n < 10 {
+        return put_under_10(out, at, n);
+    }
+    put_last_two(out, at, n)
+}
+
+// A number of at most four digits.
+fn put_under_10000(out: &mut [u8], at: usize, n: u32) -> usize
+    requires { ⌜ n < 10000 ⌝ }
+    requires { ⌜ at + length (decimal n) ≤ length (now out) ⌝ }
+    ensures { λ m. ⌜ Put (now (out .entry)) (now (out .exit)) at m (decimal n) ⌝ }
+{
+    if n < 100 {
+        return put_under_100(out, at, n);
+    }
+    let m = put_under_100(out, at, n / 100);
+    put_last_two(out, m, n)
+}
+
+// A number of at most six digits.
+fn put_under_1000000(out: &mut [u8], at: usize, n: u32) -> usize
+    requires { ⌜ n < 1000000 ⌝ }
+    requires { ⌜ at + length (decimal n) ≤ length (now out) ⌝ }
+    ensures { λ m. ⌜ Put (now (out .entry)) (now (out .exit)) at m (decimal n) ⌝ }
+{
+    if n < 10000 {
+        return put_under_10000(out, at, n);
+    }
+    let m = put_under_10000(out, at, n / 100);
+    put_last_two(out, m, n)
+}
+
+// A number of any length: up to six digits at once, each further one behind the rest.
+fn put_long(out: &mut [u8], at: usize, n: u64) -> usize
+    requires { ⌜ at + length (decimal n) ≤ length (now out) ⌝ }
+    ensures { λ m. ⌜ Put (now (out .entry)) (now (out .exit)) at m (decimal n) ⌝ }
+{
+    if n < 1000000 {
+        return put_under_1000000(out, at, n as u32);
+    }
+    let m = put_long(out, at, n / 10);
+    put_byte(out, m, 48 + (n % 10) as u8)
+}
+
+// The digits of a number, the highest first. Most numbers are short: their tests come first.
 fn put_decimal(out: &mut [u8], at: usize, n: u64) -> usize
     requires { ⌜ at + length (decimal n) ≤ length (now out) ⌝ }
     ensures { λ m. ⌜ Put (now (out .entry)) (now (out .exit)) at m (decimal n) ⌝ }
 {
     if n < 10 {
-        return put_byte(out, at, 48 + n as u8);
+        return put_under_10(out, at, n as u32);
     }
-    let m = put_decimal(out, at, n / 10);
-    put_byte(out, m, 48 + (n % 10) as u8)
+    if n < 10000 {
+        return put_under_10000(out, at, n as u32);
+    }
+    put_long(out, at, n)
 }
 
 // A space and a number.
@@ -108,13 +178,12 @@ fn put_signed(out: &mut [u8], at: usize, x: i32) -> usize
     requires { ⌜ at + 12 ≤ length (now out) ⌝ }
     ensures { λ m. ⌜ Within 12 (now (out .entry)) (now (out .exit)) at m (32 ∷ signed x) ⌝ }
 {
-    let n = magnitude(x);
     let m = put_byte(out, at, b' ');
     if x < 0 {
         let k = put_byte(out, m, b'-');
-        return put_decimal(out, k, n);
+        return put_decimal(out, k, magnitude(x));
     }
-    put_decimal(out, m, n)
+    put_decimal(out, m, magnitude(x))
 }
 
 // A letter and two numbers.
