@@ -260,7 +260,7 @@ fn whole_fills(maker: &mut Maker, index: usize) {
 /// takes them.
 fn leg_fills(maker: &mut Maker, index: usize) {
     let strategy = [0, 5, 10, 15][index % 4];
-    for leg in maker.book.legs(strategy) {
+    for leg in maker.book.legs(strategy).to_vec() {
         let contracts = 3 * u16::from(leg.ratio);
         maker.leg_order(usize::from(leg.series), 1 - leg.side, contracts, 1);
     }

@@ -16,8 +16,8 @@ fn play(book: &mut Book, frames: &[Frame]) -> Vec<Answer> {
 fn held(book: &Book) -> [usize; 4] {
     [
         book.strategies.len(),
-        book.complex_orders.len(),
-        book.sweeps.len(),
+        book.complex_orders().count(),
+        book.sweeps().count(),
         book.leg_orders.len(),
     ]
 }

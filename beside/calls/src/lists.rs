@@ -68,7 +68,7 @@ impl End {
             End::Anywhere => true,
             End::Auctions => book.auctions.iter().flatten().count() >= 2,
             End::Sweeps => {
-                let live = |side| book.sweeps.iter().any(|sweep| sweep.side == side);
+                let live = |side| book.sweeps().any(|sweep| sweep.side == side);
                 live(BUY) && live(SELL)
             }
             End::Shut => {
@@ -88,7 +88,8 @@ impl End {
                 })
             }),
             End::Full => {
-                book.complex_orders.len() == COMPLEX_ORDERS || book.leg_orders.len() == LEG_ORDERS
+                book.complex_orders().count() == COMPLEX_ORDERS
+                    || book.leg_orders.len() == LEG_ORDERS
             }
         }
     }

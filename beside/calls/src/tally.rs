@@ -141,8 +141,8 @@ impl Tally {
         self.see_if(auctions > 0, "list: an auction runs");
         self.see_if(auctions > 1, "list: several auctions run");
         let tables = [
-            (book.complex_orders.len(), 16, "list: 16 complex orders"),
-            (book.sweeps.len(), 16, "list: 16 sweeps"),
+            (book.complex_orders().count(), 16, "list: 16 complex orders"),
+            (book.sweeps().count(), 16, "list: 16 sweeps"),
             (book.leg_orders.len(), 32, "list: 32 leg orders"),
             (book.strategies.len(), 16, "list: 16 strategies"),
         ];
@@ -156,8 +156,8 @@ impl Tally {
     }
 
     fn live(&mut self, number: u32, book: &Book) {
-        let complex = book.complex_orders.iter().any(|o| o.number == number);
-        let sweep = book.sweeps.iter().any(|s| s.number == number);
+        let complex = book.complex_orders().any(|o| o.number == number);
+        let sweep = book.sweeps().any(|s| s.number == number);
         let leg = book.leg_orders.iter().any(|o| o.number == number);
         let starter = (book.auctions.iter().flatten()).any(|a| a.starter == number);
         self.highest_live = self.highest_live.max(number);
@@ -165,7 +165,10 @@ impl Tally {
         self.see_if(sweep, "L of a sweep");
         self.see_if(leg, "L of a leg order");
         self.see_if(starter, "L of an auction's starter");
-        self.see_if(book.sweeps.is_empty(), "L in a list without a sweep");
+        self.see_if(
+            book.sweeps().next().is_none(),
+            "L in a list without a sweep",
+        );
     }
 
     fn shut(&mut self, strategy: u32, count: u32, lowest: u32, book: &Book) {

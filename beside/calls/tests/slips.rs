@@ -19,7 +19,7 @@ const SLIPS: &[Slip] = &[
         "live quantity without sweeps",
         "calls.rs",
         "    for number in book.live_numbers() {\n",
-        "    let sweeps = || book.sweeps.iter().map(|sweep| sweep.number);\n    for number in book.live_numbers().into_iter().filter(|number| sweeps().all(|sweep| sweep != *number)) {\n",
+        "    let sweeps = || book.sweeps().map(|sweep| sweep.number);\n    for number in book.live_numbers().into_iter().filter(|number| sweeps().all(|sweep| sweep != *number)) {\n",
     ),
     (
         "live quantity without leg orders",
@@ -61,8 +61,8 @@ const SLIPS: &[Slip] = &[
     (
         "open legs counted",
         "book.rs",
-        "let shut = held.series_set() & !self.open;",
-        "let shut = held.series_set() & self.open;",
+        "let shut = held.series & !self.open;",
+        "let shut = held.series & self.open;",
     ),
     (
         "the lowest shut series of all",
@@ -147,20 +147,20 @@ const SLIPS: &[Slip] = &[
     (
         "refusal 1 after 2",
         "events.rs",
-        "match (causes.iter().min(), event) {",
-        "match (causes.iter().min_by_key(|cause| if **cause == 1 { 5 } else { 2 * **cause }), event) {",
+        "match (causes.smallest(), event) {",
+        "let others = Causes(causes.0 & !2).smallest();\n        match (others.filter(|cause| *cause == 2).or(causes.smallest()), event) {",
     ),
     (
         "refusal 1 after 3",
         "events.rs",
-        "match (causes.iter().min(), event) {",
-        "match (causes.iter().min_by_key(|cause| if **cause == 1 { 7 } else { 2 * **cause }), event) {",
+        "match (causes.smallest(), event) {",
+        "let others = Causes(causes.0 & !2).smallest();\n        match (others.filter(|cause| *cause <= 3).or(causes.smallest()), event) {",
     ),
     (
         "refusal 1 after all others",
         "events.rs",
-        "match (causes.iter().min(), event) {",
-        "match (causes.iter().min_by_key(|cause| if **cause == 1 { 14 } else { **cause }), event) {",
+        "match (causes.smallest(), event) {",
+        "let others = Causes(causes.0 & !2).smallest();\n        match (others.or(causes.smallest()), event) {",
     ),
     (
         "a space of 15,359 accepted",
@@ -202,13 +202,13 @@ const SLIPS: &[Slip] = &[
         "a call refused 1 that changes the book",
         "events.rs",
         "        let event = read(frame);\n",
-        "        let event = read(frame);\n        if let (true, Ok(event)) = (space < SPACE, &event) {\n            if self.causes(event).is_empty() {\n                self.accept(event, &mut Vec::new());\n            }\n        }\n",
+        "        let event = read(frame);\n        if let (true, Ok(event)) = (space < SPACE, &event) {\n            let mut others = Causes::default();\n            self.add_causes(event, &mut others);\n            if others.smallest().is_none() {\n                self.accept(event, &mut Vec::new());\n            }\n        }\n",
     ),
     (
         "a number taken by a refused call",
         "events.rs",
-        "            (smallest, _) => Answer {\n                answer: *smallest.expect(\"a refused frame has a cause\"),\n                value: 0,\n                records: Vec::new(),\n            },\n",
-        "            (smallest, event) => {\n                if let Ok(Event::LegOrder { .. }) = event {\n                    self.given = (self.given + 1).min(LAST_NUMBER);\n                }\n                Answer {\n                    answer: *smallest.expect(\"a refused frame has a cause\"),\n                    value: 0,\n                    records: Vec::new(),\n                }\n            }\n",
+        "            (smallest, _) => {\n",
+        "            (smallest, event) => {\n                if let Ok(Event::LegOrder { .. }) = event {\n                    self.given = (self.given + 1).min(LAST_NUMBER);\n                }\n",
     ),
     // Items, the end of the input, the day end.
     (

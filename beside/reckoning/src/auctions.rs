@@ -1,8 +1,9 @@
 //! The end of an auction: document 01, "Clock" and "Series".
 
-use crate::book::{Book, IMMEDIATE, RESPONSE};
+use crate::book::{Book, Entry, ENTRIES, IMMEDIATE, RESPONSE};
 use crate::passes::Holders;
 use crate::records::Record;
+use crate::table::Table;
 
 impl Book {
     /// "auctions begun at least the timer ago end, by strategy".
@@ -22,27 +23,21 @@ impl Book {
     /// waiting order was accepted meanwhile. Then each other entry accepted
     /// meanwhile, by number, gets a numbered pass; sweeps never use legs."
     fn end_auction(&mut self, strategy: u8, records: &mut Vec<Record>) {
-        let auction = self.auctions[usize::from(strategy)]
-            .clone()
-            .expect("the auction runs");
+        let auction = self.auctions[usize::from(strategy)].expect("the auction runs");
         self.pass(
-            strategy,
             auction.starter,
             Holders::Shared,
             !auction.legs_barred,
             records,
         );
-        for entry in self.entries(strategy) {
-            if entry.number > auction.starter {
-                let is_sweep = entry.life.is_none();
-                self.pass(
-                    strategy,
-                    entry.number,
-                    Holders::Numbered,
-                    !is_sweep,
-                    records,
-                );
-            }
+        let meanwhile: Table<Entry, ENTRIES> = self
+            .entries_of(strategy)
+            .filter(|entry| entry.number > auction.starter)
+            .copied()
+            .collect();
+        for entry in meanwhile.iter() {
+            let is_sweep = entry.life.is_none();
+            self.pass(entry.number, Holders::Numbered, !is_sweep, records);
         }
         self.close_auction(strategy, records);
     }
@@ -50,14 +45,16 @@ impl Book {
     /// "Sweeps, responses and immediates left are cancelled by number; record
     /// 5."
     pub fn close_auction(&mut self, strategy: u8, records: &mut Vec<Record>) {
-        for entry in self.entries(strategy) {
-            match entry.life {
-                None | Some(RESPONSE) | Some(IMMEDIATE) => {
-                    self.cancel_live(entry.number, records);
-                }
-                Some(_) => {}
+        self.entries.retain(|entry| {
+            let ends = match entry.life {
+                None | Some(RESPONSE) | Some(IMMEDIATE) => entry.strategy == strategy,
+                Some(_) => false,
+            };
+            if ends {
+                records.push(entry.cancelled());
             }
-        }
+            !ends
+        });
         if let Some(auction) = self.auctions[usize::from(strategy)].take() {
             records.push(Record::auction_ended(auction.starter, strategy));
         }

@@ -1,13 +1,19 @@
 //! The book: its tables, what is live in them, and the lookups.
 
 use crate::frames::Leg;
+use crate::passes::strictly_better;
 use crate::records::Record;
+use crate::table::Table;
 
 /// "Tables: 16 strategies, 16 complex orders, 16 sweeps, 32 leg orders."
 pub const STRATEGIES: usize = 16;
 pub const COMPLEX_ORDERS: usize = 16;
 pub const SWEEPS: usize = 16;
 pub const LEG_ORDERS: usize = 32;
+/// Complex orders and sweeps together.
+pub const ENTRIES: usize = COMPLEX_ORDERS + SWEEPS;
+/// A strategy has 6 legs at most.
+pub const LEGS: usize = 6;
 /// "a new order number is due and 100,000 were given".
 pub const LAST_NUMBER: u32 = 100_000;
 /// "Each event is lent space for 2,560 records", six numbers each.
@@ -33,49 +39,54 @@ pub const DO_NOT_AUCTION: u8 = 3;
 
 /// A held strategy: "Legs stand by rising series", the ratios divided by their
 /// greatest common divisor.
-#[derive(Clone, Debug, PartialEq, Eq)]
+#[derive(Clone, Copy, Debug, Default, PartialEq, Eq)]
 pub struct Strategy {
-    pub legs: Vec<Leg>,
+    /// "The series of a strategy are a 32-bit set".
+    pub series: u32,
+    pub legs: Table<Leg, LEGS>,
 }
 
 impl Strategy {
-    /// "The series of a strategy are a 32-bit set".
-    pub fn series_set(&self) -> u32 {
-        self.legs.iter().fold(0, |set, leg| set | 1 << leg.series)
-    }
-
     /// Whether one of the legs is in the series.
     pub fn holds(&self, series: u8) -> bool {
-        self.series_set() >> series & 1 == 1
+        self.series >> series & 1 == 1
     }
 }
 
-/// A complex order with its live units.
-#[derive(Clone, Debug, PartialEq, Eq)]
-pub struct ComplexOrder {
+/// What a pass looks at: a live complex order or sweep, with its live units.
+#[derive(Clone, Copy, Debug, Default, PartialEq, Eq)]
+pub struct Entry {
     pub number: u32,
     pub member: u16,
     pub strategy: u8,
     pub side: u8,
-    pub class: u8,
-    pub life: u8,
     pub units: u32,
     pub limit: i32,
+    /// The group in a shared pass: 0 "customers", 1 "sweeps and market
+    /// makers", 2 "broker-dealers".
+    pub group: u8,
+    /// The life of an order; none for a sweep.
+    pub life: Option<u8>,
 }
 
-/// A sweep with its live units.
-#[derive(Clone, Debug, PartialEq, Eq)]
-pub struct Sweep {
-    pub number: u32,
-    pub member: u16,
-    pub strategy: u8,
-    pub side: u8,
-    pub units: u32,
-    pub limit: i32,
+impl Entry {
+    /// The group of an order's class.
+    pub fn group_of(class: u8) -> u8 {
+        match class {
+            CUSTOMER => 0,
+            MARKET_MAKER => 1,
+            _ => 2,
+        }
+    }
+
+    /// The record 3 of what is live.
+    pub fn cancelled(&self) -> Record {
+        Record::cancelled(self.number, self.side, self.units)
+    }
 }
 
 /// A leg order with its live contracts.
-#[derive(Clone, Debug, PartialEq, Eq)]
+#[derive(Clone, Copy, Debug, Default, PartialEq, Eq)]
 pub struct LegOrder {
     pub number: u32,
     pub member: u16,
@@ -85,8 +96,22 @@ pub struct LegOrder {
     pub price: u32,
 }
 
+impl LegOrder {
+    /// The record 3 of what is live.
+    pub fn cancelled(&self) -> Record {
+        Record::cancelled(self.number, self.side, self.contracts)
+    }
+}
+
+/// The best price of a series and side, and its contracts.
+#[derive(Clone, Copy, Debug, PartialEq, Eq)]
+pub struct Depth {
+    pub price: u32,
+    pub contracts: u32,
+}
+
 /// A running auction of one strategy.
-#[derive(Clone, Debug, PartialEq, Eq)]
+#[derive(Clone, Copy, Debug, PartialEq, Eq)]
 pub struct Auction {
     /// The number and side of the order that started it.
     pub starter: u32,
@@ -105,29 +130,36 @@ pub struct Book {
     pub clock: u32,
     /// The open series as a 32-bit set.
     pub open: u32,
-    pub strategies: Vec<Strategy>,
-    pub complex_orders: Vec<ComplexOrder>,
-    pub sweeps: Vec<Sweep>,
-    pub leg_orders: Vec<LegOrder>,
+    pub strategies: Table<Strategy, STRATEGIES>,
+    /// The live complex orders and sweeps: two tables in one row, for passes
+    /// meet both by number.
+    pub entries: Table<Entry, ENTRIES>,
+    pub leg_orders: Table<LegOrder, LEG_ORDERS>,
+    /// The depth of each series and side, found anew whenever a leg order there
+    /// enters, trades or is cancelled.
+    depths: [[Option<Depth>; 2]; SERIES as usize],
     /// The auction of each strategy, if one runs.
-    pub auctions: Vec<Option<Auction>>,
+    pub auctions: [Option<Auction>; STRATEGIES],
     /// How many numbers were given: "Numbers rise from 1 over orders and
     /// sweeps together."
     pub given: u32,
 }
 
-/// What a pass looks at: a live complex order or sweep of one strategy.
-#[derive(Clone, Debug, PartialEq, Eq)]
-pub struct Entry {
-    pub number: u32,
-    pub side: u8,
-    pub units: u32,
-    pub limit: i32,
-    /// The group in a shared pass: 0 "customers", 1 "sweeps and market
-    /// makers", 2 "broker-dealers".
-    pub group: u8,
-    /// The life of an order; none for a sweep.
-    pub life: Option<u8>,
+/// Some of the strategies; they come by rising number.
+#[derive(Clone, Copy)]
+pub struct StrategySet(u16);
+
+impl Iterator for StrategySet {
+    type Item = u8;
+
+    fn next(&mut self) -> Option<u8> {
+        if self.0 == 0 {
+            return None;
+        }
+        let lowest = self.0.trailing_zeros();
+        self.0 &= self.0 - 1;
+        Some(lowest as u8)
+    }
 }
 
 /// One entry of "a row of order entries: series, side, contracts, price, and 0
@@ -153,11 +185,11 @@ impl Book {
             timer,
             clock: 0,
             open: 0,
-            strategies: Vec::new(),
-            complex_orders: Vec::new(),
-            sweeps: Vec::new(),
-            leg_orders: Vec::new(),
-            auctions: vec![None; STRATEGIES],
+            strategies: Table::default(),
+            entries: Table::default(),
+            leg_orders: Table::default(),
+            depths: [[None; 2]; SERIES as usize],
+            auctions: [None; STRATEGIES],
             given: 0,
         }
     }
@@ -169,13 +201,12 @@ impl Book {
 
     /// Whether every series of the strategy is open.
     pub fn all_open(&self, strategy: u8) -> bool {
-        let set = self.strategies[usize::from(strategy)].series_set();
-        set & !self.open == 0
+        self.strategies[usize::from(strategy)].series & !self.open == 0
     }
 
     /// The legs of a held strategy, by rising series.
-    pub fn legs(&self, strategy: u8) -> Vec<Leg> {
-        self.strategies[usize::from(strategy)].legs.clone()
+    pub fn legs(&self, strategy: u8) -> &[Leg] {
+        &self.strategies[usize::from(strategy)].legs
     }
 
     /// Whether an auction runs in the strategy.
@@ -184,10 +215,12 @@ impl Book {
     }
 
     /// The held strategies with a leg in the series, by number.
-    pub fn strategies_holding(&self, series: u8) -> Vec<u8> {
-        (0..self.strategies.len() as u8)
-            .filter(|strategy| self.strategies[usize::from(*strategy)].holds(series))
-            .collect()
+    pub fn strategies_holding(&self, series: u8) -> StrategySet {
+        let mut set = 0;
+        for (number, strategy) in self.strategies.iter().enumerate() {
+            set |= u16::from(strategy.holds(series)) << number;
+        }
+        StrategySet(set)
     }
 
     /// "Numbers rise from 1 over orders and sweeps together."
@@ -196,112 +229,147 @@ impl Book {
         self.given
     }
 
+    /// The live complex orders, by number.
+    pub fn complex_orders(&self) -> impl Iterator<Item = &Entry> {
+        self.entries.iter().filter(|entry| entry.life.is_some())
+    }
+
+    /// The live sweeps, by number.
+    pub fn sweeps(&self) -> impl Iterator<Item = &Entry> {
+        self.entries.iter().filter(|entry| entry.life.is_none())
+    }
+
     /// The live complex orders and sweeps of the strategy, by number.
-    pub fn entries(&self, strategy: u8) -> Vec<Entry> {
-        let mut entries = Vec::new();
-        for order in &self.complex_orders {
-            if order.strategy == strategy {
-                entries.push(Entry {
-                    number: order.number,
-                    side: order.side,
-                    units: order.units,
-                    limit: order.limit,
-                    group: match order.class {
-                        CUSTOMER => 0,
-                        MARKET_MAKER => 1,
-                        _ => 2,
-                    },
-                    life: Some(order.life),
-                });
-            }
-        }
-        for sweep in &self.sweeps {
-            if sweep.strategy == strategy {
-                entries.push(Entry {
-                    number: sweep.number,
-                    side: sweep.side,
-                    units: sweep.units,
-                    limit: sweep.limit,
-                    group: 1,
-                    life: None,
-                });
-            }
-        }
-        entries.sort_by_key(|entry| entry.number);
-        entries
+    pub fn entries_of(&self, strategy: u8) -> impl Iterator<Item = &Entry> {
+        (self.entries.iter()).filter(move |entry| entry.strategy == strategy)
     }
 
-    /// The live complex order or sweep of that number in the strategy.
-    pub fn entry(&self, strategy: u8, number: u32) -> Option<Entry> {
-        self.entries(strategy)
-            .into_iter()
-            .find(|entry| entry.number == number)
+    /// Where the live complex order or sweep of that number stands.
+    fn entry_at(&self, number: u32) -> Option<usize> {
+        (self.entries)
+            .binary_search_by_key(&number, |entry| entry.number)
+            .ok()
     }
 
-    /// Takes a quantity off whatever is live under the number; "A finished
-    /// order's slot is free again".
-    pub fn reduce(&mut self, number: u32, quantity: u32) {
-        for order in &mut self.complex_orders {
-            if order.number == number {
-                order.units -= quantity;
-            }
-        }
-        for sweep in &mut self.sweeps {
-            if sweep.number == number {
-                sweep.units -= quantity;
-            }
-        }
-        for order in &mut self.leg_orders {
-            if order.number == number {
-                order.contracts -= quantity;
-            }
-        }
-        self.complex_orders.retain(|order| order.units > 0);
-        self.sweeps.retain(|sweep| sweep.units > 0);
-        self.leg_orders.retain(|order| order.contracts > 0);
+    /// Where the live leg order of that number stands.
+    fn leg_order_at(&self, number: u32) -> Option<usize> {
+        (self.leg_orders)
+            .binary_search_by_key(&number, |order| order.number)
+            .ok()
     }
 
-    /// The side of the live order or sweep of that number.
-    fn side_of(&self, number: u32) -> u8 {
-        let complex = self.complex_orders.iter().map(|o| (o.number, o.side));
-        let sweeps = self.sweeps.iter().map(|s| (s.number, s.side));
-        let legs = self.leg_orders.iter().map(|o| (o.number, o.side));
-        complex
-            .chain(sweeps)
-            .chain(legs)
-            .find(|(held, _)| *held == number)
-            .map_or(BUY, |(_, side)| side)
+    /// The live complex order or sweep of that number.
+    pub fn entry(&self, number: u32) -> Option<Entry> {
+        self.entry_at(number).map(|at| self.entries[at])
+    }
+
+    /// The member of the live complex or leg order of that number.
+    pub fn member_of(&self, number: u32) -> Option<u16> {
+        if let Some(entry) = self.entry(number) {
+            return entry.life.map(|_| entry.member);
+        }
+        (self.leg_order_at(number)).map(|at| self.leg_orders[at].member)
+    }
+
+    /// Takes units off a complex order or sweep; "A finished order's slot is
+    /// free again".
+    pub fn take_units(&mut self, number: u32, units: u32) {
+        if let Some(at) = self.entry_at(number) {
+            self.entries[at].units -= units;
+            if self.entries[at].units == 0 {
+                self.entries.remove(at);
+            }
+        }
+    }
+
+    /// Takes contracts off a leg order; "A finished order's slot is free
+    /// again".
+    pub fn take_contracts(&mut self, number: u32, contracts: u32) {
+        if let Some(at) = self.leg_order_at(number) {
+            let order = &mut self.leg_orders[at];
+            let (series, side) = (order.series, order.side);
+            order.contracts -= contracts;
+            if order.contracts == 0 {
+                self.leg_orders.remove(at);
+            }
+            self.renew_depth(series, side);
+        }
+    }
+
+    /// A leg order that rests.
+    pub fn rest(&mut self, order: LegOrder) {
+        self.leg_orders.push(order);
+        self.renew_depth(order.series, order.side);
+    }
+
+    /// The leg orders of a series and side, by number.
+    pub fn leg_orders_of(&self, series: u8, side: u8) -> impl Iterator<Item = &LegOrder> {
+        (self.leg_orders.iter()).filter(move |order| order.series == series && order.side == side)
+    }
+
+    /// The leg order of the lowest number at the best price.
+    pub fn best_leg_order(&self, series: u8, side: u8) -> Option<LegOrder> {
+        let best = self.depth(series, side)?;
+        self.leg_orders_of(series, side)
+            .find(|order| order.price == best.price)
+            .copied()
+    }
+
+    /// "best price and its contracts, or empty".
+    pub fn depth(&self, series: u8, side: u8) -> Option<Depth> {
+        self.depths[usize::from(series)][usize::from(side)]
+    }
+
+    /// Finds the depth of a series and side whose leg orders have changed: the
+    /// price that is best for an order of the other side.
+    fn renew_depth(&mut self, series: u8, side: u8) {
+        let is_better =
+            |held: u32, new: u32| strictly_better(1 - side, i64::from(held), i64::from(new));
+        let mut best: Option<Depth> = None;
+        for order in self.leg_orders_of(series, side) {
+            match &mut best {
+                Some(depth) if depth.price == order.price => depth.contracts += order.contracts,
+                Some(depth) if is_better(depth.price, order.price) => {}
+                _ => {
+                    best = Some(Depth {
+                        price: order.price,
+                        contracts: order.contracts,
+                    })
+                }
+            }
+        }
+        self.depths[usize::from(series)][usize::from(side)] = best;
     }
 
     /// Cancels what is live under the number: one record 3, or none if nothing
     /// is live.
     pub fn cancel_live(&mut self, number: u32, records: &mut Vec<Record>) {
-        let quantity = self.live(number);
-        if quantity > 0 {
-            records.push(Record::cancelled(number, self.side_of(number), quantity));
-            self.reduce(number, quantity);
+        if let Some(at) = self.entry_at(number) {
+            records.push(self.entries[at].cancelled());
+            self.entries.remove(at);
+        } else if let Some(at) = self.leg_order_at(number) {
+            let order = self.leg_orders[at];
+            records.push(order.cancelled());
+            self.take_contracts(number, order.contracts);
         }
     }
 
     /// "Live quantity of a number (0 if none)."
     pub fn live(&self, number: u32) -> u32 {
-        let complex = self.complex_orders.iter().map(|o| (o.number, o.units));
-        let sweeps = self.sweeps.iter().map(|s| (s.number, s.units));
-        let legs = self.leg_orders.iter().map(|o| (o.number, o.contracts));
-        complex
-            .chain(sweeps)
-            .chain(legs)
-            .filter(|(held, _)| *held == number)
-            .map(|(_, quantity)| quantity)
-            .sum()
+        if let Some(at) = self.entry_at(number) {
+            self.entries[at].units
+        } else if let Some(at) = self.leg_order_at(number) {
+            self.leg_orders[at].contracts
+        } else {
+            0
+        }
     }
 
     /// Every live number, rising.
     pub fn live_numbers(&self) -> Vec<u32> {
-        let complex = self.complex_orders.iter().map(|o| o.number);
-        let sweeps = self.sweeps.iter().map(|s| s.number);
-        let legs = self.leg_orders.iter().map(|o| o.number);
-        let mut numbers: Vec<u32> = complex.chain(sweeps).chain(legs).collect();
+        let entries = self.entries.iter().map(|entry| entry.number);
+        let legs = self.leg_orders.iter().map(|order| order.number);
+        let mut numbers: Vec<u32> = entries.chain(legs).collect();
         numbers.sort_unstable();
         numbers
     }
@@ -312,7 +380,7 @@ impl Book {
         match self.strategies.get(strategy as usize) {
             None => Err(4),
             Some(held) => {
-                let shut = held.series_set() & !self.open;
+                let shut = held.series & !self.open;
                 Ok((shut.count_ones(), shut.trailing_zeros()))
             }
         }

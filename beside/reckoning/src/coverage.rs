@@ -4,12 +4,13 @@
 use crate::book::{Book, Entry, BUY, DAY, DO_NOT_AUCTION, STRATEGIES, SWEEPS};
 use crate::events::Answer;
 use crate::frames::{read, Event};
-use crate::passes::{meets, Holders};
+use crate::passes::{meets, Given, Holders};
 use crate::records::{Record, AUCTION_BEGUN, AUCTION_ENDED, CANCELLED, LEG_FILL, WHOLE_FILL};
-use std::cell::RefCell;
+use std::cell::{Cell, RefCell};
 use std::collections::{BTreeMap, BTreeSet};
 
 thread_local! {
+    static COUNTING: Cell<bool> = const { Cell::new(false) };
     static REACHED: RefCell<BTreeMap<&'static str, u64>> = const { RefCell::new(BTreeMap::new()) };
 }
 
@@ -77,8 +78,16 @@ pub const SITUATIONS: &[&str] = &[
     "turn: whole in a shared pass",
 ];
 
+/// Whether this thread counts.
+fn counting() -> bool {
+    COUNTING.get()
+}
+
 /// Counts one more occurrence of the situation on this thread.
 pub fn reach(situation: &'static str) {
+    if !counting() {
+        return;
+    }
     REACHED.with(|reached| *reached.borrow_mut().entry(situation).or_insert(0) += 1);
 }
 
@@ -89,18 +98,33 @@ pub fn reach_if(condition: bool, situation: &'static str) {
     }
 }
 
-/// The counts of this thread so far; they begin anew.
+/// The counts of this thread so far; they begin anew. A thread counts nothing
+/// before its first call.
 pub fn take() -> BTreeMap<&'static str, u64> {
+    COUNTING.set(true);
     REACHED.with(|reached| std::mem::take(&mut *reached.borrow_mut()))
 }
 
+/// Counts the units that were left over after the shares, rounded down.
+pub fn count_leftover(remaining: u32, left: u32) {
+    reach_if(remaining > 0 && left == 0, "share: no unit left over");
+    reach_if(left == 1, "share: one unit left over");
+    reach_if(left > 1, "share: several units left over");
+}
+
 /// Counts what a shared pass gave to the holders of one limit.
-pub fn count_allotment(holders: &[Entry], fills: &[(u32, u32)]) {
+pub fn count_allotment(holders: &[Entry], fills: &[Given]) {
+    if !counting() {
+        return;
+    }
     let stands = |group| holders.iter().any(|holder| holder.group == group);
     let given = |group| {
         let group = holders.iter().filter(move |holder| holder.group == group);
         group
-            .filter(|holder| fills.contains(&(holder.number, holder.units)))
+            .filter(|holder| {
+                let (number, units) = (holder.number, holder.units);
+                fills.contains(&Given { number, units })
+            })
             .count()
     };
     reach_if(
@@ -110,7 +134,7 @@ pub fn count_allotment(holders: &[Entry], fills: &[(u32, u32)]) {
     reach_if(given(1) > 1, "share: several sweeps and makers in full");
     reach_if(given(2) > 1, "share: several broker-dealers in full");
     reach_if(
-        fills.iter().any(|(_, quantity)| *quantity == 0),
+        fills.iter().any(|fill| fill.units == 0),
         "share: a holder gets nothing",
     );
 }
@@ -204,7 +228,7 @@ pub fn observe(before: &Book, frame: &[u8], answer: &Answer, after: &Book) {
                 reach_if(cancelled, "complex: do-not-auction cancelled in an auction");
                 reach_if(!cancelled, "complex: waits in an auction");
             } else if records.iter().any(|r| r.kind == AUCTION_BEGUN) {
-                let met = before.entries(strategy).iter().any(|entry| {
+                let met = before.entries_of(strategy).any(|entry| {
                     entry.side != side && meets(side, i64::from(limit), i64::from(entry.limit))
                 });
                 reach_if(met, "complex: starter met on arrival");
@@ -229,7 +253,7 @@ pub fn observe(before: &Book, frame: &[u8], answer: &Answer, after: &Book) {
             reach_if(old && units == 0, "sweep: withdrawn");
             reach_if(old && units > 0, "sweep: replaced");
             reach_if(
-                old && units > 0 && before.sweeps.len() == SWEEPS,
+                old && units > 0 && before.sweeps().count() == SWEEPS,
                 "sweep: replaced in a full table",
             );
         }
@@ -278,8 +302,8 @@ fn count_opening(before: &Book, records: &[Record]) {
     for fill in &fills {
         let Some(other) = fill.other else { continue };
         places.insert(fill.strategy);
-        let limit = |number| before.entry(fill.strategy as u8, number).map(|e| e.limit);
-        let buy = before.entry(fill.strategy as u8, fill.active);
+        let limit = |number| before.entry(number).map(|entry| entry.limit);
+        let buy = before.entry(fill.active);
         let buy_active = buy.is_some_and(|entry| entry.side == BUY);
         if limit(fill.active) != limit(other) {
             reach_if(buy_active, "opening: at the buy's limit");
@@ -300,10 +324,11 @@ fn count_opening(before: &Book, records: &[Record]) {
 fn count_end(before: &Book, records: &[Record], ended: Record, after: &Book) {
     let starter = ended.number as u32;
     let strategy = ended.place as u8;
-    let Some(auction) = before.auctions[usize::from(strategy)].clone() else {
+    let Some(auction) = before.auctions[usize::from(strategy)] else {
         return;
     };
-    let opposite_live = (before.entries(strategy).iter())
+    let opposite_live = before
+        .entries_of(strategy)
         .any(|entry| entry.number > starter && entry.side != auction.side);
     reach_if(auction.legs_barred, "end: legs barred for the starter");
     reach_if(
@@ -318,7 +343,7 @@ fn count_end(before: &Book, records: &[Record], ended: Record, after: &Book) {
     reach_if(whole && !by_legs, "end: the starter fills whole only");
     reach_if(by_legs && !whole, "end: the starter fills by legs only");
     reach_if(whole && by_legs, "end: the starter fills by both");
-    let is_sweep = |number: u32| before.sweeps.iter().any(|sweep| sweep.number == number);
+    let is_sweep = |number: u32| before.sweeps().any(|sweep| sweep.number == number);
     for fill in others {
         reach_if(fill.other.is_none(), "end: a waiting order uses legs");
         reach_if(is_sweep(fill.active), "end: a sweep's own pass fills");

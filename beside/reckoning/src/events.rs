@@ -1,9 +1,9 @@
 //! Document 01, "Refusals by cause" and "Events".
 
 use crate::book::{
-    Auction, Book, ComplexOrder, LegOrder, Sweep, BROKER_DEALER, BUY, COMPLEX_ORDERS, CUSTOMER,
-    DAY, DO_NOT_AUCTION, IMMEDIATE, LAST_NUMBER, LEG_ORDERS, RECORDS, RESPONSE, SELL, SPACE,
-    STRATEGIES, SWEEPS,
+    Auction, Book, Entry, LegOrder, BROKER_DEALER, BUY, COMPLEX_ORDERS, CUSTOMER, DAY,
+    DO_NOT_AUCTION, IMMEDIATE, LAST_NUMBER, LEG_ORDERS, RECORDS, RESPONSE, SELL, SPACE, STRATEGIES,
+    SWEEPS,
 };
 use crate::frames::{read, Event, Leg};
 use crate::nets::{normal, refused_5};
@@ -11,64 +11,86 @@ use crate::passes::{meets, Holders};
 use crate::records::{Record, AUCTION_BEGUN, LEG_FILL};
 
 /// What an event answers: 0 and a value, or the number of a refusal.
-#[derive(Clone, Debug, PartialEq, Eq)]
+#[derive(Clone, Debug, Default, PartialEq, Eq)]
 pub struct Answer {
     pub answer: u32,
     pub value: u32,
     pub records: Vec<Record>,
 }
 
+/// The causes of refusal that apply, as a set of their numbers.
+#[derive(Clone, Copy, Debug, Default, PartialEq, Eq)]
+pub struct Causes(u16);
+
+impl Causes {
+    fn add(&mut self, cause: u32) {
+        self.0 |= 1 << cause;
+    }
+
+    /// "The smallest number that applies".
+    fn smallest(self) -> Option<u32> {
+        if self.0 == 0 {
+            None
+        } else {
+            Some(self.0.trailing_zeros())
+        }
+    }
+}
+
 impl Book {
     /// One event: the frame, and the length of the record space in numbers.
+    pub fn step(&mut self, frame: &[u8], space: usize) -> Answer {
+        let mut answer = Answer::default();
+        self.step_into(frame, space, &mut answer);
+        answer
+    }
+
+    /// The same, the answer taking the place of an old one.
     /// "The smallest number that applies is given […], and never otherwise.
     /// Answer 0 is accepted." A refusal leaves the book as it was.
-    pub fn step(&mut self, frame: &[u8], space: usize) -> Answer {
-        let mut causes = Vec::new();
+    pub fn step_into(&mut self, frame: &[u8], space: usize, answer: &mut Answer) {
+        let mut causes = Causes::default();
         // "record space under 15,360 numbers".
         if space < SPACE {
-            causes.push(1);
+            causes.add(1);
         }
         let event = read(frame);
         match &event {
-            Err(refusal) => causes.push(*refusal),
-            Ok(event) => causes.extend(self.causes(event)),
+            Err(refusal) => causes.add(*refusal),
+            Ok(event) => self.add_causes(event, &mut causes),
         }
-        match (causes.iter().min(), event) {
+        answer.records.clear();
+        match (causes.smallest(), event) {
             (None, Ok(event)) => {
-                let mut records = Vec::new();
-                let value = self.accept(&event, &mut records);
-                assert!(records.len() <= RECORDS, "none needs more");
-                Answer {
-                    answer: 0,
-                    value,
-                    records,
-                }
+                answer.answer = 0;
+                answer.value = self.accept(&event, &mut answer.records);
+                assert!(answer.records.len() <= RECORDS, "none needs more");
             }
-            (smallest, _) => Answer {
-                answer: *smallest.expect("a refused frame has a cause"),
-                value: 0,
-                records: Vec::new(),
-            },
+            (smallest, _) => {
+                answer.answer = smallest.expect("a refused frame has a cause");
+                answer.value = 0;
+            }
         }
     }
 
-    /// Every cause of refusal from 4 to 13 that applies to the event, one
+    /// Adds every cause of refusal from 4 to 13 that applies to the event, one
     /// condition per row of the table.
-    pub fn causes(&self, event: &Event) -> Vec<u32> {
+    fn add_causes(&self, event: &Event, causes: &mut Causes) {
         match *event {
-            Event::Strategy { count, legs } => self.strategy_causes(&legs[..usize::from(count)]),
+            Event::Strategy { count, legs } => {
+                self.add_strategy_causes(&legs[..usize::from(count)], causes)
+            }
             Event::Complex { strategy, life, .. } => {
-                let mut causes = self.number_causes();
                 if !self.defined(strategy) {
-                    causes.push(4);
+                    causes.add(4);
                 }
                 if life == RESPONSE && !self.auction_runs(strategy) {
-                    causes.push(9);
+                    causes.add(9);
                 }
-                if self.complex_orders.len() >= COMPLEX_ORDERS {
-                    causes.push(12);
+                if self.complex_orders().count() >= COMPLEX_ORDERS {
+                    causes.add(12);
                 }
-                causes
+                self.add_number_cause(causes);
             }
             Event::Sweep {
                 member,
@@ -77,82 +99,69 @@ impl Book {
                 units,
                 limit,
             } => {
-                let mut causes = Vec::new();
                 let replaced = self.equal_sweep(member, strategy, side, limit);
                 if !self.defined(strategy) {
-                    causes.push(4);
+                    causes.add(4);
                 }
                 if !self.auction_runs(strategy) {
-                    causes.push(9);
+                    causes.add(9);
                 }
                 if units == 0 && replaced.is_none() {
-                    causes.push(10);
+                    causes.add(10);
                 }
                 // "a sweep that replaces one takes its slot"; "0 units enters
                 // nothing".
-                if units > 0 && replaced.is_none() && self.sweeps.len() >= SWEEPS {
-                    causes.push(12);
+                if units > 0 && replaced.is_none() && self.sweeps().count() >= SWEEPS {
+                    causes.add(12);
                 }
                 if units > 0 {
-                    causes.extend(self.number_causes());
+                    self.add_number_cause(causes);
                 }
-                causes
             }
             Event::LegOrder { series, .. } => {
-                let mut causes = self.number_causes();
                 if !self.is_open(series) {
-                    causes.push(6);
+                    causes.add(6);
                 }
                 if self.leg_orders.len() >= LEG_ORDERS {
-                    causes.push(12);
+                    causes.add(12);
                 }
-                causes
+                self.add_number_cause(causes);
             }
             Event::Cancel { member, number } => {
-                let mut causes = Vec::new();
-                let complex = self.complex_orders.iter().map(|o| (o.member, o.number));
-                let legs = self.leg_orders.iter().map(|o| (o.member, o.number));
-                if !complex.chain(legs).any(|held| held == (member, number)) {
-                    causes.push(7);
+                if self.member_of(number) != Some(member) {
+                    causes.add(7);
                 }
                 if self.starts_running_auction(number) {
-                    causes.push(8);
+                    causes.add(8);
                 }
-                causes
             }
-            Event::Series { .. } => Vec::new(),
+            Event::Series { .. } => {}
             Event::Clock { milliseconds } => {
                 // "clock below the last accepted one".
                 if milliseconds < self.clock {
-                    vec![11]
-                } else {
-                    Vec::new()
+                    causes.add(11);
                 }
             }
-            Event::DayEnd { .. } => Vec::new(),
+            Event::DayEnd { .. } => {}
         }
     }
 
     /// "a new order number is due and 100,000 were given".
-    fn number_causes(&self) -> Vec<u32> {
+    fn add_number_cause(&self, causes: &mut Causes) {
         if self.given >= LAST_NUMBER {
-            vec![13]
-        } else {
-            Vec::new()
+            causes.add(13);
         }
     }
 
     /// "series twice, or largest ratio over 3 × smallest"; "the table needed is
     /// full": an equal strategy "takes no slot".
-    fn strategy_causes(&self, legs: &[Leg]) -> Vec<u32> {
-        let mut causes = Vec::new();
+    fn add_strategy_causes(&self, legs: &[Leg], causes: &mut Causes) {
         if refused_5(legs) {
-            causes.push(5);
+            causes.add(5);
         }
-        if !self.strategies.contains(&normal(legs)) && self.strategies.len() >= STRATEGIES {
-            causes.push(12);
+        if self.strategies.len() >= STRATEGIES && !self.strategies.contains(&normal(legs)) {
+            causes.add(12);
         }
-        causes
     }
 
     /// Whether a strategy of that number is held.
@@ -170,8 +179,7 @@ impl Book {
 
     /// The live sweep of the "same member, strategy, side and limit".
     fn equal_sweep(&self, member: u16, strategy: u8, side: u8, limit: i32) -> Option<u32> {
-        self.sweeps
-            .iter()
+        self.sweeps()
             .find(|sweep| {
                 sweep.member == member
                     && sweep.strategy == strategy
@@ -196,19 +204,18 @@ impl Book {
                 units,
                 limit,
             } => {
-                let number = self.next_number();
-                let order = ComplexOrder {
-                    number,
+                let order = Entry {
+                    number: self.next_number(),
                     member,
                     strategy,
                     side,
-                    class,
-                    life,
                     units: u32::from(units),
                     limit,
+                    group: Entry::group_of(class),
+                    life: Some(life),
                 };
-                self.complex_order(order, records);
-                number
+                self.complex_order(&order, class, records);
+                order.number
             }
             Event::Sweep {
                 member,
@@ -226,13 +233,15 @@ impl Book {
                     return 0;
                 }
                 let number = self.next_number();
-                self.sweeps.push(Sweep {
+                self.entries.push(Entry {
                     number,
                     member,
                     strategy,
                     side,
                     units: u32::from(units),
                     limit,
+                    group: 1,
+                    life: None,
                 });
                 self.accepted_meanwhile(strategy, side);
                 number
@@ -244,9 +253,8 @@ impl Book {
                 contracts,
                 price,
             } => {
-                let number = self.next_number();
                 let order = LegOrder {
-                    number,
+                    number: self.next_number(),
                     member,
                     series,
                     side,
@@ -254,7 +262,7 @@ impl Book {
                     price,
                 };
                 self.leg_order(order, records);
-                number
+                order.number
             }
             Event::Cancel { number, .. } => {
                 // "one record 3 for what is live".
@@ -301,24 +309,23 @@ impl Book {
     }
 
     /// "**Complex order**".
-    fn complex_order(&mut self, order: ComplexOrder, records: &mut Vec<Record>) {
+    fn complex_order(&mut self, order: &Entry, class: u8, records: &mut Vec<Record>) {
         let (number, strategy, side, life) = (order.number, order.strategy, order.side, order.life);
-        let starts = self.starts_auction(&order);
-        self.complex_orders.push(order.clone());
+        self.entries.push(*order);
         if !self.all_open(strategy) {
             // "if a series is shut, day rests and others are cancelled".
-            if life != DAY {
+            if life != Some(DAY) {
                 self.cancel_live(number, records);
             }
         } else if self.auction_runs(strategy) {
             // "If an auction runs, do-not-auction is cancelled and others
             // wait."
-            if life == DO_NOT_AUCTION {
+            if life == Some(DO_NOT_AUCTION) {
                 self.cancel_live(number, records);
             } else {
                 self.accepted_meanwhile(strategy, side);
             }
-        } else if starts {
+        } else if self.starts_auction(order, class) {
             records.push(Record::new(
                 AUCTION_BEGUN,
                 number,
@@ -335,8 +342,8 @@ impl Book {
             });
         } else {
             // "Else a shared pass; then day rests, others are cancelled."
-            self.pass(strategy, number, Holders::Shared, true, records);
-            if life != DAY {
+            self.pass(number, Holders::Shared, true, records);
+            if life != Some(DAY) {
                 self.cancel_live(number, records);
             }
         }
@@ -345,32 +352,31 @@ impl Book {
     /// "class 1 or 2 with life 0 or 1 starts an auction if its limit is better
     /// than the known leg net of its own side (buy above bid net, sell below
     /// offer net)".
-    fn starts_auction(&self, order: &ComplexOrder) -> bool {
+    fn starts_auction(&self, order: &Entry, class: u8) -> bool {
         let limit = i64::from(order.limit);
-        let better = if order.side == BUY {
-            self.bid_net(order.strategy).is_some_and(|net| limit > net)
-        } else {
-            self.offer_net(order.strategy)
-                .is_some_and(|net| limit < net)
+        let better = || {
+            if order.side == BUY {
+                self.bid_net(order.strategy).is_some_and(|net| limit > net)
+            } else {
+                self.offer_net(order.strategy)
+                    .is_some_and(|net| limit < net)
+            }
         };
-        (order.class == CUSTOMER || order.class == BROKER_DEALER)
-            && (order.life == DAY || order.life == IMMEDIATE)
-            && better
+        (class == CUSTOMER || class == BROKER_DEALER)
+            && (order.life == Some(DAY) || order.life == Some(IMMEDIATE))
+            && better()
     }
 
     /// "**Leg order**: trades with opposite leg orders that meet its price,
     /// best price then number, at the resting price, incoming record first. If
     /// any rests", the legs-only passes.
-    fn leg_order(&mut self, incoming: LegOrder, records: &mut Vec<Record>) {
-        let number = incoming.number;
+    fn leg_order(&mut self, mut incoming: LegOrder, records: &mut Vec<Record>) {
         let limit = i64::from(incoming.price);
-        self.leg_orders.push(incoming.clone());
-        while self.live(number) > 0 {
-            let best = self.best_leg_orders(incoming.series, 1 - incoming.side);
-            match best.first() {
+        while incoming.contracts > 0 {
+            match self.best_leg_order(incoming.series, 1 - incoming.side) {
                 Some(resting) if meets(incoming.side, limit, i64::from(resting.price)) => {
-                    let contracts = self.live(number).min(resting.contracts);
-                    for order in [&incoming, resting] {
+                    let contracts = incoming.contracts.min(resting.contracts);
+                    for order in [&incoming, &resting] {
                         records.push(Record::new(
                             LEG_FILL,
                             order.number,
@@ -380,13 +386,14 @@ impl Book {
                             i64::from(resting.price),
                         ));
                     }
-                    self.reduce(number, contracts);
-                    self.reduce(resting.number, contracts);
+                    incoming.contracts -= contracts;
+                    self.take_contracts(resting.number, contracts);
                 }
                 _ => break,
             }
         }
-        if self.live(number) > 0 {
+        if incoming.contracts > 0 {
+            self.rest(incoming);
             self.legs_only_passes(incoming.series, records);
         }
     }
@@ -416,18 +423,15 @@ impl Book {
     /// at the lower number's limit, its order active".
     fn opening_match(&mut self, strategy: u8, records: &mut Vec<Record>) {
         loop {
-            // The entries stand by number, so the first of the best price is
-            // the one of the lowest number.
-            let entries = self.entries(strategy);
-            let buy = entries
-                .iter()
+            let buy = self
+                .entries_of(strategy)
                 .filter(|entry| entry.side == BUY)
                 .min_by_key(|entry| (-entry.limit, entry.number));
-            let sell = entries
-                .iter()
+            let sell = self
+                .entries_of(strategy)
                 .filter(|entry| entry.side == SELL)
                 .min_by_key(|entry| (entry.limit, entry.number));
-            match (buy, sell) {
+            match (buy.copied(), sell.copied()) {
                 (Some(buy), Some(sell)) if buy.limit >= sell.limit => {
                     let (active, other) = if buy.number < sell.number {
                         (buy, sell)
@@ -435,8 +439,7 @@ impl Book {
                         (sell, buy)
                     };
                     self.whole_fill(
-                        strategy,
-                        active.number,
+                        &active,
                         other.number,
                         buy.units.min(sell.units),
                         i64::from(active.limit),
@@ -451,14 +454,15 @@ impl Book {
     /// "**Day end**: records 5 by strategy, 3 by number, then a fresh book with
     /// the new timer."
     fn day_end(&mut self, timer: u32, records: &mut Vec<Record>) {
-        for strategy in 0..STRATEGIES as u8 {
-            if let Some(auction) = self.auctions[usize::from(strategy)].take() {
-                records.push(Record::auction_ended(auction.starter, strategy));
+        for (strategy, auction) in self.auctions.iter().enumerate() {
+            if let Some(auction) = auction {
+                records.push(Record::auction_ended(auction.starter, strategy as u8));
             }
         }
-        for number in self.live_numbers() {
-            self.cancel_live(number, records);
-        }
+        let first = records.len();
+        records.extend(self.entries.iter().map(Entry::cancelled));
+        records.extend(self.leg_orders.iter().map(LegOrder::cancelled));
+        records[first..].sort_unstable_by_key(|record| record.number);
         *self = Book::fresh(timer);
     }
 }

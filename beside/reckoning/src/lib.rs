@@ -15,5 +15,6 @@ pub mod lists;
 pub mod nets;
 pub mod passes;
 pub mod records;
+pub mod table;
 pub mod tape;
 pub mod totals;

@@ -3,8 +3,8 @@
 //! reach auctions, sharing, halts, openings and full tables.
 
 use crate::book::{
-    Book, BUY, COMPLEX_ORDERS, CUSTOMER, DAY, DO_NOT_AUCTION, IMMEDIATE, LAST_NUMBER, LEG_ORDERS,
-    MARKET_MAKER, RESPONSE, SPACE, STRATEGIES, SWEEPS,
+    Book, Entry, BUY, COMPLEX_ORDERS, CUSTOMER, DAY, DO_NOT_AUCTION, IMMEDIATE, LAST_NUMBER,
+    LEG_ORDERS, MARKET_MAKER, RESPONSE, SPACE, STRATEGIES, SWEEPS,
 };
 use crate::frames::{bytes, Event, Leg};
 use crate::generate::{damaged_frame, edge_event, valid_event, Random};
@@ -259,8 +259,8 @@ impl Maker {
         if usize::from(strategy) < self.book.strategies.len() {
             choices.extend(self.book.offer_net(strategy));
             choices.extend(self.book.bid_net(strategy));
-            let entries = self.book.entries(strategy);
-            choices.extend(entries.iter().map(|entry| i64::from(entry.limit)));
+            let entries = self.book.entries_of(strategy);
+            choices.extend(entries.map(|entry| i64::from(entry.limit)));
             if choices.is_empty() {
                 let legs = self.book.legs(strategy);
                 let middle = legs.iter().map(|leg| {
@@ -292,7 +292,7 @@ impl Maker {
         let mut legs: Vec<Leg>;
         if held > 0 && self.random.chance(1, 3) {
             let strategy = self.some_strategy();
-            legs = self.book.legs(strategy);
+            legs = self.book.legs(strategy).to_vec();
             let largest = legs.iter().map(|leg| leg.ratio).max().unwrap_or(1);
             let times = self.random.range(1, i64::from(12 / largest)) as u8;
             for leg in &mut legs {
@@ -347,14 +347,14 @@ impl Maker {
     /// price, or meets the other side.
     fn leg_order_event(&mut self, series: u8, side: u8) {
         let centre = self.centres[usize::from(series)];
-        let own = self.book.best_leg_orders(series, side);
-        let other = self.book.best_leg_orders(series, 1 - side);
+        let own = self.book.depth(series, side);
+        let other = self.book.depth(series, 1 - side);
         let away = if side == BUY { -1 } else { 1 };
         let near = centre + away * self.random.range(0, 3);
-        let price = match (self.random.below(10), own.first(), other.first()) {
-            (0, _, Some(order)) => i64::from(order.price) + away * self.random.range(-2, 0),
-            (1..=2, Some(order), _) => i64::from(order.price) - away,
-            (3..=5, Some(order), _) => i64::from(order.price),
+        let price = match (self.random.below(10), own, other) {
+            (0, _, Some(best)) => i64::from(best.price) + away * self.random.range(-2, 0),
+            (1..=2, Some(best), _) => i64::from(best.price) - away,
+            (3..=5, Some(best), _) => i64::from(best.price),
             _ => near,
         };
         let member = self.member();
@@ -400,10 +400,9 @@ impl Maker {
     fn sweep_event(&mut self, strategy: u8) {
         let live: Vec<_> = self
             .book
-            .sweeps
-            .iter()
+            .sweeps()
             .filter(|sweep| sweep.strategy == strategy)
-            .cloned()
+            .copied()
             .collect();
         if !live.is_empty() && self.random.chance(1, 5) {
             let old = &live[self.random.below(live.len())];
@@ -441,15 +440,10 @@ impl Maker {
     /// A cancel of a live order by its member; a starter or a sweep included.
     fn cancel_event(&mut self) {
         let mut live: Vec<(u16, u32)> = Vec::new();
-        live.extend(
-            self.book
-                .complex_orders
-                .iter()
-                .map(|o| (o.member, o.number)),
-        );
+        live.extend(self.book.complex_orders().map(|o| (o.member, o.number)));
         live.extend(self.book.leg_orders.iter().map(|o| (o.member, o.number)));
         if live.is_empty() || self.random.chance(1, 20) {
-            live.extend(self.book.sweeps.iter().map(|s| (s.member, s.number)));
+            live.extend(self.book.sweeps().map(|s| (s.member, s.number)));
             live.push((self.member(), self.random.range(1, 100_000) as u32));
         }
         let (mut member, number) = self.random.pick(&live);
@@ -471,12 +465,11 @@ impl Maker {
             .collect();
         let others: Vec<(u16, u32)> = self
             .book
-            .complex_orders
-            .iter()
+            .complex_orders()
             .map(|order| (order.member, order.number))
             .filter(|(_, number)| !starters.contains(number))
             .collect();
-        let held = self.book.complex_orders.len();
+        let held = self.book.complex_orders().count();
         let excess = (held + slots).saturating_sub(COMPLEX_ORDERS);
         for (member, number) in others.into_iter().take(excess) {
             self.push(Event::Cancel { member, number });
@@ -531,7 +524,7 @@ impl Maker {
             let series = self.some_series();
             return self.series_event(series, 0);
         }
-        let full = self.book.complex_orders.len() >= COMPLEX_ORDERS - 1
+        let full = self.book.complex_orders().count() >= COMPLEX_ORDERS - 1
             || self.book.leg_orders.len() >= LEG_ORDERS - 1;
         if full && self.random.chance(1, 2) {
             return self.cancel_event();
@@ -625,11 +618,9 @@ impl Maker {
             }
             6 => {
                 if let Some(running) = self.some_auction() {
-                    let auction = self.book.auctions[usize::from(running)].clone();
+                    let auction = self.book.auctions[usize::from(running)];
                     let starter = auction.map_or(1, |auction| auction.starter);
-                    let held = (self.book.complex_orders.iter())
-                        .find(|order| order.number == starter)
-                        .map_or(member, |order| order.member);
+                    let held = (self.book.entry(starter)).map_or(member, |order| order.member);
                     self.push(Event::Cancel {
                         member: held,
                         number: starter,
@@ -662,14 +653,12 @@ impl Maker {
     /// Opens every series of the strategy and gives it leg orders on both
     /// sides.
     fn make_ready(&mut self, strategy: u8) {
-        for leg in self.book.legs(strategy) {
+        for leg in self.book.legs(strategy).to_vec() {
             if !self.book.is_open(leg.series) {
                 self.series_event(leg.series, 1);
             }
             for side in 0..2 {
-                if self.book.best_leg_orders(leg.series, side).is_empty()
-                    && self.random.chance(19, 20)
-                {
+                if self.book.depth(leg.series, side).is_none() && self.random.chance(19, 20) {
                     self.make_leg_room(1);
                     self.leg_order_event(leg.series, side);
                 }
@@ -739,7 +728,7 @@ impl Maker {
         let crowded = self.random.chance(1, 2);
         for _ in 0..entries {
             let strategy = self.random.pick(&chosen);
-            let Some(auction) = self.book.auctions[usize::from(strategy)].clone() else {
+            let Some(auction) = self.book.auctions[usize::from(strategy)] else {
                 continue;
             };
             let part = if crowded { 9 } else { 6 };
@@ -749,7 +738,7 @@ impl Maker {
                 auction.side
             };
             let part = if crowded { 9 } else { 4 };
-            let limit = match self.book.entry(strategy, auction.starter) {
+            let limit = match self.book.entry(auction.starter) {
                 Some(starter) if self.random.chance(part, 10) => starter.limit,
                 _ => self.some_limit(strategy),
             };
@@ -774,7 +763,7 @@ impl Maker {
                 17 => self.complex_event(strategy, side, CUSTOMER, DO_NOT_AUCTION, limit),
                 18 => {
                     let legs = self.book.legs(strategy);
-                    let leg = self.random.pick(&legs);
+                    let leg = self.random.pick(legs);
                     let side = self.random.range(0, 1) as u8;
                     self.leg_order_event(leg.series, side);
                 }
@@ -803,7 +792,7 @@ impl Maker {
     /// Withdraws every sweep and waiting order on the other side of the
     /// strategy's auction, after adding one.
     fn withdraw_opposite(&mut self, strategy: u8) {
-        let Some(auction) = self.book.auctions[usize::from(strategy)].clone() else {
+        let Some(auction) = self.book.auctions[usize::from(strategy)] else {
             return;
         };
         let side = 1 - auction.side;
@@ -817,7 +806,8 @@ impl Maker {
             units,
             limit,
         });
-        for sweep in self.book.sweeps.clone() {
+        let sweeps: Vec<Entry> = self.book.sweeps().copied().collect();
+        for sweep in sweeps {
             if sweep.strategy == strategy && sweep.side == side {
                 self.push(Event::Sweep {
                     member: sweep.member,
@@ -828,7 +818,8 @@ impl Maker {
                 });
             }
         }
-        for order in self.book.complex_orders.clone() {
+        let orders: Vec<Entry> = self.book.complex_orders().copied().collect();
+        for order in orders {
             if order.strategy == strategy
                 && order.side == side
                 && (order.number > auction.starter || self.random.chance(1, 2))
@@ -850,12 +841,12 @@ impl Maker {
         if self.random.chance(2, 3) {
             self.make_ready(strategy);
         }
-        let legs = self.book.legs(strategy);
+        let legs = self.book.legs(strategy).to_vec();
         let series = self.random.pick(&legs).series;
         if self.book.is_open(series) {
             self.series_event(series, 0);
         }
-        let holding = self.book.strategies_holding(series);
+        let holding: Vec<u8> = self.book.strategies_holding(series).collect();
         let slots = self.random.range(2, 14) as usize;
         self.make_complex_room(slots);
         let shift = self.random.range(0, 4) as i32;
@@ -910,7 +901,7 @@ impl Maker {
                     };
                     let limit = limit.clamp(-9_999_999, 9_999_999);
                     self.complex_event(strategy, side, MARKET_MAKER, DAY, limit);
-                    if self.book.complex_orders.len() == COMPLEX_ORDERS {
+                    if self.book.complex_orders().count() == COMPLEX_ORDERS {
                         self.any_complex_event();
                         self.any_complex_event();
                         break;
@@ -933,7 +924,7 @@ impl Maker {
                             units,
                             limit,
                         });
-                        if self.book.sweeps.len() == SWEEPS && self.random.chance(1, 3) {
+                        if self.book.sweeps().count() == SWEEPS && self.random.chance(1, 3) {
                             break;
                         }
                     }
@@ -971,7 +962,7 @@ impl Maker {
             let limit = self.some_limit(strategy);
             self.complex_event(strategy, side, MARKET_MAKER, DAY, limit);
         }
-        for leg in self.book.legs(strategy) {
+        for leg in self.book.legs(strategy).to_vec() {
             let leg_side = 1 - crate::nets::side_taken(side, &leg);
             self.make_leg_room(2);
             self.leg_order_event(leg.series, leg_side);
@@ -1000,7 +991,7 @@ impl Maker {
         self.make_complex_room(COMPLEX_ORDERS);
         self.make_leg_room(LEG_ORDERS);
         let side = self.random.range(0, 1) as u8;
-        let legs = self.book.legs(strategy);
+        let legs = self.book.legs(strategy).to_vec();
         for leg in &legs {
             if !self.book.is_open(leg.series) {
                 self.series_event(leg.series, 1);
@@ -1097,7 +1088,8 @@ impl Maker {
             self.make_complex_room(1);
             self.complex_event(strategy, BUY, MARKET_MAKER, DO_NOT_AUCTION, -9_000_000);
         }
-        for sweep in self.book.sweeps.clone() {
+        let sweeps: Vec<Entry> = self.book.sweeps().copied().collect();
+        for sweep in sweeps {
             for units in [1, 0, 0] {
                 self.push(Event::Sweep {
                     member: sweep.member,

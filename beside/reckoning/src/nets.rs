@@ -1,7 +1,8 @@
 //! Document 01, "Strategies and nets".
 
-use crate::book::{Book, LegOrder, Strategy, BUY};
+use crate::book::{Book, Strategy, BUY, LEGS};
 use crate::frames::Leg;
+use crate::table::Table;
 
 /// Ratios are divided by their greatest common divisor, "found by Euclid's
 /// step calling itself".
@@ -19,23 +20,30 @@ pub fn normal(legs: &[Leg]) -> Strategy {
     let divisor = legs
         .iter()
         .fold(0, |divisor, leg| common_divisor(divisor, leg.ratio));
-    let mut legs: Vec<Leg> = legs
+    let mut legs: Table<Leg, LEGS> = legs
         .iter()
         .map(|leg| Leg {
             ratio: leg.ratio / divisor,
             ..*leg
         })
         .collect();
-    legs.sort_by_key(|leg| leg.series);
-    Strategy { legs }
+    legs.sort_unstable_by_key(|leg| leg.series);
+    Strategy {
+        series: series_set(&legs),
+        legs,
+    }
+}
+
+/// "The series of a strategy are a 32-bit set".
+fn series_set(legs: &[Leg]) -> u32 {
+    legs.iter().fold(0, |set, leg| set | 1 << leg.series)
 }
 
 /// "series twice, or largest ratio over 3 × smallest".
 pub fn refused_5(legs: &[Leg]) -> bool {
-    let set = legs.iter().fold(0u32, |set, leg| set | 1 << leg.series);
     let largest = legs.iter().map(|leg| leg.ratio).max().unwrap_or(0);
     let smallest = legs.iter().map(|leg| leg.ratio).min().unwrap_or(0);
-    set.count_ones() as usize != legs.len() || largest > 3 * smallest
+    series_set(legs).count_ones() as usize != legs.len() || largest > 3 * smallest
 }
 
 /// "A buy takes each leg on its own side, a sell on the other."
@@ -49,7 +57,7 @@ pub fn side_taken(order_side: u8, leg: &Leg) -> u8 {
 
 /// What one leg offers to an order that takes it: the best price, and its
 /// contracts.
-#[derive(Clone, Debug, PartialEq, Eq)]
+#[derive(Clone, Copy, Debug, Default, PartialEq, Eq)]
 pub struct LegPrice {
     pub leg: Leg,
     /// The side the order takes on this leg.
@@ -59,44 +67,22 @@ pub struct LegPrice {
 }
 
 impl Book {
-    /// The leg orders of a series and side at their best price, by number.
-    pub fn best_leg_orders(&self, series: u8, side: u8) -> Vec<LegOrder> {
-        let held: Vec<&LegOrder> = self
-            .leg_orders
-            .iter()
-            .filter(|order| order.series == series && order.side == side)
-            .collect();
-        let prices = held.iter().map(|order| order.price);
-        let best = if side == BUY {
-            prices.max()
-        } else {
-            prices.min()
-        };
-        held.into_iter()
-            .filter(|order| Some(order.price) == best)
-            .cloned()
-            .collect()
-    }
-
     /// The best prices that an order of this side takes leg by leg: "Offer net
     /// takes offers for buy legs, bids for sell legs; bid net the reverse;
     /// unknown if a price is missing."
-    pub fn leg_prices(&self, strategy: u8, order_side: u8) -> Option<Vec<LegPrice>> {
-        self.legs(strategy)
-            .into_iter()
-            .map(|leg| {
-                let side = side_taken(order_side, &leg);
-                let orders = self.best_leg_orders(leg.series, 1 - side);
-                let price = orders.first()?.price;
-                let contracts = orders.iter().map(|order| order.contracts).sum();
-                Some(LegPrice {
-                    leg,
-                    side,
-                    price,
-                    contracts,
-                })
-            })
-            .collect()
+    pub fn leg_prices(&self, strategy: u8, order_side: u8) -> Option<Table<LegPrice, LEGS>> {
+        let mut prices = Table::default();
+        for leg in self.legs(strategy) {
+            let side = side_taken(order_side, leg);
+            let best = self.depth(leg.series, 1 - side)?;
+            prices.push(LegPrice {
+                leg: *leg,
+                side,
+                price: best.price,
+                contracts: best.contracts,
+            });
+        }
+        Some(prices)
     }
 
     /// The net that an order of this side takes: the offer net for a buy, the

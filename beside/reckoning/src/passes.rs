@@ -1,9 +1,10 @@
 //! Document 01, "Passes".
 
-use crate::book::{Book, Entry, BUY, DAY};
-use crate::coverage::{count_allotment, count_turn, reach_if};
+use crate::book::{Book, Entry, BUY, COMPLEX_ORDERS, DAY, ENTRIES};
+use crate::coverage::{count_allotment, count_leftover, count_turn};
 use crate::nets::{net, ready, side_taken, LegPrice};
 use crate::records::{Record, LEG_FILL, WHOLE_FILL};
+use crate::table::Table;
 
 /// How the holders of one limit are met.
 #[derive(Clone, Copy, Debug, PartialEq, Eq)]
@@ -14,6 +15,13 @@ pub enum Holders {
     Numbered,
     /// A pass by legs only meets no holder.
     Nobody,
+}
+
+/// What one holder gives to the active order.
+#[derive(Clone, Copy, Debug, Default, PartialEq, Eq)]
+pub struct Given {
+    pub number: u32,
+    pub units: u32,
 }
 
 /// Whether a price meets a limit: not above it for a buy, not below it for a
@@ -36,154 +44,146 @@ pub fn strictly_better(side: u8, first: i64, second: i64) -> bool {
     }
 }
 
-/// The quantities a group gives: all of each when the group is not larger than
-/// what remains, else "remaining × size / group total, rounded down, then one
-/// unit each by number until none is left". The sizes stand by number.
-pub fn share(remaining: u32, sizes: &[u32]) -> Vec<u32> {
-    let total: u64 = sizes.iter().map(|size| u64::from(*size)).sum();
-    if total <= u64::from(remaining) {
-        return sizes.to_vec();
+/// Turns a group's sizes into what it gives: all of each when the group is not
+/// larger than what remains, else "remaining × size / group total, rounded down,
+/// then one unit each by number until none is left". The group stands by number.
+pub fn share(remaining: u32, group: &mut [Given]) {
+    let total = sum(group);
+    if total <= remaining {
+        return;
     }
-    let mut shares: Vec<u32> = sizes
-        .iter()
-        .map(|size| (u64::from(remaining) * u64::from(*size) / total) as u32)
-        .collect();
-    let mut left = remaining - shares.iter().sum::<u32>();
-    reach_if(remaining > 0 && left == 0, "share: no unit left over");
-    reach_if(left == 1, "share: one unit left over");
-    reach_if(left > 1, "share: several units left over");
-    for share in &mut shares {
+    for size in group.iter_mut() {
+        size.units = (u64::from(remaining) * u64::from(size.units) / u64::from(total)) as u32;
+    }
+    let mut left = remaining - sum(group);
+    count_leftover(remaining, left);
+    for share in group {
         if left > 0 {
-            *share += 1;
+            share.units += 1;
             left -= 1;
         }
     }
-    shares
 }
 
-/// Quantities in turn: each holder gives all it has while any remains.
-fn in_turn(remaining: u32, sizes: &[u32]) -> Vec<u32> {
+/// Turns sizes into what is given in turn: each all it has while any remains.
+fn in_turn(remaining: u32, group: &mut [Given]) {
     let mut left = remaining;
-    sizes
-        .iter()
-        .map(|size| {
-            let quantity = left.min(*size);
-            left -= quantity;
-            quantity
-        })
-        .collect()
+    for size in group {
+        size.units = left.min(size.units);
+        left -= size.units;
+    }
+}
+
+/// The units of a group.
+fn sum(group: &[Given]) -> u32 {
+    group.iter().map(|given| given.units).sum()
 }
 
 /// What each holder of one limit gives, in the order of the fills. The holders
 /// stand by number.
-pub fn allot(holders: &[Entry], how: Holders, units: u32) -> Vec<(u32, u32)> {
-    let mut fills = Vec::new();
+pub fn allot(holders: &[Entry], how: Holders, units: u32) -> Table<Given, ENTRIES> {
+    let size = |holder: &Entry| Given {
+        number: holder.number,
+        units: holder.units,
+    };
+    let mut fills: Table<Given, ENTRIES> = Table::default();
     if how == Holders::Numbered {
-        let sizes: Vec<u32> = holders.iter().map(|holder| holder.units).collect();
-        let numbers = holders.iter().map(|holder| holder.number);
-        fills.extend(numbers.zip(in_turn(units, &sizes)));
+        fills.extend(holders.iter().map(size));
+        in_turn(units, &mut fills);
     } else {
         let mut remaining = units;
         // "customers by number; then sweeps and market makers; then
         // broker-dealers".
         for group in 0..3 {
-            let members: Vec<&Entry> = holders.iter().filter(|h| h.group == group).collect();
-            let sizes: Vec<u32> = members.iter().map(|holder| holder.units).collect();
-            let quantities = if group == 0 {
-                in_turn(remaining, &sizes)
+            let first = fills.len();
+            fills.extend(holders.iter().filter(|h| h.group == group).map(size));
+            let members = &mut fills[first..];
+            if group == 0 {
+                in_turn(remaining, members);
             } else {
-                share(remaining, &sizes)
-            };
-            remaining -= quantities.iter().sum::<u32>();
-            let numbers = members.iter().map(|holder| holder.number);
-            fills.extend(numbers.zip(quantities));
+                share(remaining, members);
+            }
+            remaining -= sum(members);
         }
         count_allotment(holders, &fills);
     }
     // "No fill record has quantity 0."
-    fills.retain(|(_, quantity)| *quantity > 0);
+    fills.retain(|fill| fill.units > 0);
     fills
 }
 
 impl Book {
-    /// The live entries on the other side at "the best opposite limit in the
-    /// strategy", by number.
-    fn best_opposite(&self, strategy: u8, side: u8) -> Vec<Entry> {
-        let opposite: Vec<Entry> = self
-            .entries(strategy)
-            .into_iter()
-            .filter(|entry| entry.side != side)
-            .collect();
-        let limits = opposite.iter().map(|entry| entry.limit);
-        let best = if side == BUY {
+    /// The live entries of the strategy on the other side, by number.
+    fn opposite(&self, active: &Entry) -> impl Iterator<Item = &Entry> {
+        let side = active.side;
+        self.entries_of(active.strategy)
+            .filter(move |entry| entry.side != side)
+    }
+
+    /// "the best opposite limit in the strategy".
+    fn best_opposite(&self, active: &Entry) -> Option<i32> {
+        let limits = self.opposite(active).map(|entry| entry.limit);
+        if active.side == BUY {
             limits.min()
         } else {
             limits.max()
-        };
-        opposite
-            .into_iter()
-            .filter(|entry| Some(entry.limit) == best)
-            .collect()
+        }
     }
 
     /// "A pass fills one active order. Repeat while units of it remain: take
     /// the best opposite limit in the strategy, or the leg net […] if the legs
     /// are ready and it is strictly better for the active order or no opposite
     /// limit stands. Stop when neither meets its limit."
-    pub fn pass(
-        &mut self,
-        strategy: u8,
-        number: u32,
-        holders: Holders,
-        legs: bool,
-        records: &mut Vec<Record>,
-    ) {
-        while let Some(active) = self.entry(strategy, number) {
+    pub fn pass(&mut self, number: u32, holders: Holders, legs: bool, records: &mut Vec<Record>) {
+        while let Some(active) = self.entry(number) {
             let limit = i64::from(active.limit);
-            let opposite = if holders == Holders::Nobody {
-                Vec::new()
+            let whole = if holders == Holders::Nobody {
+                None
             } else {
-                self.best_opposite(strategy, active.side)
+                self.best_opposite(&active).map(i64::from)
             };
-            let whole = opposite.first().map(|entry| i64::from(entry.limit));
             let prices = if legs {
-                self.leg_prices(strategy, active.side)
-                    .filter(|prices| ready(prices))
+                self.leg_prices(active.strategy, active.side)
             } else {
                 None
             };
-            let leg_net = prices.as_deref().map(net);
-            let leg_turn = prices.filter(|prices| match whole {
+            let prices = prices.as_deref().filter(|prices| ready(prices));
+            let leg_net = prices.map(net);
+            let leg_turn = leg_net.filter(|net| match whole {
                 None => true,
-                Some(price) => strictly_better(active.side, net(prices), price),
+                Some(price) => strictly_better(active.side, *net, price),
             });
-            match (leg_turn, whole) {
-                (Some(prices), _) if meets(active.side, limit, net(&prices)) => {
+            match (prices, leg_turn, whole) {
+                (Some(prices), Some(net), _) if meets(active.side, limit, net) => {
                     count_turn(holders, true, leg_net, whole);
-                    self.leg_fill(strategy, &active, &prices, records);
+                    self.leg_fill(&active, prices, records);
                 }
-                (None, Some(price)) if meets(active.side, limit, price) => {
+                (_, None, Some(price)) if meets(active.side, limit, price) => {
                     count_turn(holders, false, leg_net, whole);
-                    for (other, units) in allot(&opposite, holders, active.units) {
-                        self.whole_fill(strategy, number, other, units, price, records);
-                    }
+                    self.whole_turn(&active, price, holders, records);
                 }
                 _ => return,
             }
         }
     }
 
+    /// All fills at one opposite limit.
+    fn whole_turn(&mut self, active: &Entry, limit: i64, how: Holders, records: &mut Vec<Record>) {
+        let holders: Table<Entry, ENTRIES> = self
+            .opposite(active)
+            .filter(|entry| i64::from(entry.limit) == limit)
+            .copied()
+            .collect();
+        for fill in allot(&holders, how, active.units).iter() {
+            self.whole_fill(active, fill.number, fill.units, limit, records);
+        }
+    }
+
     /// "Legs: units = the least of what remains and each best price's contracts
-    /// divided by ratio, rounded down; leg orders at one price go by number."
+    /// divided by ratio, rounded down".
     /// Records: the active order's whole fill, its leg fills by leg, then the
     /// leg orders' leg fills.
-    fn leg_fill(
-        &mut self,
-        strategy: u8,
-        active: &Entry,
-        prices: &[LegPrice],
-        records: &mut Vec<Record>,
-    ) {
+    fn leg_fill(&mut self, active: &Entry, prices: &[LegPrice], records: &mut Vec<Record>) {
         let units = prices
             .iter()
             .map(|entry| entry.contracts / u32::from(entry.leg.ratio))
@@ -191,7 +191,7 @@ impl Book {
         records.push(Record::new(
             WHOLE_FILL,
             active.number,
-            strategy,
+            active.strategy,
             active.side,
             units,
             net(prices),
@@ -207,24 +207,31 @@ impl Book {
             ));
         }
         for entry in prices {
-            let mut remaining = units * u32::from(entry.leg.ratio);
-            for order in self.best_leg_orders(entry.leg.series, 1 - entry.side) {
-                let contracts = remaining.min(order.contracts);
-                if contracts > 0 {
-                    records.push(Record::new(
-                        LEG_FILL,
-                        order.number,
-                        order.series,
-                        order.side,
-                        contracts,
-                        i64::from(order.price),
-                    ));
-                    self.reduce(order.number, contracts);
-                    remaining -= contracts;
-                }
-            }
+            self.fill_leg_orders(entry, units * u32::from(entry.leg.ratio), records);
         }
-        self.reduce(active.number, units);
+        self.take_units(active.number, units);
+    }
+
+    /// "leg orders at one price go by number." Those at the best price hold
+    /// enough.
+    fn fill_leg_orders(&mut self, best: &LegPrice, contracts: u32, records: &mut Vec<Record>) {
+        let mut remaining = contracts;
+        while remaining > 0 {
+            let Some(order) = self.best_leg_order(best.leg.series, 1 - best.side) else {
+                return;
+            };
+            let taken = remaining.min(order.contracts);
+            records.push(Record::new(
+                LEG_FILL,
+                order.number,
+                order.series,
+                order.side,
+                taken,
+                i64::from(order.price),
+            ));
+            self.take_contracts(order.number, taken);
+            remaining -= taken;
+        }
     }
 
     /// "Records of a fill: the active order's whole fill, its leg fills by leg,
@@ -232,18 +239,14 @@ impl Book {
     /// whole".
     pub fn whole_fill(
         &mut self,
-        strategy: u8,
-        active: u32,
+        active: &Entry,
         other: u32,
         units: u32,
         price: i64,
         records: &mut Vec<Record>,
     ) {
-        for number in [active, other] {
-            let side = self
-                .entry(strategy, number)
-                .expect("both sides of a fill are live")
-                .side;
+        let strategy = active.strategy;
+        for (number, side) in [(active.number, active.side), (other, 1 - active.side)] {
             records.push(Record::new(
                 WHOLE_FILL, number, strategy, side, units, price,
             ));
@@ -252,14 +255,13 @@ impl Book {
                     LEG_FILL,
                     number,
                     leg.series,
-                    side_taken(side, &leg),
+                    side_taken(side, leg),
                     units * u32::from(leg.ratio),
                     0,
                 ));
             }
+            self.take_units(number, units);
         }
-        self.reduce(active, units);
-        self.reduce(other, units);
     }
 
     /// The legs-only passes after a leg order or an opening: "each day order by
@@ -270,10 +272,13 @@ impl Book {
             if !self.all_open(strategy) || self.auction_runs(strategy) {
                 continue;
             }
-            for entry in self.entries(strategy) {
-                if entry.life == Some(DAY) {
-                    self.pass(strategy, entry.number, Holders::Nobody, true, records);
-                }
+            let day_orders: Table<u32, COMPLEX_ORDERS> = self
+                .entries_of(strategy)
+                .filter(|entry| entry.life == Some(DAY))
+                .map(|entry| entry.number)
+                .collect();
+            for number in day_orders.iter() {
+                self.pass(*number, Holders::Nobody, true, records);
             }
         }
     }

@@ -101,7 +101,7 @@ fn strategies(inputs: &[Input], answers: &[Answer]) -> Result<BTreeMap<u32, Vec<
             continue;
         }
         if let Ok(Event::Strategy { count, legs }) = read(&input.frame) {
-            let legs = normal(&legs[..usize::from(count)]).legs;
+            let legs = normal(&legs[..usize::from(count)]).legs.to_vec();
             let before = held.insert(answer.value, legs.clone());
             if before.is_some_and(|before| before != legs) {
                 return Err(format!("strategy {} answered for two", answer.value));

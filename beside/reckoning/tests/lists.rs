@@ -3,7 +3,7 @@
 #![forbid(unsafe_code)]
 #![deny(warnings)]
 
-use reckoning::book::{Book, BUY, RECORDS, SELL};
+use reckoning::book::{depth, Book, Entry, BUY, RECORDS, SELL};
 use reckoning::coverage::{self, SITUATIONS};
 use reckoning::events::Answer;
 use reckoning::frames::{read, Event};
@@ -62,18 +62,27 @@ fn holds(day: &Day) -> Result<(), String> {
 /// Facts that hold between events: no auction beside a shut series; sweeps,
 /// responses and immediates live only while their strategy's auction runs; a
 /// starter is live; no buy meets a sell where the strategy is all open and no
-/// auction runs, nor in a series' leg orders.
+/// auction runs, nor in a series' leg orders. Each table stands by number, and
+/// the depths that are kept are those of the leg orders.
 fn sound(book: &Book) {
-    assert!(book.complex_orders.len() <= 16 && book.sweeps.len() <= 16);
+    assert!(book.complex_orders().count() <= 16 && book.sweeps().count() <= 16);
     assert!(book.leg_orders.len() <= 32 && book.strategies.len() <= 16);
+    assert!(book.entries.is_sorted_by(|a, b| a.number < b.number));
+    assert!(book.leg_orders.is_sorted_by(|a, b| a.number < b.number));
+    for series in 0..32 {
+        for side in [BUY, SELL] {
+            let kept = book.depth(series, side);
+            let found = depth(&book.row(), u32::from(series), u32::from(side));
+            assert_eq!(Ok(kept.map(|best| (best.price, best.contracts))), found);
+        }
+    }
     for strategy in 0..book.strategies.len() as u8 {
-        let entries = book.entries(strategy);
+        let entries: Vec<&Entry> = book.entries_of(strategy).collect();
         if let Some(auction) = &book.auctions[usize::from(strategy)] {
             assert!(book.all_open(strategy));
-            let starter = (book.complex_orders.iter())
-                .find(|order| order.number == auction.starter)
-                .expect("the starter is live");
-            assert!(starter.class <= 2 && starter.life <= 1);
+            let starter = book.entry(auction.starter).expect("the starter is live");
+            // Of class 1 or 2, life 0 or 1.
+            assert!(starter.group != 1 && starter.life.is_some_and(|life| life <= 1));
         } else {
             assert!(entries.iter().all(|entry| entry.life == Some(0)));
             if book.all_open(strategy) {

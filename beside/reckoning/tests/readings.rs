@@ -7,7 +7,7 @@
 use reckoning::book::{depth, Book, RowEntry, SPACE};
 use reckoning::frames::{bytes, Event, Leg};
 use reckoning::nets::normal;
-use reckoning::passes::share;
+use reckoning::passes::{share, Given};
 use reckoning::tape::tape;
 
 const BUY: u8 = 0;
@@ -1117,7 +1117,7 @@ fn ratios_are_divided_and_held_to_three_times() {
         };
         [leg(0, first), leg(1, second)]
     };
-    assert_eq!(normal(&legs(2, 4)).legs, legs(1, 2));
+    assert_eq!(normal(&legs(2, 4)).legs[..], legs(1, 2));
     let mut bench = Bench::new();
     assert_eq!(bench.answer(strategy(&[(0, BUY, 2), (1, BUY, 6)])), 0);
     assert_eq!(bench.answer(strategy(&[(0, BUY, 1), (1, BUY, 4)])), 5);
@@ -1125,11 +1125,20 @@ fn ratios_are_divided_and_held_to_three_times() {
 
 #[test]
 fn sharing_as_in_the_paper() {
-    assert_eq!(share(10, &[7, 7, 7]), [4, 3, 3]);
-    assert_eq!(share(5, &[1, 9]), [1, 4]);
-    assert_eq!(share(0, &[3, 4]), [0, 0]);
-    assert_eq!(share(7, &[3, 4]), [3, 4]);
-    assert_eq!(share(8, &[3, 4]), [3, 4]);
+    let shared = |remaining: u32, sizes: &[u32]| {
+        let size = |units: &u32| Given {
+            number: 1,
+            units: *units,
+        };
+        let mut group: Vec<Given> = sizes.iter().map(size).collect();
+        share(remaining, &mut group);
+        group.iter().map(|given| given.units).collect::<Vec<u32>>()
+    };
+    assert_eq!(shared(10, &[7, 7, 7]), [4, 3, 3]);
+    assert_eq!(shared(5, &[1, 9]), [1, 4]);
+    assert_eq!(shared(0, &[3, 4]), [0, 0]);
+    assert_eq!(shared(7, &[3, 4]), [3, 4]);
+    assert_eq!(shared(8, &[3, 4]), [3, 4]);
 }
 
 #[test]

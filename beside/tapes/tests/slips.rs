@@ -25,14 +25,14 @@ const SLIPS: &[Slip] = &[
     (
         "leftover units to the largest",
         "passes.rs",
-        "    for share in &mut shares {\n        if left > 0 {",
-        "    let most = shares.iter().copied().max();\n    for share in &mut shares {\n        if left > 0 && Some(*share) == most {",
+        "    for share in group {\n        if left > 0 {",
+        "    let most = group.iter().map(|share| share.units).max();\n    for share in group {\n        if left > 0 && Some(share.units) == most {",
     ),
     (
         "a customer passed by for a sweep",
         "book.rs",
-        "                        CUSTOMER => 0,",
-        "                        CUSTOMER => 1,",
+        "            CUSTOMER => 0,",
+        "            CUSTOMER => 1,",
     ),
     (
         "a sell leg added into a net",
@@ -43,33 +43,33 @@ const SLIPS: &[Slip] = &[
     (
         "sweeps kept past the end",
         "auctions.rs",
-        "None | Some(RESPONSE) | Some(IMMEDIATE) => {",
-        "None => {}\n                Some(RESPONSE) | Some(IMMEDIATE) => {",
+        "None | Some(RESPONSE) | Some(IMMEDIATE) => entry.strategy == strategy,",
+        "None => false,\n                Some(RESPONSE) | Some(IMMEDIATE) => entry.strategy == strategy,",
     ),
     // "Which books fail?"
     (
         "fills reported and the leg orders let be",
         "passes.rs",
-        "                    self.reduce(order.number, contracts);\n",
+        "            self.take_contracts(order.number, taken);\n",
         "",
     ),
     (
         "the first turn of a pass only",
         "passes.rs",
-        "        while let Some(active) = self.entry(strategy, number) {",
-        "        if let Some(active) = self.entry(strategy, number) {",
+        "        while let Some(active) = self.entry(number) {",
+        "        if let Some(active) = self.entry(number) {",
     ),
     (
         "full beside a free slot of complex orders",
         "events.rs",
-        "self.complex_orders.len() >= COMPLEX_ORDERS {",
-        "self.complex_orders.len() + 1 >= COMPLEX_ORDERS {",
+        "self.complex_orders().count() >= COMPLEX_ORDERS {",
+        "self.complex_orders().count() + 1 >= COMPLEX_ORDERS {",
     ),
     (
         "full beside a free slot of sweeps",
         "events.rs",
-        "self.sweeps.len() >= SWEEPS {",
-        "self.sweeps.len() + 1 >= SWEEPS {",
+        "self.sweeps().count() >= SWEEPS {",
+        "self.sweeps().count() + 1 >= SWEEPS {",
     ),
     (
         "full beside a free slot of leg orders",
@@ -79,9 +79,9 @@ const SLIPS: &[Slip] = &[
     ),
     (
         "one strategy more than there are slots for",
-        "events.rs",
-        "self.strategies.len() >= STRATEGIES {",
-        "self.strategies.len() > STRATEGIES {",
+        "book.rs",
+        "pub const STRATEGIES: usize = 16;",
+        "pub const STRATEGIES: usize = 17;",
     ),
     // Passes.
     (
@@ -105,14 +105,14 @@ const SLIPS: &[Slip] = &[
     (
         "customers share too",
         "passes.rs",
-        "let quantities = if group == 0 {",
-        "let quantities = if group == 3 {",
+        "            if group == 0 {",
+        "            if group == 3 {",
     ),
     (
         "broker-dealers in turn",
         "passes.rs",
-        "let quantities = if group == 0 {",
-        "let quantities = if group != 1 {",
+        "            if group == 0 {",
+        "            if group != 1 {",
     ),
     (
         "broker-dealers before market makers",
@@ -123,8 +123,8 @@ const SLIPS: &[Slip] = &[
     (
         "leftover units to the last",
         "passes.rs",
-        "    for share in &mut shares {\n",
-        "    for share in shares.iter_mut().rev() {\n",
+        "    for share in group {\n",
+        "    for share in group.iter_mut().rev() {\n",
     ),
     (
         "a leg fill with its price where whole met whole",
@@ -135,8 +135,8 @@ const SLIPS: &[Slip] = &[
     (
         "the other side first",
         "passes.rs",
-        "for number in [active, other] {",
-        "for number in [other, active] {",
+        "in [(active.number, active.side), (other, 1 - active.side)] {",
+        "in [(other, 1 - active.side), (active.number, active.side)] {",
     ),
     (
         "legs-only passes during an auction",
@@ -153,8 +153,8 @@ const SLIPS: &[Slip] = &[
     (
         "legs-only passes from the last number",
         "passes.rs",
-        "            for entry in self.entries(strategy) {\n                if entry.life == Some(DAY) {",
-        "            for entry in self.entries(strategy).into_iter().rev() {\n                if entry.life == Some(DAY) {",
+        "for number in day_orders.iter() {",
+        "for number in day_orders.iter().rev() {",
     ),
     // Auctions.
     (
@@ -178,26 +178,26 @@ const SLIPS: &[Slip] = &[
     (
         "shared passes for the other entries",
         "auctions.rs",
-        "                    Holders::Numbered,\n",
-        "                    Holders::Shared,\n",
+        "Holders::Numbered, !is_sweep",
+        "Holders::Shared, !is_sweep",
     ),
     (
         "sweeps that use legs",
         "auctions.rs",
-        "                    !is_sweep,\n",
-        "                    true,\n",
+        "Holders::Numbered, !is_sweep",
+        "Holders::Numbered, true",
     ),
     (
         "passes for the orders from before",
         "auctions.rs",
-        "if entry.number > auction.starter {",
-        "if entry.number != auction.starter {",
+        ".filter(|entry| entry.number > auction.starter)",
+        ".filter(|entry| entry.number != auction.starter)",
     ),
     (
         "responses kept past the end",
         "auctions.rs",
-        "None | Some(RESPONSE) | Some(IMMEDIATE) => {",
-        "None | Some(IMMEDIATE) => {",
+        "None | Some(RESPONSE) | Some(IMMEDIATE) =>",
+        "None | Some(IMMEDIATE) =>",
     ),
     (
         "fills when a series shuts",
@@ -220,14 +220,14 @@ const SLIPS: &[Slip] = &[
     (
         "a market maker's auction",
         "events.rs",
-        "(order.class == CUSTOMER || order.class == BROKER_DEALER)",
-        "(order.class >= CUSTOMER)",
+        "(class == CUSTOMER || class == BROKER_DEALER)",
+        "(class >= CUSTOMER)",
     ),
     (
         "a waiting order that does not bar the legs",
         "events.rs",
-        "                self.accepted_meanwhile(strategy, side);\n            }\n        } else if starts {",
-        "            }\n        } else if starts {",
+        "                self.accepted_meanwhile(strategy, side);\n            }\n        } else if",
+        "            }\n        } else if",
     ),
     // Leg orders, the opening, the day end.
     (
@@ -245,8 +245,8 @@ const SLIPS: &[Slip] = &[
     (
         "passes after a leg order that is gone",
         "events.rs",
-        "        if self.live(number) > 0 {\n            self.legs_only_passes",
-        "        if number > 0 {\n            self.legs_only_passes",
+        "            self.rest(incoming);\n            self.legs_only_passes(incoming.series, records);\n        }\n",
+        "            self.rest(incoming);\n        }\n        self.legs_only_passes(incoming.series, records);\n",
     ),
     (
         "an opening at the higher number's limit",
@@ -294,7 +294,7 @@ const SLIPS: &[Slip] = &[
     (
         "legs as they were sent",
         "nets.rs",
-        "    legs.sort_by_key(|leg| leg.series);\n",
+        "    legs.sort_unstable_by_key(|leg| leg.series);\n",
         "    legs.rotate_left(0);\n",
     ),
     (
@@ -306,14 +306,14 @@ const SLIPS: &[Slip] = &[
     (
         "a sweep that replaces one needs a slot",
         "events.rs",
-        "if units > 0 && replaced.is_none() && self.sweeps.len()",
-        "if units > 0 && self.sweeps.len()",
+        "if units > 0 && replaced.is_none() && self.sweeps()",
+        "if units > 0 && self.sweeps()",
     ),
     (
         "the largest refusal",
         "events.rs",
-        "causes.iter().min()",
-        "causes.iter().max()",
+        "Some(self.0.trailing_zeros())",
+        "Some(15 - self.0.leading_zeros())",
     ),
     (
         "number 100,000 not given",
