@@ -2,6 +2,7 @@
 //! bytes and a record space of any length, and then the lookups.
 
 use crate::book::{depth, Book, SERIES, SPACE, STRATEGIES};
+use crate::events::Answer;
 use crate::lists::Input;
 use crate::tape::put_answer;
 use std::io::{self, Write};
@@ -41,11 +42,12 @@ pub fn item(call: &Input) -> Vec<u8> {
 /// inside an item; then the lookups. Answers the book after the items.
 pub fn calls(input: &[u8], output: &mut impl Write) -> io::Result<Book> {
     let mut book = Book::first();
+    let mut answer = Answer::default();
     let (items, cut) = items(input);
     for (index, call) in items.iter().enumerate() {
         // A length above 15,360 lends 15,360.
         let lent = call.space.min(SPACE);
-        let answer = book.step(&call.frame, lent);
+        book.step_into(&call.frame, lent, &mut answer);
         put_answer(index, &answer, output)?;
     }
     if cut {
