@@ -1,5 +1,5 @@
 -- The rules of a leg order by what the code tests, and the ranges that they keep.
-use mathlib.Core.Path.{_≡_}
+use mathlib.Core.Path.{_≡_, _∙_}
 use mathlib.Core.List.{List}
 use Prim.Native.Nat.{ℕ, _<_}
 use borrow.Author.Tests.{eq-eqb, ne-eqb}
@@ -16,6 +16,7 @@ use Rattle.rules.proofs.Entering.{fit-no-order}
 use Rattle.rules.proofs.Tables.{behind-all, behind-length}
 use Rattle.records.specs.Done.{Done}
 use Rattle.ranges.specs.Fit.{Fit, Priced, priced-none, fit-done}
+use Rattle.matching.specs.Places.{nextAt, passes-none}
 use Rattle.base.specs.Pick.{pick-true, pick-false}
 
 module _ (s a : ℕ) (b : State) where
@@ -26,6 +27,10 @@ module _ (s a : ℕ) (b : State) where
   pub rests-yes : ¬ (orderAt b a .contracts ≡ 0) → ifRests s a b ≡ legPasses s b
   unfolding ifRests
   rests-yes e = pick-false _ _ _ (ne-eqb _ _ e)
+
+  -- something rests, and no pass does anything
+  pub rests-idle : ¬ (orderAt b a .contracts ≡ 0) → Fit b → {from : ℕ} → from ≡ nextAt b s 0 → from ≡ 512 → ifRests s a b ≡ still b
+  rests-idle e f g h = rests-yes e ∙ passes-none s b f g h
 
 pub leg-is : (o : LegOrder) (b : State) {a : ℕ} {c : State} → a ≡ freeOrderSlot b → c ≡ enterOrder o b → onLegOrder o b ≡ and-then (tradeAll a c) (ifRests (o .series) a)
 unfolding onLegOrder

@@ -9,7 +9,9 @@ ghost use Rattle.records.specs.Done.{Done};
 ghost use Rattle.ranges.specs.Fit.{Fit, Priced};
 use legs::enter_order;
 use legs::free_order_slot;
+use matching::PLACES;
 use matching::leg_passes;
+use matching::next_pass;
 use records::After;
 use rules::LegOrder;
 use rules::State;
@@ -25,7 +27,14 @@ fn if_rests(b: State, s: u8, a: usize, space: &mut [i32], n: usize) -> After
     if o.contracts == 0 {
         return After { state: b, count: n };
     }
-    leg_passes(b, s, space, n)
+    let ss = b.strategies;
+    let es = b.entries;
+    let os = b.orders;
+    let from = next_pass(ss, es, os, b.opened, s, 0);
+    if from == PLACES {
+        return After { state: b, count: n };
+    }
+    leg_passes(b, s, from, space, n)
 }
 
 // A leg order enters and trades; if any rests, the passes by legs only.

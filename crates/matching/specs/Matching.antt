@@ -2,7 +2,7 @@
 use mathlib.Core.Path.{_≡_, refl, _∙_, ap}
 use mathlib.Core.Bool.{Bool, true, false, not}
 use mathlib.Core.List.{List}
-use Prim.Native.Nat.{ℕ, _+_, _-_, _^_, _≤_, _<_, min}
+use Prim.Native.Nat.{ℕ, _+_, _-_, _≤_, _<_, min}
 use native.Mathlib.Omega.{arith}
 use borrow.Author.Tests.{ltb-true, lt-ltb, le-ltb}
 use lib.Dec.{eqb, ltb, leb}
@@ -20,14 +20,12 @@ use Rattle.rules.specs.Moves.{Moved, still, each}
 use Rattle.rules.specs.Sides.{other, better}
 use Rattle.rules.specs.Strategies.{shutSet}
 use Rattle.rules.specs.Fills.{wholeFill}
-use Rattle.rules.specs.Passes.{turnAt, pass}
+use Rattle.rules.specs.Passes.{pass}
 use Rattle.rules.specs.Auctions.{liveIn, dayOrder, legPass, legPassesIn, ahead, bestSlot, crossed, matchOnce, matchAll, matchIn}
-use Rattle.rules.proofs.Control.{each-kept, legPass-kept, legPassesIn-kept, matchOnce-kept, matchIn-kept, shrinks-kept}
+use Rattle.rules.proofs.Control.{each-kept, matchOnce-kept, matchIn-kept, shrinks-kept}
 use Rattle.rules.proofs.Turns.{idle}
 use Rattle.records.specs.Done.{Done}
 use Rattle.ranges.specs.Fit.{Fit, fit-done}
-use Rattle.nets.specs.Ready.{netReady}
-use Rattle.passes.specs.Passes.{stopsAt, legs-still}
 
 -- whether a strategy holds series s and is all open
 unfoldable pub openWith : Strategy → ℕ → ℕ → Bool
@@ -157,17 +155,6 @@ match-stops k i b c h e s =
 pub fit-series : (s i : ℕ) (b : State) {c : State} {sp sq : List ℤ} {n m : ℕ} → Fit b → Done sp sq n m c (each (matchIn s) i b) → Fit c
 fit-series s i b f d = fit-done d (each-kept shrinks-kept (matchIn s) (matchIn-kept shrinks-kept s) i b (f .orderRows)) f
 
--- the ranges after some passes, and after some matches
-pub fit-passes : (k i : ℕ) (b : State) {c : State} {sp sq : List ℤ} {n m : ℕ} → Fit b → Done sp sq n m c (each (legPass k) i b) → Fit c
-fit-passes k i b f d = fit-done d (each-kept shrinks-kept (legPass k) (legPass-kept shrinks-kept k) i b (f .orderRows)) f
-
-pub fit-strategies : (s i : ℕ) (b : State) {c : State} {sp sq : List ℤ} {n m : ℕ} → Fit b → Done sp sq n m c (each (legPassesIn s) i b) → Fit c
-fit-strategies s i b f d = fit-done d (each-kept shrinks-kept (legPassesIn s) (legPassesIn-kept shrinks-kept s) i b (f .orderRows)) f
-
+-- .. and of one
 pub fit-matches : (k i : ℕ) (b : State) {c : State} {sp sq : List ℤ} {n m : ℕ} → Fit b → Done sp sq n m c (each (matchOnce k) i b) → Fit c
 fit-matches k i b f d = fit-done d (each-kept shrinks-kept (matchOnce k) (matchOnce-kept shrinks-kept k) i b (f .orderRows)) f
-
--- a day order that does nothing at the ready leg net that it meets
-pub legs-stay : (k i : ℕ) (b : State) (net : ℕ) → dayOrder k (entryAt b i) ≡ true → net ≡ netReady (b .orders) (entryAt b i .side) (strategyAt b (entryAt b i .strategy))
-    → stopsAt (turnAt (entryAt b i) 0 net) ≡ true → legPass k i b ≡ still b
-legs-stay k i b net d e s = legs-yes k i b d ∙ legs-still i b net e s

@@ -1,13 +1,16 @@
 // Where a series opens or its leg orders change: the match of the resting orders, and the passes by legs only.
 ghost use mathlib.Core.Path.{_≡_};
 ghost use Prim.Native.Nat.{_+_, _-_, _<_};
+ghost use Rattle.base.specs.All.{All};
 ghost use Rattle.rules.specs.Sizes.{strategySlots, tableRows};
 ghost use Rattle.rules.specs.Moves.{each};
-ghost use Rattle.rules.specs.Auctions.{dayOrder, legPass, legPasses, matchAll, matchIn};
+ghost use Rattle.rules.specs.Auctions.{dayOrder, legPasses, matchAll, matchIn};
+ghost use Rattle.rules.specs.Valid.{FitEntry, FitOrder};
 ghost use Rattle.records.specs.Space.{Room};
 ghost use Rattle.records.specs.Done.{Done};
-ghost use Rattle.ranges.specs.Fit.{Fit};
+ghost use Rattle.ranges.specs.Fit.{FitLegs, Fit, Priced};
 ghost use Rattle.matching.specs.Matching.{openWith, passesLegs, aheadOf, bestEntry, meet, matched};
+ghost use Rattle.matching.specs.Places.{actsIn, nextPass};
 use fills::whole_fill;
 use nets::net_ready;
 use passes::legs_idle;
@@ -16,6 +19,7 @@ use records::After;
 use records::least;
 use rules::Allocation;
 use rules::Entry;
+use rules::LegOrder;
 use rules::State;
 use rules::Strategy;
 use sides::better;
@@ -23,6 +27,9 @@ use sides::other;
 use states::holds;
 use states::live_in;
 use states::none_shut;
+
+// The places of the passes by legs only: slot i of strategy k is place k * 32 + i.
+pub const PLACES: usize = State::STRATEGIES * State::ROWS;
 
 // Whether a strategy holds series s and no leg of it is shut.
 fn open_with(t: Strategy, s: u8, opened: u32) -> bool
@@ -53,52 +60,83 @@ fn day_order(k: usize, e: Entry) -> bool
     false
 }
 
-// A pass by legs only of each day order of strategy k, by number.
-fn leg_passes_of(b: State, k: usize, space: &mut [i32], n: usize) -> After
-    requires { ⌜ Fit b ⌝ }
-    requires { ⌜ Room (now space) n (each (legPass k) tableRows b .records) ⌝ }
-    ensures { λ t. ⌜ Done (now (space .entry)) (now (space .exit)) n (t .count) (t .state) (each (legPass k) tableRows b) ⌝ }
+// Whether strategy t gets passes by legs only, and the first turn of that of its entry e does something.
+fn acts_in(e: Entry, t: Strategy, os: [LegOrder; State::LEG_ORDERS], opened: u32, s: u8) -> bool
+    requires { ⌜ All FitOrder os × All Priced os × FitLegs t ⌝ }
+    ensures { λ r. ⌜ r ≡ actsIn e t os opened s ⌝ }
 {
-    let mut c = b;
-    let mut m = n;
+    if passes_legs(t, s, opened) {
+        let net = net_ready(os, e.side, t);
+        return !legs_idle(e, net);
+    }
+    false
+}
+
+// The first place, from one on, of a day order whose pass by legs only does something; 512 where there is none.
+pub fn next_pass(
+    ss: [Strategy; State::STRATEGIES],
+    es: [Entry; State::ROWS],
+    os: [LegOrder; State::LEG_ORDERS],
+    opened: u32,
+    s: u8,
+    from: usize,
+) -> usize
+    requires { ⌜ All FitLegs ss × All FitEntry es × All FitOrder os × All Priced os ⌝ }
+    ensures { λ r. ⌜ r ≡ nextPass ss es os opened s from ⌝ }
+{
+    let mut best: usize = PLACES;
     let mut i: usize = 0;
     while i < State::ROWS {
-        let e = c.entries[i];
+        let e = es[i];
+        let k = e.strategy as usize;
         if day_order(k, e) {
-            let h = e.strategy as usize;
-            let s = c.strategies[h];
-            let os = c.orders;
-            let net = net_ready(os, e.side, s);
-            if !legs_idle(e, net) {
-                let t = pass(Allocation::LegsOnly, true, c, i, space, m);
-                c = t.state;
-                m = t.count;
+            let at = k * State::ROWS + i;
+            if from <= at {
+                if at < best {
+                    let t = ss[k];
+                    if acts_in(e, t, os, opened, s) {
+                        best = at;
+                    }
+                }
             }
         }
         i += 1;
     }
-    After { state: c, count: m }
+    best
 }
 
-// The passes by legs only of a series, by strategy.
-pub fn leg_passes(b: State, s: u8, space: &mut [i32], n: usize) -> After
-    requires { ⌜ Fit b ⌝ }
+// The passes by legs only of a series, by strategy, then number. The first that does something is at place `from`.
+pub fn leg_passes(b: State, s: u8, from: usize, space: &mut [i32], n: usize) -> After
+    requires { ⌜ Fit b × (from ≡ nextPass (b .strategies) (b .entries) (b .orders) (b .opened) s 0) ⌝ }
     requires { ⌜ Room (now space) n (legPasses s b .records) ⌝ }
     ensures { λ t. ⌜ Done (now (space .entry)) (now (space .exit)) n (t .count) (t .state) (legPasses s b) ⌝ }
 {
     let mut c = b;
     let mut m = n;
-    let mut k: usize = 0;
-    while k < State::STRATEGIES {
-        let t = c.strategies[k];
-        if passes_legs(t, s, c.opened) {
-            let u = leg_passes_of(c, k, space, m);
-            c = u.state;
-            m = u.count;
-        }
-        k += 1;
+    let mut at = from;
+    while at < PLACES {
+        let t = pass(Allocation::LegsOnly, true, c, at % State::ROWS, space, m);
+        c = t.state;
+        m = t.count;
+        let ss = c.strategies;
+        let es = c.entries;
+        let os = c.orders;
+        at = next_pass(ss, es, os, c.opened, s, at + 1);
     }
     After { state: c, count: m }
+}
+
+// The same, from whichever does something first.
+pub fn all_leg_passes(b: State, s: u8, space: &mut [i32], n: usize) -> After
+    requires { ⌜ Fit b ⌝ }
+    requires { ⌜ Room (now space) n (legPasses s b .records) ⌝ }
+    ensures { λ t. ⌜ Done (now (space .entry)) (now (space .exit)) n (t .count) (t .state) (legPasses s b) ⌝ }
+{
+    let ss = b.strategies;
+    let es = b.entries;
+    let os = b.orders;
+    let from = next_pass(ss, es, os, b.opened, s, 0);
+    leg_passes(b, s, from, space, n)
 }
 
 // Whether an entry is of that strategy and side, and goes before the best so far, which is at that slot (32: none yet) and level.

@@ -11,7 +11,7 @@ ghost use Rattle.records.specs.Space.{Room};
 ghost use Rattle.records.specs.Done.{Done};
 ghost use Rattle.ranges.specs.Fit.{Fit};
 use auctions::end_unfilled;
-use matching::leg_passes;
+use matching::all_leg_passes;
 use matching::match_series;
 use records::After;
 use records::less;
@@ -77,7 +77,7 @@ fn reopen(b: State, s: u8, space: &mut [i32], n: usize) -> After
     let c = with_opened(b, more);
     let x = match_series(c, s, space, n);
     let d = x.state;
-    leg_passes(d, s, space, x.count)
+    all_leg_passes(d, s, space, x.count)
 }
 
 // A series shuts (state 0), opens, or stays.

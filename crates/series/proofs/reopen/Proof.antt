@@ -19,8 +19,8 @@ match-series-requires c κs =
     let o = c .before .with-opened .ensures in
     (fit-opened _ _ o (k .pre .0 .1), room-then _ _ (room-of (reopen-is _ _ (c .before .before .with-series .ensures) o) (k .pre .1)))
 
-leg-passes-requires : tie.Need-leg-passes-requires
-leg-passes-requires c κs =
+all-leg-passes-requires : tie.Need-all-leg-passes-requires
+all-leg-passes-requires c κs =
     let k = c .before .before .before .before .before .before .before in
     let o = c .before .before .before .before .before .with-opened .ensures in
     let x = c .before .before .before .match-series .ensures in (
@@ -35,7 +35,7 @@ returns : tie.Need-returns
 returns c =
     let k = c .before .before .before .before .before in
     done-of (reopen-is _ _ (k .before .before .before .with-series .ensures) (k .before .before .with-opened .ensures))
-    (done-then _ _ (k .match-series .ensures) (c .before .leg-passes .ensures))
+    (done-then _ _ (k .match-series .ensures) (c .before .all-leg-passes .ensures))
 
 pub reopen-spec : {M : Type 1} → statement M
-reopen-spec = tie.close (tie.spec with-series-requires with-opened-requires match-series-requires leg-passes-requires same-length returns)
+reopen-spec = tie.close (tie.spec with-series-requires with-opened-requires match-series-requires all-leg-passes-requires same-length returns)
