@@ -10,37 +10,37 @@ const NONE: Field = Field(0, 0, 0, 0);
 
 const COUNT: Field = Field(1, 2, 6, 0);
 
-const SERIES: Field = Field(1, 0, 31, 0);
+pub const SERIES: Field = Field(1, 0, 31, 0);
 
-const SIDE: Field = Field(1, 0, 1, 0);
+pub const SIDE: Field = Field(1, 0, 1, 0);
 
 const RATIO: Field = Field(1, 1, 12, 0);
 
-const MEMBER: Field = Field(2, 1, 65535, 0);
+pub const MEMBER: Field = Field(2, 1, 65535, 0);
 
-const STRATEGY: Field = Field(1, 0, 15, 0);
+pub const STRATEGY: Field = Field(1, 0, 15, 0);
 
-const CLASS: Field = Field(1, 1, 3, 0);
+pub const CLASS: Field = Field(1, 1, 3, 0);
 
-const LIFE: Field = Field(1, 0, 3, 0);
+pub const LIFE: Field = Field(1, 0, 3, 0);
 
-const UNITS: Field = Field(2, 1, 9999, 0);
+pub const UNITS: Field = Field(2, 1, 9999, 0);
 
-const SWEEP_UNITS: Field = Field(2, 0, 9999, 0);
+pub const SWEEP_UNITS: Field = Field(2, 0, 9999, 0);
 
-const LIMIT: Field = Field(4, 1, 19999999, 10000000);
+pub const LIMIT: Field = Field(4, 1, 19999999, 10000000);
 
-const CONTRACTS: Field = Field(2, 1, 9999, 0);
+pub const CONTRACTS: Field = Field(2, 1, 9999, 0);
 
-const PRICE: Field = Field(4, 1, 99999, 0);
+pub const PRICE: Field = Field(4, 1, 99999, 0);
 
-const NUMBER: Field = Field(4, 1, 100000, 0);
+pub const NUMBER: Field = Field(4, 1, 100000, 0);
 
-const STATE: Field = Field(1, 0, 1, 0);
+pub const STATE: Field = Field(1, 0, 1, 0);
 
-const TIME: Field = Field(4, 0, 86400000, 0);
+pub const TIME: Field = Field(4, 0, 86400000, 0);
 
-const TIMER: Field = Field(2, 1, 5000, 0);
+pub const TIMER: Field = Field(2, 1, 5000, 0);
 
 // The fields of a kind, and empty ones up to 19.
 pub fn fields_of(kind: Kind) -> [Field; 19]
@@ -174,7 +174,7 @@ pub fn present(field: Field, m: usize, i: usize) -> Field
 }
 
 // Whether the values so far are in their ranges, and this one too.
-fn within(ok: bool, field: Field, v: u32) -> bool
+pub fn within(ok: bool, field: Field, v: u32) -> bool
     ensures { λ r. ⌜ r ≡ withinOf ok field v ⌝ }
 {
     if v < field.1 {

@@ -8,7 +8,7 @@ use borrow.Author.Tests.{ltb-false, eqb-true}
 use lib.Dec.{ltb, eqb}
 use lib.ListN.{length, drop, length-append}
 use lib.Seq.{sets, sets-eq}
-use Rattle.base.specs.Pick.{pick-by, tests}
+use Rattle.base.specs.Pick.{pick, pick-by, tests}
 use Rattle.events.specs.Fields.{layout, offset, fitN, Narrow}
 use Rattle.events.specs.Kinds.{codeOf, lengthOf}
 use Rattle.events.specs.Table.{fieldsOf, layoutOf}
@@ -16,22 +16,19 @@ use Rattle.events.specs.Rows.{kindIn, rowOf, eventOf, layoutIn, fitting, length
 use Rattle.events.specs.Laws.{layout-is, offset-fits, narrow, room-in}
 use Rattle.frames.specs.Number.{number, bytes, length-bytes}
 use Rattle.frames.specs.Bodies.{offset-body, rowN, bodyN}
+use Rattle.frames.specs.Carried.{Whole, carriedOf}
 use Rattle.frames.specs.Frames.{kindAt, countAt, rowAt, judgeOf, readOf, frameOf, writtenOf, spaceOf, Wrote}
 use Rattle.events.specs.declared.Field.{Field}
 use Rattle.events.specs.declared.Kind.{Kind}
 use Rattle.events.specs.declared.Event.{Event}
+use Rattle.events.specs.declared.Reading.{Reading}
 use Rattle.events.specs.declared.Reading.the-variants as R
 use Rattle.frames.specs.declared.Written.the-variants as W
 
--- a frame that has its kind's length
-pub record Whole (f : List ℕ) : Type 0 where
-  pub four : 4 ≤ length f
-  pub long : lengthOf (kindAt f) (countAt f) ≡ length f
-
-pub whole-room : (f : List ℕ) → Whole f → offset (layoutOf (kindAt f) (countAt f)) 19 ≤ length f
-whole-room f w =
-    let h : 4 ≤ lengthOf (kindAt f) (countAt f) = omega (arith, w .four, w .long) in
-    omega (arith, offset-fits (kindAt f) (countAt f) h, w .long)
+pub whole-room : (k : Kind) (f : List ℕ) → Whole k f → offset (layoutOf k (countAt f)) 19 ≤ length f
+whole-room k f w =
+    let h : 4 ≤ lengthOf k (countAt f) = omega (arith, w .four, w .long) in
+    omega (arith, offset-fits k (countAt f) h, w .long)
 
 -- the outcomes of judging
 module _ (f : List ℕ) where
@@ -58,7 +55,7 @@ module _ (f : List ℕ) where
   -- a frame that is not refused
   pub record Judged : Type 0 where
     pub size : number 2 f 0 ≡ length f
-    pub whole : Whole f
+    pub whole : Whole (kindAt f) f
     pub fit : fitN (layoutOf (kindAt f) (countAt f)) (rowAt f) 19 ≡ true
 
   pub judged : judgeOf f ≡ 0 → Judged
@@ -101,35 +98,25 @@ module _ (f : List ℕ) where
 pub long-is : (f : List ℕ) {k : Kind} {n l : ℕ} → k ≡ kindAt f → n ≡ countAt f → l ≡ lengthOf k n → l ≡ lengthOf (kindAt f) (countAt f)
 long-is f p q r = r ∙ rw (p, q)
 
--- what the reader has found once the lengths agree
-pub record Opened (f : List ℕ) (k : Kind) (fs : List Field) : Type 0 where
-  pub size : number 2 f 0 ≡ length f
-  pub kind : k ≡ kindAt f
-  pub whole : Whole f
-  pub fields : fs ≡ fieldsOf k
+-- once the lengths agree, a frame is read as its kind says
+pub read-carried : (f : List ℕ) → number 2 f 0 ≡ length f → Whole (kindAt f) f → readOf f ≡ carriedOf (kindAt f) f
+unfolding carriedOf rowAt
+read-carried f s w =
+    pick-by (λ (x : Reading). readOf f ≡ x) (fitN (layoutOf (kindAt f) (countAt f)) (rowAt f) 19)
+    (λ t. read-event f (judge-fit f (w .four) s (w .long) t))
+    (λ t. let e : judgeOf f ≡ 3 = judge-unfit f (w .four) s (w .long) t in read-refused f (λ z. omega arith) ∙ rw e)
 
-module _ (f : List ℕ) (k : Kind) (fs : List Field) (o : Opened f k fs) where
-  opened-layout : layout fs (length f - 4) ≡ layoutOf (kindAt f) (countAt f)
-  opened-layout = layout-is (kindAt f) (countAt f) (o .fields ∙ rw (o .kind)) (rw (o .whole .long))
+-- the fields as the table gives them
+module _ (k : Kind) (f : List ℕ) (w : Whole k f) {fs : List Field} (e : fs ≡ fieldsOf k) where
+  table-layout : layout fs (length f - 4) ≡ layoutOf k (countAt f)
+  table-layout = layout-is k (countAt f) e (rw (w .long))
 
-  pub opened-room : (offset (layout fs (length f - 4)) 19 ≤ length f) × Narrow (layout fs (length f - 4))
-  opened-room = rw opened-layout (whole-room f (o .whole), narrow _ _)
+  pub table-room : (offset (layout fs (length f - 4)) 19 ≤ length f) × Narrow (layout fs (length f - 4))
+  table-room = rw table-layout (whole-room k f w, narrow _ _)
 
-  module _ {row : List ℕ} {ok : Bool} (r : row ≡ rowN (layout fs (length f - 4)) f 19) (t : ok ≡ fitN (layout fs (length f - 4)) row 19) where
-    opened-row : row ≡ rowAt f
-    unfolding rowAt
-    opened-row = r ∙ rw opened-layout
-
-    opened-fit : ok ≡ fitN (layoutOf (kindAt f) (countAt f)) (rowAt f) 19
-    opened-fit = t ∙ rw (opened-layout, opened-row)
-
-    pub read-fit : ok ≡ true → readOf f ≡ eventOf k row
-    read-fit y = read-event f (judge-fit f (o .whole .four) (o .size) (o .whole .long) (sym opened-fit ∙ y)) ∙ rw (o .kind, opened-row)
-
-    pub read-unfit : ok ≡ false → readOf f ≡ R.Refused 3
-    read-unfit y =
-        let e : judgeOf f ≡ 3 = judge-unfit f (o .whole .four) (o .size) (o .whole .long) (sym opened-fit ∙ y) in
-        read-refused f (λ z. omega arith) ∙ rw e
+  pub table-carried : {row : List ℕ} {ok : Bool} → row ≡ rowN (layout fs (length f - 4)) f 19 → ok ≡ fitN (layout fs (length f - 4)) row 19 → pick ok (eventOf k row) (R.Refused 3) ≡ carriedOf k f
+  unfolding carriedOf
+  table-carried r t = rw (t, r, table-layout)
 
 module _ (e : Event) (t : fitting e ≡ true) where
   pub length-frame : length (frameOf e) ≡ lengthIn e

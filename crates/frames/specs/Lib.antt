@@ -1,6 +1,7 @@
 pub mod Number
 pub mod Bodies
 pub mod Frames
+pub mod Carried
 pub mod Codec
 pub mod Spaces
 pub mod Round

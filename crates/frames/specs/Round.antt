@@ -164,7 +164,7 @@ module _ (f : List ℕ) (b : Bytes f) (e : Event) (r : readOf f ≡ R.Event e) w
       let s : Sound (F n) = field-is (kindAt f) (countAt f) n in
       let v : getD (rowAt f) n 0 ≡ (number (width (F n)) f (offset F n) + bias (F n)) % 2 ^ 32 = value-read n (omega arith) in
       let x : rawOf (F n) (getD (rowAt f) n 0) ≡ number (width (F n)) f (offset F n) = rw v (raw-value (F n) _ s (number-le f b (width (F n)) 4 (offset F n) (s .narrow))) in
-      let k : offset F n + width (F n) ≤ length f = le-trans (offset-room F n 19 (omega arith)) (whole-room f (judged f zero-read .whole)) in
+      let k : offset F n + width (F n) ≤ length f = le-trans (offset-room F n 19 (omega arith)) (whole-room (kindAt f) f (judged f zero-read .whole)) in
       rw (x, bytes-number f b (width (F n)) (offset F n) k, ← append-assoc, body-read n (omega arith), take-add)
 
   exact-read : offset (layoutOf (kindAt f) (countAt f)) 19 ≡ length f

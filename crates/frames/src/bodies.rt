@@ -12,7 +12,7 @@ use events::table::present;
 use events::table::raw;
 
 // The value of a field at a place of the frame.
-fn value(frame: &[u8], at: usize, field: Field) -> u32
+pub(crate) fn value(frame: &[u8], at: usize, field: Field) -> u32
     requires { ⌜ at + width field ≤ length (now frame) ⌝ }
     requires { ⌜ width field ≤ 4 ⌝ }
     ensures { λ r. ⌜ r ≡ valueAt field (now (frame .entry)) at ⌝ }

@@ -8,22 +8,21 @@ ghost use Rattle.events.specs.Rows.{fitting, lengthIn};
 ghost use Rattle.frames.specs.Frames.{countAt, judgeOf, readOf, frameOf, Wrote};
 
 mod bodies; // the fields of a frame
+mod carried; // the event of a frame, by its kind
 pub mod numbers; // numbers of some bytes
 
-use bodies::decode;
 use bodies::encode;
+use carried::carried;
 use events::Event;
 use events::Reading;
 use events::kinds::code_of;
 use events::kinds::kind_of;
 use events::kinds::length_of;
-use events::rows::event_of;
 use events::rows::fits;
 use events::rows::kind_in;
 use events::rows::length_in;
 use events::rows::row_of;
 use events::table::fields_of;
-use events::table::fit;
 use numbers::number;
 use numbers::put;
 
@@ -58,12 +57,7 @@ pub fn read(frame: &[u8]) -> Reading
     if length_of(kind, count_at(frame)) != n {
         return Reading::Refused(2);
     }
-    let fields = fields_of(kind);
-    let row = decode(frame, fields, n - 4);
-    if fit(fields, n - 4, row) {
-        return event_of(kind, row);
-    }
-    Reading::Refused(3)
+    carried(kind, frame)
 }
 
 // 0 for a frame that carries an event, else its refusal.

@@ -5,7 +5,8 @@ use lib.ListN.{length}
 use Rattle.events.specs.Kinds.{kindOf, lengthOf}
 use Rattle.frames.specs.Number.{number}
 use Rattle.frames.specs.Frames.{kindAt, countAt}
-use Rattle.frames.specs.Codec.{long-is, Opened, opened-room, read-short, read-size, read-long, read-fit, read-unfit}
+use Rattle.frames.specs.Carried.{Whole}
+use Rattle.frames.specs.Codec.{long-is, read-short, read-size, read-long, read-carried}
 use borrow.Author.Needs.{needs}
 use Rattle.frames.proofs.read.Statement.{statement}
 use Rattle.frames.proofs.read.Tie as tie
@@ -51,31 +52,17 @@ kind c = c .before .before .kind-of .ensures ∙ ap kindOf (c .before .before .b
 long : (c : tie.After-length-of) → c .length-of .result ≡ lengthOf (kindAt (frame c)) (countAt (frame c))
 long c = long-is _ (kind c) (c .before .count-at .ensures) (c .length-of .ensures)
 
--- and those before the fields are decoded
-opened : (c : tie.After-fields-of) → Opened (frame (c .before .before)) (c .before .before .before .before .kind-of .result) (c .fields-of .result)
-opened c = let l = c .before .before in
-    record { size = size l; kind = kind l; whole = record { four = four l; long = sym (long l) ∙ c .before .if3 .left }; fields = c .fields-of .ensures }
+whole : (c : tie.Else3) → Whole (kindAt (frame (c .before))) (frame (c .before))
+whole c = let l = c .before in record { four = four l; long = sym (long l) ∙ c .if3 .left }
 
 returns-3 : tie.Need-returns-3
 returns-3 c = let l = c .before in sym (read-long _ (four l) (size l) (λ e. c .if3 .taken (long l ∙ e)))
 
-fields-of-requires : tie.Need-fields-of-requires
-fields-of-requires c κs = search needs
-
-decode-requires : tie.Need-decode-requires
-decode-requires c κs = opened-room _ _ _ (opened c)
-
-fit-requires : tie.Need-fit-requires
-fit-requires c κs = search needs
-
-event-of-requires : tie.Need-event-of-requires
-event-of-requires c κs = search needs
+carried-requires : tie.Need-carried-requires
+carried-requires c κs = rw (kind (c .before)) (whole c)
 
 returns-4 : tie.Need-returns-4
-returns-4 c = let d = c .before .before .before in c .event-of .ensures ∙ sym (read-fit _ _ _ (opened (d .before)) (d .decode .ensures) (c .before .before .fit .ensures) (c .before .if4 .taken))
-
-returns-5 : tie.Need-returns-5
-returns-5 c = let d = c .before .before in sym (read-unfit _ _ _ (opened (d .before)) (d .decode .ensures) (c .before .fit .ensures) (c .if4 .left))
+returns-4 c = let l = c .before in c .carried .ensures ∙ rw (kind (l .before)) (sym (read-carried _ (size (l .before)) (whole l)))
 
 pub read-spec : {M : Type 1} → statement M
 read-spec =
@@ -90,9 +77,5 @@ read-spec =
     count-at-requires
     length-of-requires
     returns-3
-    fields-of-requires
-    decode-requires
-    fit-requires
-    event-of-requires
-    returns-4
-    returns-5)
+    carried-requires
+    returns-4)
