@@ -1,12 +1,18 @@
 -- The rules of fills and cancels by what the code tests.
 use mathlib.Core.Path.{_≡_}
-use mathlib.Core.List.{[], _∷_, _++_}
+use mathlib.Core.List.{List, [], _∷_, _++_}
 use Prim.Native.Nat.{ℕ}
+use lib.IntN.{ℤ}
+use lib.ListN.{set}
 use Rattle.base.specs.Pick.{tests}
+use Rattle.rules.specs.declared.Entry.{Entry}
+use Rattle.rules.specs.declared.Record.{Record}
 use Rattle.rules.specs.declared.State.{State}
-use Rattle.rules.specs.State.{entryAt, strategyOf}
+use Rattle.rules.specs.State.{entryAt, strategyOf, withEntries}
 use Rattle.rules.specs.Moves.{Moved, still}
-use Rattle.rules.specs.Fills.{partyRecords, noPrices, cut, wholeFill, cancelRecord, cancelEntry}
+use Rattle.records.specs.Space.{Appended, Room}
+use Rattle.records.specs.Done.{Done, done-of, room-of}
+use Rattle.rules.specs.Fills.{partyRecords, noPrices, cutEntry, cut, wholeFill, cancelRecord, cancelEntry}
 
 -- a fill of some units
 unfoldable pub filled : State → ℕ → ℕ → ℕ → ℕ → Moved
@@ -30,3 +36,27 @@ cancel-none i b e = search tests
 pub cancel-live : (i : ℕ) (b : State) → (entryAt b i .units ≡ 0 → ⊥) → cancelEntry i b ≡ cancelled i b
 unfolding cancelEntry cancelled
 cancel-live i b e = search tests
+
+-- the state with another entry stored at slot i
+abbrev pub stored : State → ℕ → Entry → State
+stored b i f = record {
+  strategies = b .strategies;
+  entries = set (b .entries) i f;
+  orders = b .orders;
+  defined = b .defined;
+  opened = b .opened;
+  clock = b .clock;
+  timer = b .timer;
+  last = b .last;
+}
+
+-- a cancel in place: the record written, and the entry stored that has nothing left
+module _ (i : ℕ) (b : State) (live : ¬ (entryAt b i .units ≡ 0)) {r : Record} (p : r ≡ cancelRecord (entryAt b i)) where
+  pub cancel-room : {sp : List ℤ} {n : ℕ} → Room sp n (cancelEntry i b .records) → Room sp n (r ∷ [])
+  unfolding cancelled
+  cancel-room w = rw p (room-of (cancel-live i b live) w)
+
+  pub cancel-stores : {f : Entry} → f ≡ cutEntry (entryAt b i) (entryAt b i .units) → {sp sq : List ℤ} {n m : ℕ} → Appended sp sq n m (r ∷ [])
+      → Done sp sq n m (stored b i f) (cancelEntry i b)
+  unfolding cancelled cut withEntries
+  cancel-stores q w = done-of (cancel-live i b live) (record { wrote = rw p at w; state = rw q })

@@ -4,11 +4,12 @@ ghost use mathlib.Core.List.{_++_};
 ghost use Prim.Native.Nat.{_+_, _*_, _-_, _<_, _≤_};
 ghost use Rattle.base.specs.Walks.{joinN};
 ghost use Rattle.rules.specs.Sizes.{tableRows, zeroLevel};
-ghost use Rattle.rules.specs.Fills.{wholeRecord, legRecord, legRecordAt, partyRecords, noPrices, cutEntry, cut, wholeFill, cancelRecord, cancelEntry};
+ghost use Rattle.rules.specs.Fills.{wholeRecord, legRecord, legRecordAt, partyRecords, noPrices, cutEntry, wholeFill, cancelRecord, cancelEntry};
 ghost use Rattle.rules.specs.Passes.{give, giveInTurn, giveGroup, giveShared};
 ghost use Rattle.records.specs.Space.{Appended, Room};
-ghost use Rattle.records.specs.Done.{Done};
+ghost use Rattle.records.specs.Done.{Done, RoomIn, DoneIn};
 ghost use Rattle.ranges.specs.Fit.{Fit};
+ghost use Rattle.fills.specs.Gives.{Holds, putEntries};
 use quotas::in_turn;
 use quotas::share;
 use quotas::sizes;
@@ -97,23 +98,12 @@ pub fn party_records(
     leg_records(space, m, e, s, q, prices)
 }
 
-fn cut_entry(e: Entry, q: u32) -> Entry
+pub fn cut_entry(e: Entry, q: u32) -> Entry
     ensures { λ f. ⌜ f ≡ cutEntry e q ⌝ }
 {
     let mut f = e;
     f.units = less(e.units, q);
     f
-}
-
-// q units taken from entry i.
-pub fn cut(b: State, i: usize, q: u32) -> State
-    requires { ⌜ i < tableRows ⌝ }
-    ensures { λ c. ⌜ c ≡ cut b i q ⌝ }
-{
-    let mut c = b;
-    let e = c.entries[i];
-    c.entries[i] = cut_entry(e, q);
-    c
 }
 
 // The records of both parties of a fill of whole against whole.
@@ -164,79 +154,108 @@ pub fn whole_fill(
     After { state: c, count: m }
 }
 
-// Entry a meets each slot for its quota.
+// The entries after fills, and the next free place for records.
+pub struct Given {
+    pub rows: [Entry; State::ROWS],
+    pub count: usize,
+}
+
+// Entry a, of strategy s, meets each slot for its quota.
 fn give(
-    b: State,
+    es: [Entry; State::ROWS],
+    s: Strategy,
     a: usize,
     level: u32,
     qs: [u32; State::ROWS],
     space: &mut [i32],
     n: usize,
-) -> After
-    requires { ⌜ (a < tableRows) × Fit b ⌝ }
-    requires { ⌜ Room (now space) n (give a level qs b .records) ⌝ }
-    ensures { λ t. ⌜ Done (now (space .entry)) (now (space .exit)) n (t .count) (t .state) (give a level qs b) ⌝ }
+) -> Given
+    requires { ⌜ a < tableRows ⌝ }
+    requires { ⌜ RoomIn (Holds es s a) (give a level qs) (now space) n ⌝ }
+    ensures { λ t. ⌜ DoneIn (Holds es s a) (give a level qs) (now (space .entry)) (now (space .exit)) n (t .count) (putEntries (t .rows)) ⌝ }
 {
-    let mut c = b;
+    let mut rows = es;
     let mut m = n;
     let mut i: usize = 0;
     while i < State::ROWS {
         let q = qs[i];
         if q != 0 {
-            let e = c.entries[a];
-            let f = c.entries[i];
-            let k = e.strategy as usize;
-            let s = c.strategies[k];
+            let e = rows[a];
+            let f = rows[i];
             m = fill_records(space, m, e, f, s, q, level);
-            c.entries[a] = cut_entry(e, q);
-            let g = c.entries[i];
-            c.entries[i] = cut_entry(g, q);
+            rows[a] = cut_entry(e, q);
+            let g = rows[i];
+            rows[i] = cut_entry(g, q);
         }
         i += 1;
     }
-    After { state: c, count: m }
+    Given {
+        rows: rows,
+        count: m,
+    }
 }
 
 // The holders of group g (3: all) by number.
-pub fn give_in_turn(b: State, a: usize, level: u32, g: u8, space: &mut [i32], n: usize) -> After
-    requires { ⌜ (a < tableRows) × Fit b ⌝ }
-    requires { ⌜ Room (now space) n (giveInTurn a level g b .records) ⌝ }
-    ensures { λ t. ⌜ Done (now (space .entry)) (now (space .exit)) n (t .count) (t .state) (giveInTurn a level g b) ⌝ }
+pub fn give_in_turn(
+    es: [Entry; State::ROWS],
+    s: Strategy,
+    a: usize,
+    level: u32,
+    g: u8,
+    space: &mut [i32],
+    n: usize,
+) -> Given
+    requires { ⌜ a < tableRows ⌝ }
+    requires { ⌜ RoomIn (Holds es s a) (giveInTurn a level g) (now space) n ⌝ }
+    ensures { λ t. ⌜ DoneIn (Holds es s a) (giveInTurn a level g) (now (space .entry)) (now (space .exit)) n (t .count) (putEntries (t .rows)) ⌝ }
 {
-    let e = b.entries[a];
-    let es = b.entries;
+    let e = es[a];
     let xs = sizes(es, e, level, g);
     let qs = in_turn(e.units, xs);
-    give(b, a, level, qs, space, n)
+    give(es, s, a, level, qs, space, n)
 }
 
 // The holders of group g, shared where they hold more than what remains.
-fn give_group(b: State, a: usize, level: u32, g: u8, space: &mut [i32], n: usize) -> After
-    requires { ⌜ (a < tableRows) × Fit b ⌝ }
-    requires { ⌜ Room (now space) n (giveGroup a level g b .records) ⌝ }
-    ensures { λ t. ⌜ Done (now (space .entry)) (now (space .exit)) n (t .count) (t .state) (giveGroup a level g b) ⌝ }
+fn give_group(
+    es: [Entry; State::ROWS],
+    s: Strategy,
+    a: usize,
+    level: u32,
+    g: u8,
+    space: &mut [i32],
+    n: usize,
+) -> Given
+    requires { ⌜ a < tableRows ⌝ }
+    requires { ⌜ RoomIn (Holds es s a) (giveGroup a level g) (now space) n ⌝ }
+    ensures { λ t. ⌜ DoneIn (Holds es s a) (giveGroup a level g) (now (space .entry)) (now (space .exit)) n (t .count) (putEntries (t .rows)) ⌝ }
 {
-    let e = b.entries[a];
-    let es = b.entries;
+    let e = es[a];
     let xs = sizes(es, e, level, g);
     let qs = share(e.units, xs);
-    give(b, a, level, qs, space, n)
+    give(es, s, a, level, qs, space, n)
 }
 
 // Customers by number; then sweeps and market makers; then broker-dealers.
-pub fn give_shared(b: State, a: usize, level: u32, space: &mut [i32], n: usize) -> After
-    requires { ⌜ (a < tableRows) × Fit b ⌝ }
-    requires { ⌜ Room (now space) n (giveShared a level b .records) ⌝ }
-    ensures { λ t. ⌜ Done (now (space .entry)) (now (space .exit)) n (t .count) (t .state) (giveShared a level b) ⌝ }
+pub fn give_shared(
+    es: [Entry; State::ROWS],
+    s: Strategy,
+    a: usize,
+    level: u32,
+    space: &mut [i32],
+    n: usize,
+) -> Given
+    requires { ⌜ a < tableRows ⌝ }
+    requires { ⌜ RoomIn (Holds es s a) (giveShared a level) (now space) n ⌝ }
+    ensures { λ t. ⌜ DoneIn (Holds es s a) (giveShared a level) (now (space .entry)) (now (space .exit)) n (t .count) (putEntries (t .rows)) ⌝ }
 {
-    let x = give_in_turn(b, a, level, 0, space, n);
-    let c = x.state;
-    let y = give_group(c, a, level, 1, space, x.count);
-    let d = y.state;
-    give_group(d, a, level, 2, space, y.count)
+    let x = give_in_turn(es, s, a, level, 0, space, n);
+    let fs = x.rows;
+    let y = give_group(fs, s, a, level, 1, space, x.count);
+    let gs = y.rows;
+    give_group(gs, s, a, level, 2, space, y.count)
 }
 
-fn cancel_record(e: Entry) -> Record
+pub fn cancel_record(e: Entry) -> Record
     ensures { λ r. ⌜ r ≡ cancelRecord e ⌝ }
 {
     Record {

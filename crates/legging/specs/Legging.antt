@@ -1,21 +1,26 @@
--- What the code of the legs' part leaves, and the fill by what the code has found.
-use mathlib.Core.Path.{_≡_}
-use mathlib.Core.List.{List}
+-- A fill by legs, of an entry, the leg orders and a strategy; what its parts leave; and the fill by what the code has found.
+use mathlib.Core.Path.{_≡_, refl}
+use mathlib.Core.List.{List, _++_}
 use Prim.Native.Nat.{ℕ, _+_, _*_, _≤_}
-use native.Mathlib.Nat.{mul-le-mul}
+use native.Mathlib.Nat.{mul-le-mul, le-trans}
 use lib.IntN.{ℤ}
 use lib.ListN.{getD}
 use Rattle.base.specs.Walks.{slot, joinN, walk-first, walk-next}
 use Rattle.rules.specs.declared.Leg.{Leg}
 use Rattle.rules.specs.declared.Strategy.{Strategy}
+use Rattle.rules.specs.declared.Entry.{Entry}
 use Rattle.rules.specs.declared.LegOrder.{LegOrder}
 use Rattle.rules.specs.declared.State.{State}
-use Rattle.rules.specs.State.{noLeg, entryAt, strategyOf}
-use Rattle.rules.specs.Nets.{netOf, unitsOf}
-use Rattle.rules.specs.Fills.{legQuotas, orderRows, cutOrders, orderRecordsAt, cutStep, cutByLegs, takeLegs, legFill, takesAt, legTake}
-use Rattle.records.specs.Space.{Appended, wrote-first, wrote-next}
+use Rattle.rules.specs.declared.Record.{Record}
+use Rattle.rules.specs.State.{noLeg, entryAt, strategyOf, withOrders}
+use Rattle.rules.specs.Nets.{prices, netOf, unitsOf}
+use Rattle.rules.specs.Fills.{partyRecords, cut, legQuotas, orderRows, cutOrders, orderRecordsAt, cutStep, cutByLegs, takeLegs, legFill, takesAt, legTake}
+use Rattle.rules.proofs.Turns.{units-most}
+use Rattle.records.specs.Space.{Appended, Room, wrote-first, wrote-next}
+use Rattle.records.specs.Done.{Done, done-of, room-of}
 use Rattle.nets.specs.declared.LegPrices.{LegPrices}
 use Rattle.nets.specs.Nets.{legPrices}
+use Rattle.legging.specs.declared.Legged.{Legged}
 
 -- one leg: its records are written, and its quotas taken from the rows
 pub record OneLeg (sp sq : List ℤ) (n m : ℕ) (rows rest os : List LegOrder) (side q price : ℕ) (l : Leg) : Type 0 where
@@ -26,6 +31,26 @@ pub record OneLeg (sp sq : List ℤ) (n m : ℕ) (rows rest os : List LegOrder) 
 pub record AllLegs (sp sq : List ℤ) (n m : ℕ) (rows os : List LegOrder) (side q : ℕ) (legs : List Leg) (ps : List ℕ) (k : ℕ) : Type 0 where
   pub wrote : Appended sp sq n m (joinN (orderRecordsAt os (takesAt side q legs ps)) k)
   pub left : rows ≡ cutByLegs os (takesAt side q legs ps) k
+
+-- a fill of entry e by the legs of s: its units
+unfoldable pub unitsByLegs : Entry → List LegOrder → Strategy → ℕ
+unitsByLegs e os s = unitsOf os (e .side) s (prices os (e .side) (s .legs)) (e .units)
+
+-- .. the leg orders left
+unfoldable pub ordersByLegs : Entry → List LegOrder → Strategy → List LegOrder
+ordersByLegs e os s = cutByLegs os (takesAt (e .side) (unitsByLegs e os s) (s .legs) (prices os (e .side) (s .legs))) (s .count)
+
+-- .. and the records
+unfoldable pub recordsByLegs : Entry → List LegOrder → Strategy → List Record
+recordsByLegs e os s =
+    let ps : List ℕ = prices os (e .side) (s .legs) in
+    partyRecords e s (unitsByLegs e os s) (netOf s ps) ps ++ joinN (orderRecordsAt os (takesAt (e .side) (unitsByLegs e os s) (s .legs) ps)) (s .count)
+
+-- .. such a fill done: the records written, the units and the leg orders handed back
+pub record FilledByLegs (sp sq : List ℤ) (n : ℕ) (t : Legged) (e : Entry) (os : List LegOrder) (s : Strategy) : Type 0 where
+  pub wrote : Appended sp sq n (t .count) (recordsByLegs e os s)
+  pub units : t .units ≡ unitsByLegs e os s
+  pub rows : t .rows ≡ ordersByLegs e os s
 
 -- laws
 
@@ -43,12 +68,34 @@ pub contracts-fit : (r q : ℕ) → r ≤ 12 → q ≤ 9999 → r * q ≤ 119_98
 contracts-fit r q a b = mul-le-mul a b
 
 -- the fill by the prices and units that the code has found
-pub fill-is : (a : ℕ) (b : State) {p : LegPrices} {q : ℕ} → p ≡ legPrices (b .orders) (entryAt b a .side) (strategyOf b (entryAt b a))
-    → q ≡ unitsOf (b .orders) (entryAt b a .side) (strategyOf b (entryAt b a)) (p .prices) (entryAt b a .units)
-    → legFill a b ≡ takeLegs b a (strategyOf b (entryAt b a)) (p .prices) q
-unfolding legFill legPrices
-fill-is a b e u = rw (u, e)
+module _ (e : Entry) (os : List LegOrder) (s : Strategy) {p : LegPrices} {q : ℕ} (found : p ≡ legPrices os (e .side) s) (units : q ≡ unitsOf os (e .side) s (p .prices) (e .units)) where
+  pub units-found : q ≡ unitsByLegs e os s
+  unfolding unitsByLegs legPrices
+  units-found = rw (units, found)
 
-pub net-is : (os : List LegOrder) (side : ℕ) (s : Strategy) {p : LegPrices} → p ≡ legPrices os side s → p .net ≡ netOf s (p .prices)
-unfolding legPrices
-net-is os side s e = rw e
+  pub orders-found : ordersByLegs e os s ≡ cutByLegs os (takesAt (e .side) q (s .legs) (p .prices)) (s .count)
+  unfolding ordersByLegs unitsByLegs legPrices
+  orders-found = rw (units, found)
+
+  pub records-found : recordsByLegs e os s ≡ partyRecords e s q (p .net) (p .prices) ++ joinN (orderRecordsAt os (takesAt (e .side) q (s .legs) (p .prices))) (s .count)
+  unfolding recordsByLegs unitsByLegs legPrices
+  records-found = rw (units, found)
+
+  pub units-few : e .units ≤ 9999 → q ≤ 9999
+  units-few h = rw units (le-trans (units-most _ _ _ _ _) h)
+
+-- a fill by legs in a book is that of its entry, leg orders and strategy
+pub by-legs : (a : ℕ) (b : State) →
+    legFill a b ≡ record {
+      state = withOrders (cut b a (unitsByLegs (entryAt b a) (b .orders) (strategyOf b (entryAt b a)))) (ordersByLegs (entryAt b a) (b .orders) (strategyOf b (entryAt b a)));
+      records = recordsByLegs (entryAt b a) (b .orders) (strategyOf b (entryAt b a));
+    }
+unfolding legFill takeLegs unitsByLegs ordersByLegs recordsByLegs
+by-legs a b = refl
+
+pub legs-room : (a : ℕ) (b : State) {sp : List ℤ} {n : ℕ} → Room sp n (legFill a b .records) → Room sp n (recordsByLegs (entryAt b a) (b .orders) (strategyOf b (entryAt b a)))
+legs-room a b r = room-of (by-legs a b) r
+
+pub legs-done : (a : ℕ) (b : State) {sp sq : List ℤ} {n : ℕ} {t : Legged} → FilledByLegs sp sq n t (entryAt b a) (b .orders) (strategyOf b (entryAt b a))
+    → Done sp sq n (t .count) (withOrders (cut b a (t .units)) (t .rows)) (legFill a b)
+legs-done a b f = done-of (by-legs a b) (record { wrote = f .wrote; state = rw (f .units, f .rows) })

@@ -1,22 +1,20 @@
 // Fills of whole against legs.
 ghost use mathlib.Core.Path.{_≡_};
 ghost use Prim.Native.Nat.{_+_, _*_, _-_, _<_, _≤_};
+ghost use Rattle.base.specs.All.{All};
 ghost use Rattle.base.specs.Walks.{joinN};
 ghost use Rattle.rules.specs.Sizes.{tableRows};
-ghost use Rattle.rules.specs.Nets.{netOf};
-ghost use Rattle.rules.specs.Fills.{legQuotas, orderRows, orderRecordsAt, cutOrders, takeLegs, legFill, takesAt, legTake};
+ghost use Rattle.rules.specs.Valid.{FitOrder};
+ghost use Rattle.rules.specs.Fills.{legQuotas, orderRows, orderRecordsAt, cutOrders, takesAt, legTake};
 ghost use Rattle.records.specs.Space.{Appended, Room};
-ghost use Rattle.records.specs.Done.{Done};
-ghost use Rattle.ranges.specs.Fit.{FitLegs, Fit};
-ghost use Rattle.legging.specs.Legging.{OneLeg, AllLegs};
-use fills::cut;
+ghost use Rattle.ranges.specs.Fit.{FitLegs};
+ghost use Rattle.legging.specs.Legging.{OneLeg, AllLegs, recordsByLegs, FilledByLegs};
 use fills::party_records;
-use nets::LegPrices;
 use nets::leg_prices;
 use nets::lots;
 use nets::units_of;
 use quotas::in_turn;
-use records::After;
+use rules::Entry;
 use rules::Leg;
 use rules::LegOrder;
 use rules::State;
@@ -30,6 +28,13 @@ use trades::order_row;
 struct Cuts {
     rows: [LegOrder; State::LEG_ORDERS],
     count: usize,
+}
+
+// The leg orders left, the units taken, and the next free place for records.
+pub struct Legged {
+    pub rows: [LegOrder; State::LEG_ORDERS],
+    pub units: u32,
+    pub count: usize,
 }
 
 // The quotas of one leg, by number, for c contracts at a price.
@@ -133,46 +138,27 @@ fn all_legs(
     c
 }
 
-// Entry a takes q units from the legs at these prices: its own records, then the leg orders'.
-fn take_legs(
-    b: State,
-    a: usize,
+// Entry e of strategy s at the leg net: as many units as it has and the best prices hold.
+pub fn leg_fill(
+    e: Entry,
+    os: [LegOrder; State::LEG_ORDERS],
     s: Strategy,
-    p: LegPrices,
-    q: u32,
     space: &mut [i32],
     n: usize,
-) -> After
-    requires { ⌜ (a < tableRows) × FitLegs s × (q ≤ 9999) × (p .net ≡ netOf s (p .prices)) ⌝ }
-    requires { ⌜ Room (now space) n (takeLegs b a s (p .prices) q .records) ⌝ }
-    ensures { λ t. ⌜ Done (now (space .entry)) (now (space .exit)) n (t .count) (t .state) (takeLegs b a s (p .prices) q) ⌝ }
+) -> Legged
+    requires { ⌜ All FitOrder os × FitLegs s × (e .units ≤ 9999) ⌝ }
+    requires { ⌜ Room (now space) n (recordsByLegs e os s) ⌝ }
+    ensures { λ t. ⌜ FilledByLegs (now (space .entry)) (now (space .exit)) n t e os s ⌝ }
 {
-    let e = b.entries[a];
-    let os = b.orders;
-    let ps = p.prices;
-    let m = party_records(space, n, e, s, q, p.net, ps);
-    let c = all_legs(os, e.side, q, s, ps, space, m);
-    let rows = c.rows;
-    let mut d = cut(b, a, q);
-    d.orders = rows;
-    After {
-        state: d,
-        count: c.count,
-    }
-}
-
-// Entry a at the leg net: as many units as it has and the best prices hold.
-pub fn leg_fill(b: State, a: usize, space: &mut [i32], n: usize) -> After
-    requires { ⌜ (a < tableRows) × Fit b ⌝ }
-    requires { ⌜ Room (now space) n (legFill a b .records) ⌝ }
-    ensures { λ t. ⌜ Done (now (space .entry)) (now (space .exit)) n (t .count) (t .state) (legFill a b) ⌝ }
-{
-    let e = b.entries[a];
-    let k = e.strategy as usize;
-    let s = b.strategies[k];
-    let os = b.orders;
     let p = leg_prices(os, e.side, s);
     let ps = p.prices;
     let q = units_of(os, e.side, s, ps, e.units);
-    take_legs(b, a, s, p, q, space, n)
+    let m = party_records(space, n, e, s, q, p.net, ps);
+    let c = all_legs(os, e.side, q, s, ps, space, m);
+    let rows = c.rows;
+    Legged {
+        rows: rows,
+        units: q,
+        count: c.count,
+    }
 }

@@ -17,10 +17,11 @@ use Rattle.rules.specs.declared.Turn.{Turn}
 use Rattle.rules.specs.declared.Turn.the-variants.{Stop, ByLegs, AtLimit}
 use Rattle.rules.specs.State.{entryAt, strategyOf}
 use Rattle.rules.specs.Moves.{still, each}
-use Rattle.rules.specs.Passes.{bestOpposite, opposite, ready, readyNet, turnAt, turnOf, takeTurn, turn, pass}
+use Rattle.rules.specs.Fills.{legFill}
+use Rattle.rules.specs.Passes.{bestOpposite, opposite, ready, readyNet, meetLimit, turnAt, turnOf, takeTurn, turn, pass}
 use Rattle.rules.proofs.Control.{each-kept, turn-kept, shrinks-kept}
 use Rattle.rules.proofs.Turns.{idle}
-use Rattle.records.specs.Done.{Done}
+use Rattle.records.specs.Done.{Done, Visited, done-of}
 use Rattle.ranges.specs.Fit.{Fit, fit-done}
 use Rattle.nets.specs.Ready.{netReady}
 
@@ -84,10 +85,31 @@ pass-stops way legs a k i b c h e s =
     let q : k ≡ k - i + i = omega arith in
     rw q (idle (turn way legs a) b i (λ j. stop-still way a (each (turn way legs a) i b .state) (turnOf way legs a (each (turn way legs a) i b .state)) g) (k - i))
 
--- a pass by legs only whose first turn stops
+pub turn-stops : (way : Allocation) (legs : Bool) (a : ℕ) {k i : ℕ} {b c : State} {sp sq : List ℤ} {n m : ℕ} → Visited (turn way legs a) k b sp sq n m c i → turnOf way legs a c ≡ Stop → Visited (turn way legs a) k b sp sq n m c k
+unfolding stopsAt
+turn-stops way legs a {k} {i} {b} {c} v e =
+    record { most = omega arith; done = done-of (pass-stops way legs a k i b c (v .most) (v .done .state) (ap stopsAt e)) (v .done) }
+
+-- the other turns
+pub turn-legs : (way : Allocation) (legs : Bool) (a : ℕ) (b : State) → turnOf way legs a b ≡ ByLegs → takeTurn way a (turnOf way legs a b) b ≡ legFill a b
+unfolding takeTurn
+turn-legs way legs a b e = ap (λ (t : Turn). takeTurn way a t b) e
+
+pub turn-limit : (way : Allocation) (legs : Bool) (a : ℕ) (b : State) (level : ℕ) → turnOf way legs a b ≡ AtLimit level → takeTurn way a (turnOf way legs a b) b ≡ meetLimit way a level b
+unfolding takeTurn
+turn-limit way legs a b level e = ap (λ (t : Turn). takeTurn way a t b) e
+
+-- a pass whose first turn stops, by what the turn reads
+pub pass-still : (way : Allocation) (legs : Bool) (a : ℕ) (b : State) {e : Entry} {es : List Entry} {os : List LegOrder} {s : Strategy}
+    → e ≡ entryAt b a → es ≡ b .entries → os ≡ b .orders → s ≡ strategyOf b (entryAt b a) → stopsAt (turnAt e (oppositeIn way es e) (netIn legs os (e .side) s)) ≡ true
+    → pass way legs a b ≡ still b
+unfolding pass each
+pass-still way legs a b p q r u h =
+    let g : stopsAt (turnOf way legs a b) ≡ true = rw (p, q, r, u, turn-in way legs a b) at h in
+    pass-stops way legs a (entryAt b a .units) 0 b b (omega arith) refl g
+
+-- .. of a pass by legs only
 pub legs-still : (a : ℕ) (b : State) (net : ℕ) → net ≡ netReady (b .orders) (entryAt b a .side) (strategyOf b (entryAt b a)) → stopsAt (turnAt (entryAt b a) 0 net) ≡ true
     → pass LegsOnly true a b ≡ still b
-unfolding pass each oppositeIn netIn pick
-legs-still a b net e s =
-    let t : turnAt (entryAt b a) 0 net ≡ turnOf LegsOnly true a b = rw e (turn-in LegsOnly true a b) in
-    pass-stops LegsOnly true a (entryAt b a .units) 0 b b (omega arith) refl (rw t at s)
+unfolding oppositeIn netIn pick
+legs-still a b net e h = pass-still LegsOnly true a b refl refl refl refl (rw e at h)

@@ -4,11 +4,14 @@ ghost use Prim.Native.Nat.{_+_, _-_, _<_};
 ghost use Rattle.base.specs.All.{All};
 ghost use Rattle.rules.specs.Sizes.{tableRows};
 ghost use Rattle.rules.specs.Valid.{FitOrder};
-ghost use Rattle.rules.specs.Passes.{legsFirst, turnAt, meetLimit, takeTurn, pass};
+ghost use Rattle.rules.specs.Passes.{legsFirst, turnAt, meetLimit, pass};
 ghost use Rattle.records.specs.Space.{Room};
-ghost use Rattle.records.specs.Done.{Done};
+ghost use Rattle.records.specs.Done.{Done, RoomIn, DoneIn};
 ghost use Rattle.ranges.specs.Fit.{FitLegs, Priced, Fit};
+ghost use Rattle.fills.specs.Gives.{Holds, putEntries};
 ghost use Rattle.passes.specs.Passes.{stopsAt, oppositeIn, netIn};
+use fills::Given;
+use fills::cut_entry;
 use fills::give_in_turn;
 use fills::give_shared;
 use legging::leg_fill;
@@ -101,28 +104,24 @@ fn turn_of(
     turn_at(e, x, net)
 }
 
-// The holders of a limit are met.
-fn meet_limit(way: Allocation, b: State, a: usize, level: u32, space: &mut [i32], n: usize) -> After
-    requires { ⌜ (a < tableRows) × Fit b ⌝ }
-    requires { ⌜ Room (now space) n (meetLimit way a level b .records) ⌝ }
-    ensures { λ t. ⌜ Done (now (space .entry)) (now (space .exit)) n (t .count) (t .state) (meetLimit way a level b) ⌝ }
+// The holders of a limit are met by entry a, of strategy s.
+fn meet_limit(
+    way: Allocation,
+    es: [Entry; State::ROWS],
+    s: Strategy,
+    a: usize,
+    level: u32,
+    space: &mut [i32],
+    n: usize,
+) -> Given
+    requires { ⌜ a < tableRows ⌝ }
+    requires { ⌜ RoomIn (Holds es s a) (meetLimit way a level) (now space) n ⌝ }
+    ensures { λ t. ⌜ DoneIn (Holds es s a) (meetLimit way a level) (now (space .entry)) (now (space .exit)) n (t .count) (putEntries (t .rows)) ⌝ }
 {
     match way {
-        Allocation::LegsOnly => After { state: b, count: n },
-        Allocation::Shared => give_shared(b, a, level, space, n),
-        Allocation::Numbered => give_in_turn(b, a, level, 3, space, n),
-    }
-}
-
-fn take_turn(way: Allocation, b: State, a: usize, t: Turn, space: &mut [i32], n: usize) -> After
-    requires { ⌜ (a < tableRows) × Fit b ⌝ }
-    requires { ⌜ Room (now space) n (takeTurn way a t b .records) ⌝ }
-    ensures { λ r. ⌜ Done (now (space .entry)) (now (space .exit)) n (r .count) (r .state) (takeTurn way a t b) ⌝ }
-{
-    match t {
-        Turn::Stop => After { state: b, count: n },
-        Turn::ByLegs => leg_fill(b, a, space, n),
-        Turn::AtLimit(level) => meet_limit(way, b, a, level, space, n),
+        Allocation::LegsOnly => Given { rows: es, count: n },
+        Allocation::Shared => give_shared(es, s, a, level, space, n),
+        Allocation::Numbered => give_in_turn(es, s, a, level, 3, space, n),
     }
 }
 
@@ -144,6 +143,22 @@ pub fn legs_idle(e: Entry, net: u32) -> bool
     stops(t)
 }
 
+// Whether a pass of entry e, of strategy s, does nothing among these entries and leg orders.
+pub fn idle(
+    way: Allocation,
+    legs: bool,
+    e: Entry,
+    es: [Entry; State::ROWS],
+    os: [LegOrder; State::LEG_ORDERS],
+    s: Strategy,
+) -> bool
+    requires { ⌜ All FitOrder os × All Priced os × FitLegs s ⌝ }
+    ensures { λ r. ⌜ r ≡ stopsAt (turnAt e (oppositeIn way es e) (netIn legs os (e .side) s)) ⌝ }
+{
+    let t = turn_of(way, legs, e, es, os, s);
+    stops(t)
+}
+
 // A pass of entry a: turn after turn, each chosen anew, until one stops. There are no more than it has units.
 pub fn pass(way: Allocation, legs: bool, b: State, a: usize, space: &mut [i32], n: usize) -> After
     requires { ⌜ (a < tableRows) × Fit b ⌝ }
@@ -162,13 +177,26 @@ pub fn pass(way: Allocation, legs: bool, b: State, a: usize, space: &mut [i32], 
         let es = c.entries;
         let os = c.orders;
         let t = turn_of(way, legs, f, es, os, s);
-        if stops(t) {
-            return After { state: c, count: m };
+        match t {
+            Turn::Stop => {
+                i = units;
+            }
+            Turn::ByLegs => {
+                let x = leg_fill(f, os, s, space, m);
+                let rows = x.rows;
+                c.orders = rows;
+                c.entries[a] = cut_entry(f, x.units);
+                m = x.count;
+                i += 1;
+            }
+            Turn::AtLimit(level) => {
+                let x = meet_limit(way, es, s, a, level, space, m);
+                let rows = x.rows;
+                c.entries = rows;
+                m = x.count;
+                i += 1;
+            }
         }
-        let r = take_turn(way, c, a, t, space, m);
-        c = r.state;
-        m = r.count;
-        i += 1;
     }
     After { state: c, count: m }
 }

@@ -99,3 +99,51 @@ module _ {f : ℕ → State → Moved} {k i : ℕ} {b₀ b : State} {sp sq : Lis
   -- all slots
   pub visit-all : k ≤ i → Done sp sq n m b (each f k b₀)
   visit-all h = let e : i ≡ k = omega (arith, v .most) in rw e at (v .done)
+
+-- A function that is handed parts of a book speaks of every book H that has them; one of these witnesses the room.
+
+-- room for a rule f from a book of H
+pub record RoomIn (H : State → Type 0) (f : State → Moved) (sp : List ℤ) (n : ℕ) : Type 0 where
+  pub book : State
+  pub held : H book
+  pub room : Room sp n (f book .records)
+
+-- from each book of H the rule f was followed, which ends in `put` of the book
+pub record DoneIn (H : State → Type 0) (f : State → Moved) (sp sq : List ℤ) (n m : ℕ) (put : State → State) : Type 0 where
+  pub done : (b : State) → H b → Done sp sq n m (put b) (f b)
+
+pub in-length : {H : State → Type 0} {f g : State → Moved} {sp sq : List ℤ} {n m : ℕ} {put : State → State} → RoomIn H g sp n → DoneIn H f sp sq n m put → length sq ≡ length sp
+in-length r d = done-length (d .done (r .book) (r .held))
+
+-- a rule by its name in these books
+pub in-room : {H : State → Type 0} {f g : State → Moved} {sp : List ℤ} {n : ℕ} → ((b : State) → H b → f b ≡ g b) → RoomIn H f sp n → RoomIn H g sp n
+in-room same r = record { book = r .book; held = r .held; room = room-of (same (r .book) (r .held)) (r .room) }
+
+pub in-done : {H : State → Type 0} {f g : State → Moved} {sp sq : List ℤ} {n m : ℕ} {put : State → State} → ((b : State) → H b → f b ≡ g b) → DoneIn H g sp sq n m put → DoneIn H f sp sq n m put
+in-done same d = record { done = λ b h. done-of (same b h) (d .done b h) }
+
+-- two rules one after the other: after the first, the book is one of K
+module _ {H : State → Type 0} (f g : State → Moved) {sp : List ℤ} {n : ℕ} where
+  pub in-first : RoomIn H (λ b. and-then (f b) g) sp n → RoomIn H f sp n
+  in-first r = record { book = r .book; held = r .held; room = room-then _ _ (r .room) }
+
+  pub in-after : {K : State → Type 0} {sq : List ℤ} {m : ℕ} {put : State → State} → RoomIn H (λ b. and-then (f b) g) sp n → DoneIn H f sp sq n m put → ((b : State) → H b → K (put b)) → RoomIn K g sq m
+  in-after r d k = record { book = _; held = k (r .book) (r .held); room = room-after _ _ (r .room) (d .done (r .book) (r .held)) }
+
+  pub in-then : {K : State → Type 0} {sq sr : List ℤ} {m k : ℕ} {put push : State → State} → DoneIn H f sp sq n m put → ((b : State) → H b → K (put b)) → DoneIn K g sq sr m k push → DoneIn H (λ b. and-then (f b) g) sp sr n k (λ b. push (put b))
+  in-then d k e = record { done = λ b h. done-then _ _ (d .done b h) (e .done _ (k b h)) }
+
+-- the loop over the slots: none passed yet, one more that moves or stays, and the room for it
+module _ {H : State → Type 0} (f : ℕ → State → Moved) {sp : List ℤ} {n : ℕ} where
+  pub slots-none : {put : State → State} → ((b : State) → H b → put b ≡ b) → DoneIn H (each f 0) sp sp n n put
+  slots-none same = record { done = λ b h. rw (same b h) (each-first sp n f b) }
+
+  module _ {sq : List ℤ} {m i : ℕ} {put : State → State} (d : DoneIn H (each f i) sp sq n m put) where
+    pub slots-move : {sr : List ℤ} {o : ℕ} {next : State → State} → ((b : State) → H b → Done sq sr m o (next b) (f i (put b))) → DoneIn H (each f (i + 1)) sp sr n o next
+    slots-move moves = record { done = λ b h. each-next f i b (d .done b h) (moves b h) }
+
+    pub slots-stay : ((b : State) → H b → f i (put b) ≡ still (put b)) → DoneIn H (each f (i + 1)) sp sq n m put
+    slots-stay stays = slots-move (λ b h. done-of (stays b h) (done-still sq m (put b)))
+
+    pub slots-room : (k : ℕ) (r : RoomIn H (each f k) sp n) → i < k → Room sq m (f i (put (r .book)) .records)
+    slots-room k r h = room-each f k i (r .book) (r .room) h (d .done (r .book) (r .held))
