@@ -15,6 +15,7 @@ use matching::next_pass;
 use records::After;
 use rules::LegOrder;
 use rules::State;
+use trades::next_trade;
 use trades::trade_all;
 
 // The passes by legs only, where something of the leg order at slot a rests.
@@ -43,9 +44,15 @@ pub fn on_leg_order(b: State, o: LegOrder, space: &mut [i32], n: usize) -> After
     requires { ⌜ Room (now space) n (onLegOrder o b .records) ⌝ }
     ensures { λ t. ⌜ Done (now (space .entry)) (now (space .exit)) n (t .count) (t .state) (onLegOrder o b) ⌝ }
 {
-    let a = free_order_slot(b);
-    let c = enter_order(o, b);
-    let x = trade_all(c, a, space, n);
-    let d = x.state;
-    if_rests(d, o.series, a, space, x.count)
+    let os = b.orders;
+    let a = free_order_slot(os);
+    let mut c = enter_order(o, b);
+    let mut m = n;
+    let rows = c.orders;
+    if next_trade(rows, a) < State::LEG_ORDERS {
+        let x = trade_all(c, a, space, m);
+        c = x.state;
+        m = x.count;
+    }
+    if_rests(c, o.series, a, space, m)
 }

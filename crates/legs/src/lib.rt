@@ -3,6 +3,7 @@ ghost use mathlib.Core.Path.{_≡_};
 ghost use lib.ListN.{length};
 ghost use Rattle.rules.specs.State.{noOrder};
 ghost use Rattle.rules.specs.Events.{liveOrder, keep, behind, enterOrder, freeOrderSlot, meetsOrder, bestOrder};
+ghost use Rattle.tables.specs.Only.{onlyOrders};
 ghost use Rattle.legs.specs.Search.{aheadOf};
 use nets::stands;
 use records::with_orders;
@@ -60,10 +61,9 @@ fn count(os: [LegOrder; State::LEG_ORDERS]) -> usize
 }
 
 // The slot that the next leg order takes.
-pub fn free_order_slot(b: State) -> usize
-    ensures { λ r. ⌜ r ≡ freeOrderSlot b ⌝ }
+pub fn free_order_slot(os: [LegOrder; State::LEG_ORDERS]) -> usize
+    ensures { λ r. ⌜ r ≡ freeOrderSlot (onlyOrders os) ⌝ }
 {
-    let os = b.orders;
     count(os)
 }
 
@@ -103,14 +103,14 @@ fn ahead_order(o: LegOrder, p: LegOrder, best: usize, price: u32) -> bool
 }
 
 // The slot of the order that o trades with first: best price, then number; 32 where there is none.
-pub fn best_order(b: State, o: LegOrder) -> usize
-    ensures { λ r. ⌜ r ≡ bestOrder b o ⌝ }
+pub fn best_order(os: [LegOrder; State::LEG_ORDERS], o: LegOrder) -> usize
+    ensures { λ r. ⌜ r ≡ bestOrder (onlyOrders os) o ⌝ }
 {
     let mut best: usize = State::LEG_ORDERS;
     let mut price: u32 = 0;
     let mut i: usize = 0;
     while i < State::LEG_ORDERS {
-        let p = b.orders[i];
+        let p = os[i];
         if ahead_order(o, p, best, price) {
             best = i;
             price = p.price;

@@ -1,3 +1,4 @@
 pub mod Padded
 pub mod Kept
 pub mod Packed
+pub mod Only

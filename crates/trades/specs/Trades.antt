@@ -17,10 +17,11 @@ use Rattle.rules.specs.declared.State.{State}
 use Rattle.rules.specs.State.{noOrder, orderAt, withOrders}
 use Rattle.rules.specs.Moves.{Moved, still, and-then, each}
 use Rattle.rules.specs.Fills.{orderRecord, orderRow, cutOrder, cutLeg, legTrade, cancelLegRecord, cancelOrder}
-use Rattle.rules.specs.Events.{bestOrder, tradeOnce, tradeAll}
+use Rattle.rules.specs.Events.{aheadOrder, bestOrder, tradeOnce, tradeAll}
 use Rattle.rules.proofs.Turns.{idle}
 use Rattle.records.specs.Space.{Appended, Room}
 use Rattle.records.specs.Done.{Done, done-of, room-of}
+use Rattle.tables.specs.Only.{onlyOrders}
 use Rattle.legs.specs.Search.{best-order-most}
 
 -- the records of a trade of q contracts at the resting price
@@ -32,6 +33,11 @@ unfoldable pub nextTrade : ℕ → State → ℕ
 nextTrade a b = pick (eqb (orderAt b a .contracts) 0) 32 (bestOrder b (orderAt b a))
 
 -- laws
+
+-- it hangs on the leg orders alone
+pub next-only : (a : ℕ) (b : State) → nextTrade a (onlyOrders (b .orders)) ≡ nextTrade a b
+unfolding nextTrade bestOrder aheadOrder
+next-only a b = refl
 
 -- a fill of leg orders: none of 0 contracts
 pub row-none : (o : LegOrder) (q price : ℕ) → q ≡ 0 → orderRow o q price ≡ []
@@ -126,6 +132,13 @@ trades-stop a i b c l e g z =
     let q : 32 ≡ 32 - i + i = omega arith in
     let s : 32 ≤ nextTrade a (each (tradeOnce a) i b .state) = rw (← e) (omega (arith, g, z)) in
     ap (λ (k : ℕ). each (tradeOnce a) k b) q ∙ idle (tradeOnce a) b i (λ j. once-still a j (each (tradeOnce a) i b .state) s) (32 - i)
+
+-- where none meets the order nothing moves
+pub trades-none : (a : ℕ) (b : State) {h : ℕ} → h ≡ nextTrade a (onlyOrders (b .orders)) → 32 ≤ h → tradeAll a b ≡ still b
+unfolding each
+trades-none a b {h} e l =
+    let g : h ≡ nextTrade a b = e ∙ next-only a b in
+    trades-stop a 0 b b (omega arith) refl g (omega (arith, g, next-most a b))
 
 -- a turn that trades
 pub trade-turn : (a i : ℕ) (c : State) {h : ℕ} → h ≡ nextTrade a c → ¬ (h ≡ 32) → tradeOnce a i c ≡ legTrade c a h

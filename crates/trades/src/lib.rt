@@ -6,6 +6,7 @@ ghost use Rattle.rules.specs.Fills.{orderRecord, orderRow, cutOrder, cutLeg, le
 ghost use Rattle.rules.specs.Events.{tradeAll};
 ghost use Rattle.records.specs.Space.{Appended, Room};
 ghost use Rattle.records.specs.Done.{Done};
+ghost use Rattle.tables.specs.Only.{onlyOrders};
 ghost use Rattle.trades.specs.Trades.{tradeRecords, nextTrade};
 use legs::best_order;
 use records::After;
@@ -91,17 +92,17 @@ fn leg_trade(b: State, a: usize, h: usize, space: &mut [i32], n: usize) -> After
 }
 
 // The slot that the leg order at slot a trades with next, 32 where there is none.
-fn next_trade(b: State, a: usize) -> usize
-    ensures { λ h. ⌜ h ≡ nextTrade a b ⌝ }
+pub fn next_trade(os: [LegOrder; State::LEG_ORDERS], a: usize) -> usize
+    ensures { λ h. ⌜ h ≡ nextTrade a (onlyOrders os) ⌝ }
 {
     if State::LEG_ORDERS <= a {
         return State::LEG_ORDERS;
     }
-    let o = b.orders[a];
+    let o = os[a];
     if o.contracts == 0 {
         return State::LEG_ORDERS;
     }
-    best_order(b, o)
+    best_order(os, o)
 }
 
 // The trades of the leg order at slot a, until none meets it or nothing of it is left.
@@ -113,7 +114,8 @@ pub fn trade_all(b: State, a: usize, space: &mut [i32], n: usize) -> After
     let mut m = n;
     let mut i: usize = 0;
     while i < State::LEG_ORDERS {
-        let h = next_trade(c, a);
+        let os = c.orders;
+        let h = next_trade(os, a);
         if h == State::LEG_ORDERS {
             return After { state: c, count: m };
         }

@@ -5,15 +5,16 @@ use mathlib.Core.Path.{_≡_}
 use mathlib.Core.Logic.{⊎-elim}
 use Rattle.base.specs.Pick.{told}
 use Rattle.rules.specs.Events.{bestOrder}
+use Rattle.tables.specs.Only.{onlyOrders}
 use Rattle.legs.specs.Search.{Leading, leading-first, leading-here, leading-past}
 use Rattle.legs.proofs.best_order.Statement.{statement}
 use Rattle.legs.proofs.best_order.Tie as tie
 
 abbrev Inv-loop : tie.InvT-loop
-Inv-loop o b best₀ price₀ i₀ best price i = (i ≤ 32) × Leading b o i best price
+Inv-loop o os best₀ price₀ i₀ best price i = (i ≤ 32) × Leading (onlyOrders os) o i best price
 
 abbrev μ-loop : tie.MeasureT-loop
-μ-loop o b best₀ price₀ i₀ best price i = 32 - i
+μ-loop o os best₀ price₀ i₀ best price i = 32 - i
 
 loop-holds : tie.Need-loop-holds Inv-loop μ-loop
 loop-holds c = (omega arith, leading-first _ _)
@@ -21,8 +22,8 @@ loop-holds c = (omega arith, leading-first _ _)
 mul-p : tie.Need-mul-p Inv-loop μ-loop
 mul-p c = omega arith
 
-element-copy-out-p : tie.Need-element-copy-out-p Inv-loop μ-loop
-element-copy-out-p c = omega arith
+array-copy-out-p : tie.Need-array-copy-out-p Inv-loop μ-loop
+array-copy-out-p c = omega arith
 
 ahead-order-requires : tie.Need-ahead-order-requires Inv-loop μ-loop
 ahead-order-requires c κs = search needs
@@ -48,7 +49,7 @@ best-order-spec =
     μ-loop
     loop-holds
     mul-p
-    element-copy-out-p
+    array-copy-out-p
     ahead-order-requires
     add-i
     loop-less

@@ -1,17 +1,18 @@
-use lib.ListN.{length-map}
+use mathlib.Core.Path.{_≡_}
+use lib.ListN.{length}
 use Rattle.trades.specs.Trades.{next-none, next-past, next-some}
 use borrow.Author.Needs.{needs}
 use Rattle.trades.proofs.next_trade.Statement.{statement}
 use Rattle.trades.proofs.next_trade.Tie as tie
 
 returns : tie.Need-returns
-returns c = next-past _ _ (simp length-map at (c .before .good .0 .1 .1 .1 .1 .0 .1 .0 .1)) (c .if1 .taken)
+returns c = let n : length (c .before .args .t1) ≡ 32 = search needs in next-past _ _ n (c .if1 .taken)
 
 mul-o : tie.Need-mul-o
 mul-o c = search needs
 
-element-copy-out-o : tie.Need-element-copy-out-o
-element-copy-out-o c = search needs
+array-copy-out-o : tie.Need-array-copy-out-o
+array-copy-out-o c = search needs
 
 returns-2 : tie.Need-returns-2
 returns-2 c = next-none _ _ (c .if2 .taken)
@@ -24,4 +25,4 @@ returns-3 c = next-some _ _ (c .before .if2 .left) (c .best-order .ensures)
 
 pub next-trade-spec : {M : Type 1} → statement M
 next-trade-spec =
-    tie.close (tie.spec returns mul-o element-copy-out-o returns-2 best-order-requires returns-3)
+    tie.close (tie.spec returns mul-o array-copy-out-o returns-2 best-order-requires returns-3)
