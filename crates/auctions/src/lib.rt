@@ -5,13 +5,14 @@ ghost use Prim.Native.Nat.{_+_, _-_, _<_};
 ghost use lib.Dec.{eqb};
 ghost use Rattle.base.specs.Pick.{pick};
 ghost use Rattle.rules.specs.Sizes.{strategySlots, tableRows};
-ghost use Rattle.rules.specs.State.{entryAt};
+ghost use lib.ListN.{getD};
+ghost use Rattle.rules.specs.State.{noEntry};
 ghost use Rattle.rules.specs.Moves.{each};
-ghost use Rattle.rules.specs.Auctions.{liveIn, putAuction, begin, close, starterSlot, answer, lapses, cancelLapsed, endUnfilled};
+ghost use Rattle.rules.specs.Auctions.{liveIn, putAuction, begin, close, lapses, cancelLapsed, endUnfilled};
 ghost use Rattle.records.specs.Space.{Room};
 ghost use Rattle.records.specs.Done.{Done};
 ghost use Rattle.ranges.specs.Fit.{Fit};
-ghost use Rattle.auctions.specs.Auctions.{begunRecord, endedRecord};
+ghost use Rattle.auctions.specs.Auctions.{starterIn, answersIn, begunRecord, endedRecord};
 use fills::cancel_entry;
 use records::After;
 use records::push;
@@ -33,16 +34,13 @@ fn is_number(k: usize, n: u32, e: Entry) -> bool
     false
 }
 
-// The slot of the order that started the auction of strategy k, 32 where it is gone.
-pub fn starter_slot(b: State, k: usize) -> usize
-    requires { ⌜ k < strategySlots ⌝ }
-    ensures { λ r. ⌜ r ≡ starterSlot b k ⌝ }
+// The slot of the order of number n that started the auction of strategy k, 32 where it is gone.
+pub fn starter_slot(es: [Entry; State::ROWS], k: usize, n: u32) -> usize
+    ensures { λ r. ⌜ r ≡ starterIn es k n ⌝ }
 {
-    let s = b.strategies[k];
-    let n = s.starter;
     let mut i: usize = 0;
     while i < State::ROWS {
-        let e = b.entries[i];
+        let e = es[i];
         if is_number(k, n, e) {
             return i;
         }
@@ -52,7 +50,7 @@ pub fn starter_slot(b: State, k: usize) -> usize
 }
 
 // The auction of strategy k, changed: its starter, the clock at its start, whether it was answered.
-fn put_auction(b: State, k: usize, n: u32, t: u32, a: bool) -> State
+pub fn put_auction(b: State, k: usize, n: u32, t: u32, a: bool) -> State
     requires { ⌜ k < strategySlots ⌝ }
     ensures { λ c. ⌜ c ≡ putAuction b k n t a ⌝ }
 {
@@ -119,30 +117,24 @@ pub fn close(b: State, k: usize, space: &mut [i32], n: usize) -> After
 }
 
 // The side of the entry at a slot, 0 past the last.
-fn side_at(b: State, i: usize) -> u8
-    requires { ⌜ Fit b ⌝ }
-    ensures { λ r. ⌜ r ≡ entryAt b i .side ⌝ }
+fn side_at(es: [Entry; State::ROWS], i: usize) -> u8
+    ensures { λ r. ⌜ r ≡ getD es i noEntry .side ⌝ }
 {
     if i < State::ROWS {
-        let e = b.entries[i];
+        let e = es[i];
         return e.side;
     }
     0
 }
 
-// An opposite sweep or waiting order of that side was accepted during the auction of strategy k.
-pub fn answer(b: State, k: usize, side: u8) -> State
-    requires { ⌜ (k < strategySlots) × Fit b ⌝ }
-    ensures { λ c. ⌜ c ≡ answer k side b ⌝ }
+// Whether a sweep or waiting order of that side answers the auction of strategy k, which the order of number n started.
+pub fn answers(es: [Entry; State::ROWS], k: usize, n: u32, side: u8) -> bool
+    ensures { λ r. ⌜ r ≡ answersIn es k n side ⌝ }
 {
-    let i = starter_slot(b, k);
-    let x = side_at(b, i);
+    let i = starter_slot(es, k, n);
+    let x = side_at(es, i);
     let y = other(side);
-    if x == y {
-        let s = b.strategies[k];
-        return put_auction(b, k, s.starter, s.begun, true);
-    }
-    b
+    x == y
 }
 
 // Whether an entry is cancelled at the end of the auction of strategy k: a response, an immediate or a sweep.

@@ -144,10 +144,10 @@ number-most b t g h = omega (arith, g, first-le (sameAt b t) (b .defined))
 
 -- an order that nothing refuses, as a row: its slot, the ranges and the room; and what is handed back after its rule
 module _ (b : State) (e : GivenOrder) (s : List ℤ) {n : ℕ} (c : n ≡ firstCause (causes b (E.Order e))) (q : Valid b × FitOrderGiven e × (15_360 ≤ length s)) (z : n ≡ 0) {r : Entry} (g : r ≡ orderGiven b e) where
-  pub order-asks : ((freeSlot b < 32) × FitEntry r × Fit b) × Room s 0 (onOrder r b .records)
+  pub order-asks : ((freeSlot b < 32) × FitEntry r × (0 < r .units) × Fit b) × Room s 0 (onOrder r b .records)
   order-asks =
       let k = order-clear b e (q .0 .sound) (q .1) (sym c ∙ z) in
-      ((order-slot b _ (q .0 .sound) k, rw g (k .fit), fit-sound (q .0 .sound)), room-event b (E.Order e) s c q z (order-accepts b e g))
+      ((order-slot b _ (q .0 .sound) k, rw g (k .fit), rw g (k .live), fit-sound (q .0 .sound)), room-event b (E.Order e) s c q z (order-accepts b e g))
 
   pub order-took : {t : List ℤ} {m : ℕ} {d : State} {x : Taken} → Done s t 0 m d (onOrder r b) → x ≡ admit d (r .number) m → Took b (E.Order e) s t x
   order-took w h = took b (E.Order e) s c q z (order-accepts b e g) w (order-value b e g) h

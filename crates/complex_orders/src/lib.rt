@@ -4,38 +4,44 @@ ghost use mathlib.Core.Bool.{true};
 ghost use Prim.Native.Nat.{_<_};
 ghost use lib.Dec.{eqb};
 ghost use Rattle.base.specs.Pick.{pick};
+ghost use Rattle.base.specs.All.{All};
 ghost use Rattle.rules.specs.Sizes.{tableRows};
-ghost use Rattle.rules.specs.Events.{freeSlot, restOrCancel, mayStart, starts, waits, trades, arrive, onOrder};
-ghost use Rattle.rules.specs.Valid.{FitEntry};
+ghost use Rattle.rules.specs.Events.{freeSlot, restOrCancel, mayStart, trades, onOrder};
+ghost use Rattle.rules.specs.Valid.{FitEntry, FitOrder};
 ghost use Rattle.records.specs.Space.{Room};
 ghost use Rattle.records.specs.Done.{Done};
-ghost use Rattle.ranges.specs.Fit.{Fit};
-use auctions::answer;
+ghost use Rattle.ranges.specs.Fit.{FitLegs, Priced, Fit};
+ghost use Rattle.complex_orders.specs.ComplexOrders.{startsIn, restsAs, waitsAs, arrivalOf};
+use auctions::answers;
 use auctions::begin;
-use entries::enter;
+use auctions::put_auction;
+use entries::insert;
 use fills::cancel_entry;
-use nets::leg_net;
+use fills::cancel_record;
+use fills::cut_entry;
+use nets::leg_prices;
+use passes::idle;
 use passes::pass;
 use records::After;
+use records::push;
 use rules::Allocation;
 use rules::Entry;
+use rules::LegOrder;
 use rules::State;
+use rules::Strategy;
 use sides::better;
 use sides::other;
-use states::all_open;
-use states::running;
+use states::none_shut;
+use states::runs;
 
-// Day rests and others are cancelled.
-fn rest_or_cancel(b: State, i: usize, space: &mut [i32], n: usize) -> After
-    requires { ⌜ i < tableRows ⌝ }
-    requires { ⌜ Room (now space) n (restOrCancel i b .records) ⌝ }
-    ensures { λ t. ⌜ Done (now (space .entry)) (now (space .exit)) n (t .count) (t .state) (restOrCancel i b) ⌝ }
-{
-    let e = b.entries[i];
-    if e.life == 0 {
-        return After { state: b, count: n };
-    }
-    cancel_entry(b, i, space, n)
+// What an order does that has entered: it rests, is cancelled, waits as an answer to the auction, starts one, or has its
+// shared pass.
+pub enum Arrival {
+    Rests,
+    Cancelled,
+    Answers,
+    Starts,
+    Passes,
 }
 
 fn is_either(x: u8, y: u8, z: u8) -> bool
@@ -58,14 +64,14 @@ fn may_start(e: Entry) -> bool
 }
 
 // Whether it does: its limit is better than the known leg net of its own side.
-fn starts(b: State, e: Entry) -> bool
-    requires { ⌜ Fit b ⌝ }
-    ensures { λ r. ⌜ r ≡ starts b e ⌝ }
+fn starts(e: Entry, s: Strategy, os: [LegOrder; State::LEG_ORDERS]) -> bool
+    requires { ⌜ All FitOrder os × FitLegs s ⌝ }
+    ensures { λ r. ⌜ r ≡ startsIn e s os ⌝ }
 {
     if may_start(e) {
         let on = other(e.side);
-        let k = e.strategy as usize;
-        let net = leg_net(b, on, k);
+        let p = leg_prices(os, on, s);
+        let net = p.net;
         if net == 0 {
             return false;
         }
@@ -74,22 +80,70 @@ fn starts(b: State, e: Entry) -> bool
     false
 }
 
-// The order at slot i, where an auction runs.
-fn waits(b: State, i: usize, space: &mut [i32], n: usize) -> After
-    requires { ⌜ (i < tableRows) × Fit b ⌝ }
-    requires { ⌜ Room (now space) n (waits i b .records) ⌝ }
-    ensures { λ t. ⌜ Done (now (space .entry)) (now (space .exit)) n (t .count) (t .state) (waits i b) ⌝ }
+// Day rests and others are cancelled.
+fn rests(e: Entry) -> Arrival
+    ensures { λ r. ⌜ r ≡ restsAs e ⌝ }
 {
-    let e = b.entries[i];
-    if e.life == 3 {
-        return cancel_entry(b, i, space, n);
+    if e.life == 0 {
+        return Arrival::Rests;
     }
-    let k = e.strategy as usize;
-    let c = answer(b, k, e.side);
-    After { state: c, count: n }
+    Arrival::Cancelled
 }
 
-// The order at slot i, where none runs and it starts none.
+// Where an auction runs, do-not-auction is cancelled and others wait, of which one of the other side answers.
+fn waits(e: Entry, s: Strategy, es: [Entry; State::ROWS]) -> Arrival
+    ensures { λ r. ⌜ r ≡ waitsAs e s es ⌝ }
+{
+    if e.life == 3 {
+        return Arrival::Cancelled;
+    }
+    let k = e.strategy as usize;
+    if answers(es, k, s.starter, e.side) {
+        return Arrival::Answers;
+    }
+    Arrival::Rests
+}
+
+// What an order of strategy s does, which stands among these entries and leg orders.
+fn arrives(
+    e: Entry,
+    s: Strategy,
+    opened: u32,
+    es: [Entry; State::ROWS],
+    os: [LegOrder; State::LEG_ORDERS],
+) -> Arrival
+    requires { ⌜ All FitOrder os × All Priced os × FitLegs s ⌝ }
+    ensures { λ r. ⌜ r ≡ arrivalOf e s opened es os ⌝ }
+{
+    if none_shut(s, opened) {
+        if runs(s) {
+            return waits(e, s, es);
+        }
+        if starts(e, s, os) {
+            return Arrival::Starts;
+        }
+        if idle(Allocation::Shared, true, e, es, os, s) {
+            return rests(e);
+        }
+        return Arrival::Passes;
+    }
+    rests(e)
+}
+
+// Day rests and others are cancelled.
+fn rest_or_cancel(b: State, i: usize, space: &mut [i32], n: usize) -> After
+    requires { ⌜ i < tableRows ⌝ }
+    requires { ⌜ Room (now space) n (restOrCancel i b .records) ⌝ }
+    ensures { λ t. ⌜ Done (now (space .entry)) (now (space .exit)) n (t .count) (t .state) (restOrCancel i b) ⌝ }
+{
+    let e = b.entries[i];
+    if e.life == 0 {
+        return After { state: b, count: n };
+    }
+    cancel_entry(b, i, space, n)
+}
+
+// A shared pass of the order at slot i, then it rests or is cancelled.
 fn trades(b: State, i: usize, space: &mut [i32], n: usize) -> After
     requires { ⌜ (i < tableRows) × Fit b ⌝ }
     requires { ⌜ Room (now space) n (trades i b .records) ⌝ }
@@ -100,33 +154,36 @@ fn trades(b: State, i: usize, space: &mut [i32], n: usize) -> After
     rest_or_cancel(c, i, space, x.count)
 }
 
-// What the order at slot i does once it has entered.
-fn arrive(b: State, i: usize, space: &mut [i32], n: usize) -> After
-    requires { ⌜ (i < tableRows) × Fit b ⌝ }
-    requires { ⌜ Room (now space) n (arrive i b .records) ⌝ }
-    ensures { λ t. ⌜ Done (now (space .entry)) (now (space .exit)) n (t .count) (t .state) (arrive i b) ⌝ }
-{
-    let e = b.entries[i];
-    let k = e.strategy as usize;
-    if all_open(b, k) {
-        if running(b, k) {
-            return waits(b, i, space, n);
-        }
-        if starts(b, e) {
-            return begin(b, i, space, n);
-        }
-        return trades(b, i, space, n);
-    }
-    rest_or_cancel(b, i, space, n)
-}
-
-// A complex order, accepted.
+// A complex order, accepted: it enters, and does what it then finds.
 pub fn on_order(e: Entry, b: State, space: &mut [i32], n: usize) -> After
-    requires { ⌜ (freeSlot b < tableRows) × FitEntry e × Fit b ⌝ }
+    requires { ⌜ (freeSlot b < tableRows) × FitEntry e × (0 < e .units) × Fit b ⌝ }
     requires { ⌜ Room (now space) n (onOrder e b .records) ⌝ }
     ensures { λ t. ⌜ Done (now (space .entry)) (now (space .exit)) n (t .count) (t .state) (onOrder e b) ⌝ }
 {
-    let x = enter(e, b);
-    let c = x.state;
-    arrive(c, x.slot, space, n)
+    let mut c = b;
+    let es = c.entries;
+    let x = insert(es, e);
+    let i = x.slot;
+    let rows = x.rows;
+    c.entries = rows;
+    c.last = e.number;
+    let k = e.strategy as usize;
+    let s = c.strategies[k];
+    let os = c.orders;
+    let a = arrives(e, s, c.opened, rows, os);
+    match a {
+        Arrival::Rests => After { state: c, count: n },
+        Arrival::Cancelled => {
+            let r = cancel_record(e);
+            let m = push(space, n, r);
+            c.entries[i] = cut_entry(e, e.units);
+            After { state: c, count: m }
+        }
+        Arrival::Answers => {
+            let d = put_auction(c, k, s.starter, s.begun, true);
+            After { state: d, count: n }
+        }
+        Arrival::Starts => begin(c, i, space, n),
+        Arrival::Passes => trades(c, i, space, n),
+    }
 }

@@ -25,9 +25,10 @@ fn starter_pass(b: State, k: usize, space: &mut [i32], n: usize) -> After
     requires { ⌜ Room (now space) n (starterPass k b .records) ⌝ }
     ensures { λ t. ⌜ Done (now (space .entry)) (now (space .exit)) n (t .count) (t .state) (starterPass k b) ⌝ }
 {
-    let a = starter_slot(b, k);
+    let s = b.strategies[k];
+    let es = b.entries;
+    let a = starter_slot(es, k, s.starter);
     if a < State::ROWS {
-        let s = b.strategies[k];
         let legs = !s.answered;
         return pass(Allocation::Shared, legs, b, a, space, n);
     }

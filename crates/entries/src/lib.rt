@@ -5,8 +5,9 @@ ghost use Rattle.base.specs.Pick.{pick};
 ghost use Rattle.base.specs.Walks.{sumN};
 ghost use Rattle.rules.specs.Sizes.{tableRows};
 ghost use Rattle.rules.specs.State.{noEntry};
-ghost use Rattle.rules.specs.Events.{live, keep, behind, enter, freeSlot, sameSweep, oldSweep};
+ghost use Rattle.rules.specs.Events.{live, keep, behind, sameSweep, oldSweep};
 ghost use Rattle.rules.specs.Refusals.{isOrderAt, isSweepAt};
+ghost use Rattle.tables.specs.Only.{onlyEntries};
 ghost use Rattle.entries.specs.Counts.{counts};
 use rules::Entry;
 use rules::State;
@@ -19,13 +20,13 @@ pub fn live(e: Entry) -> bool
 }
 
 // The table with a new entry, and the slot of it.
-struct Inserted {
-    rows: [Entry; State::ROWS],
-    slot: usize,
+pub struct Inserted {
+    pub rows: [Entry; State::ROWS],
+    pub slot: usize,
 }
 
 // The live entries in front, in their order, and one more behind them, if a slot is free.
-fn insert(es: [Entry; State::ROWS], e: Entry) -> Inserted
+pub fn insert(es: [Entry; State::ROWS], e: Entry) -> Inserted
     ensures { λ x. ⌜ (x .rows ≡ behind live noEntry e es) × (x .slot ≡ length (keep live es)) ⌝ }
 {
     let mut rows = [NO_ENTRY; State::ROWS];
@@ -48,28 +49,6 @@ fn insert(es: [Entry; State::ROWS], e: Entry) -> Inserted
     }
 }
 
-// A state with a new entry, and the slot of it.
-pub struct Entered {
-    pub state: State,
-    pub slot: usize,
-}
-
-// An order or sweep enters behind the live ones; a full table keeps its rows.
-pub fn enter(e: Entry, b: State) -> Entered
-    ensures { λ x. ⌜ (x .state ≡ enter e b) × (x .slot ≡ freeSlot b) ⌝ }
-{
-    let es = b.entries;
-    let x = insert(es, e);
-    let rows = x.rows;
-    let mut c = b;
-    c.entries = rows;
-    c.last = e.number;
-    Entered {
-        state: c,
-        slot: x.slot,
-    }
-}
-
 // 1 for a live sweep, or for a live complex order.
 fn counts(e: Entry, sweeps: bool) -> usize
     ensures { λ r. ⌜ r ≡ counts sweeps e ⌝ }
@@ -89,14 +68,14 @@ fn counts(e: Entry, sweeps: bool) -> usize
     0
 }
 
-// The number of live sweeps, or of live complex orders. The exit, where all 32 are, keeps the compiler from unrolling the loop and splitting the state.
-pub fn count_of(b: State, sweeps: bool) -> usize
-    ensures { λ r. ⌜ r ≡ pick sweeps (sumN (isSweepAt b) tableRows) (sumN (isOrderAt b) tableRows) ⌝ }
+// The number of live sweeps, or of live complex orders. The exit, where all 32 are, keeps the compiler from unrolling the loop and splitting the table.
+pub fn count_of(es: [Entry; State::ROWS], sweeps: bool) -> usize
+    ensures { λ r. ⌜ r ≡ pick sweeps (sumN (isSweepAt (onlyEntries es)) tableRows) (sumN (isOrderAt (onlyEntries es)) tableRows) ⌝ }
 {
     let mut n: usize = 0;
     let mut i: usize = 0;
     while i < State::ROWS {
-        let x = counts(b.entries[i], sweeps);
+        let x = counts(es[i], sweeps);
         n += x;
         if n == State::ROWS {
             return n;
@@ -129,12 +108,12 @@ fn same_sweep(e: Entry, f: Entry) -> bool
 }
 
 // The slot of the sweep that e replaces, 32 where there is none.
-pub fn old_sweep(b: State, e: Entry) -> usize
-    ensures { λ r. ⌜ r ≡ oldSweep b e ⌝ }
+pub fn old_sweep(es: [Entry; State::ROWS], e: Entry) -> usize
+    ensures { λ r. ⌜ r ≡ oldSweep (onlyEntries es) e ⌝ }
 {
     let mut i: usize = 0;
     while i < State::ROWS {
-        if same_sweep(e, b.entries[i]) {
+        if same_sweep(e, es[i]) {
             return i;
         }
         i += 1;

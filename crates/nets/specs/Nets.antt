@@ -1,5 +1,5 @@
 -- Bounds of prices, contracts and nets, and the rules by what the code tests.
-use mathlib.Core.Path.{_≡_, refl, sym, ap}
+use mathlib.Core.Path.{_≡_, refl, sym}
 use mathlib.Core.Bool.{Bool, true, false, not}
 use mathlib.Core.List.{List}
 use Prim.Native.Nat.{ℕ, zero, suc, _+_, _*_, _-_, _≤_}
@@ -7,17 +7,16 @@ use native.Mathlib.Nat.{mul-le-mul}
 use native.Mathlib.Omega.{arith}
 use borrow.Author.Tests.{eq-eqb, ne-eqb}
 use lib.Dec.{eqb}
-use lib.ListN.{length, getD, List·getD-eq-default}
+use lib.ListN.{getD}
 use Rattle.base.specs.Pick.{pick, pick-all, pick-false, tests}
 use Rattle.base.specs.All.{All}
-use Rattle.base.specs.Walks.{sumN, slot, allN, walk, sum-le, sum-same, table-slot}
+use Rattle.base.specs.Walks.{sumN, slot, walk, sum-le, sum-same, table-slot}
 use Rattle.rules.specs.declared.Leg.{Leg}
 use Rattle.rules.specs.declared.Strategy.{Strategy}
 use Rattle.rules.specs.declared.LegOrder.{LegOrder}
-use Rattle.rules.specs.declared.State.{State}
-use Rattle.rules.specs.State.{noLeg, noOrder, noStrategy, strategyAt}
+use Rattle.rules.specs.State.{noLeg, noOrder}
 use Rattle.rules.specs.Sides.{other, legSide, bestPrice}
-use Rattle.rules.specs.Nets.{stands, priceWith, priceStep, priceOf, lot, lotAt, lots, legPrice, priceAt, prices, known, weight, weightAt, weighed, netOf, legNet}
+use Rattle.rules.specs.Nets.{stands, priceWith, priceStep, priceOf, lot, lotAt, lots, legPrice, priceAt, prices, known, weight, weightAt, weighed, netOf}
 use Rattle.rules.specs.Valid.{FitLeg, FitOrder}
 use Rattle.ranges.specs.Most.{AtMost, table-most}
 use Rattle.ranges.specs.Fit.{FitLegs, fit-leg, fit-order}
@@ -107,15 +106,3 @@ module _ (s : Strategy) (ps : List ℕ) where
       → 10_000_000 + buys - sells ≡ netOf s ps
   unfolding netOf
   net-known k p q = rw (p, q) (search tests)
-
--- a strategy of no legs has a net of 0
-net-empty : (s : Strategy) (ps : List ℕ) → s .count ≡ 0 → netOf s ps ≡ 10_000_000
-unfolding netOf known weighed allN sumN pick
-net-empty s ps e = rw e refl
-
--- as the one past the table has
-pub net-past : (b : State) (side k : ℕ) → length (b .strategies) ≡ 16 → 16 ≤ k → 10_000_000 ≡ legNet b side k
-unfolding legNet
-net-past b side k n h =
-    let e : strategyAt b k ≡ noStrategy = List·getD-eq-default (b .strategies) noStrategy {n = k} (omega arith) in
-    sym (net-empty (strategyAt b k) _ (ap (λ (x : Strategy). x .count) e))

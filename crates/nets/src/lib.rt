@@ -2,7 +2,7 @@
 ghost use mathlib.Core.Path.{_≡_};
 ghost use Prim.Native.Nat.{_+_, _*_, _-_, _/_, _<_, _≤_};
 ghost use Rattle.base.specs.All.{All};
-ghost use Rattle.rules.specs.Nets.{stands, priceWith, priceOf, lot, lots, legPrice, prices, known, weight, weighed, netOf, legUnits, unitsOf, legNet};
+ghost use Rattle.rules.specs.Nets.{stands, priceWith, priceOf, lot, lots, legPrice, prices, known, weight, weighed, netOf, legUnits, unitsOf};
 ghost use Rattle.rules.specs.Valid.{FitLeg, FitOrder};
 ghost use Rattle.ranges.specs.Most.{AtMost};
 ghost use Rattle.ranges.specs.Fit.{FitLegs, Priced};
@@ -281,20 +281,6 @@ pub fn best_of(os: [LegOrder; State::LEG_ORDERS], s: u8, side: u8) -> Best
         i += 1;
     }
     b
-}
-
-// The leg net that a complex party of that side meets: the offer net for a buy, the bid net for a sell. Past the table no leg is held: a net of 0.
-pub fn leg_net(b: State, side: u8, k: usize) -> u32
-    requires { ⌜ All FitOrder (b .orders) × All FitLegs (b .strategies) ⌝ }
-    ensures { λ r. ⌜ r ≡ legNet b side k ⌝ }
-{
-    if State::STRATEGIES <= k {
-        return ZERO_LEVEL;
-    }
-    let s = b.strategies[k];
-    let os = b.orders;
-    let p = leg_prices(os, side, s);
-    p.net
 }
 
 // The leg net that a complex party of that side meets where the legs give one unit, else 0. Each leg's best price and its

@@ -122,14 +122,16 @@ fn is_starter(b: State, n: u32) -> bool
 fn orders_full(b: State) -> bool
     ensures { λ r. ⌜ r ≡ ordersFull b ⌝ }
 {
-    let live_orders = count_of(b, false);
+    let es = b.entries;
+    let live_orders = count_of(es, false);
     State::ORDERS <= live_orders
 }
 
 fn sweeps_full(b: State) -> bool
     ensures { λ r. ⌜ r ≡ sweepsFull b ⌝ }
 {
-    let live_sweeps = count_of(b, true);
+    let es = b.entries;
+    let live_sweeps = count_of(es, true);
     State::SWEEPS <= live_sweeps
 }
 
@@ -137,7 +139,8 @@ fn sweeps_full(b: State) -> bool
 fn leg_orders_full(b: State) -> bool
     ensures { λ r. ⌜ r ≡ legOrdersFull b ⌝ }
 {
-    let live = free_order_slot(b);
+    let os = b.orders;
+    let live = free_order_slot(os);
     State::LEG_ORDERS <= live
 }
 
@@ -167,7 +170,8 @@ fn replaces(b: State, e: events::Sweep) -> bool
     ensures { λ r. ⌜ r ≡ replaces b e ⌝ }
 {
     let x = sweep_given(b, e);
-    let old = old_sweep(b, x);
+    let es = b.entries;
+    let old = old_sweep(es, x);
     old < State::ROWS
 }
 

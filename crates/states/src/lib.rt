@@ -5,7 +5,7 @@ ghost use Prim.Native.Nat.{_<_};
 ghost use lib.Dec.{eqb};
 ghost use Rattle.base.specs.Sets.{has, minus};
 ghost use Rattle.rules.specs.Sizes.{strategySlots};
-ghost use Rattle.rules.specs.Strategies.{shutSet, allOpen};
+ghost use Rattle.rules.specs.Strategies.{shutSet};
 ghost use Rattle.rules.specs.Auctions.{running, liveIn};
 use rules::Entry;
 use rules::State;
@@ -60,17 +60,8 @@ pub fn shut_set(b: State, k: usize) -> u32
     shut_in(t, b.opened)
 }
 
-// Whether no leg of strategy k is shut.
-pub fn all_open(b: State, k: usize) -> bool
-    requires { ⌜ k < strategySlots ⌝ }
-    ensures { λ r. ⌜ r ≡ allOpen b k ⌝ }
-{
-    let t = b.strategies[k];
-    none_shut(t, b.opened)
-}
-
 // Whether an auction runs in a strategy.
-fn runs(s: Strategy) -> bool
+pub fn runs(s: Strategy) -> bool
     ensures { λ r. ⌜ r ≡ not (eqb (s .starter) 0) ⌝ }
 {
     s.starter != 0

@@ -1,5 +1,6 @@
 use Rattle.base.specs.Walks.{Passed, passed-first, passed-next, passed-here, passed-all}
-use Rattle.rules.specs.Auctions.{isNumber, starterSlot}
+use Rattle.rules.specs.Auctions.{isNumber}
+use Rattle.tables.specs.Only.{onlyEntries}
 use Rattle.base.specs.Pick.{told}
 use Prim.Native.Nat.{_≤_, _-_}
 use borrow.Author.Needs.{needs}
@@ -8,16 +9,10 @@ use Rattle.auctions.proofs.starter_slot.Statement.{statement}
 use Rattle.auctions.proofs.starter_slot.Tie as tie
 
 abbrev Inv-loop : tie.InvT-loop
-Inv-loop k b n i₀ i = (i ≤ 32) × Passed (isNumber b k n) i
+Inv-loop k n es i₀ i = (i ≤ 32) × Passed (isNumber (onlyEntries es) k n) i
 
 abbrev μ-loop : tie.MeasureT-loop
-μ-loop k b n i₀ i = 32 - i
-
-mul-s : tie.Need-mul-s Inv-loop μ-loop
-mul-s c = omega arith
-
-element-copy-out-s : tie.Need-element-copy-out-s Inv-loop μ-loop
-element-copy-out-s c = omega arith
+μ-loop k n es i₀ i = 32 - i
 
 loop-holds : tie.Need-loop-holds Inv-loop μ-loop
 loop-holds c = (omega arith, passed-first _)
@@ -25,14 +20,13 @@ loop-holds c = (omega arith, passed-first _)
 mul-e : tie.Need-mul-e Inv-loop μ-loop
 mul-e c = omega arith
 
-element-copy-out-e : tie.Need-element-copy-out-e Inv-loop μ-loop
-element-copy-out-e c = omega arith
+array-copy-out-e : tie.Need-array-copy-out-e Inv-loop μ-loop
+array-copy-out-e c = omega arith
 
 is-number-requires : tie.Need-is-number-requires Inv-loop μ-loop
 is-number-requires c κs = search needs
 
 returns : tie.Need-returns Inv-loop μ-loop
-unfolding starterSlot
 returns c = passed-here _ _ 32 (c .before .before .before .before .loop .inv .1) (c .before .before .before .loop-test .taken) (told (c .before .is-number .ensures) (c .if1 .taken))
 
 add-i : tie.Need-add-i Inv-loop μ-loop
@@ -45,7 +39,6 @@ loop-again : tie.Need-loop-again Inv-loop μ-loop
 loop-again c = (omega arith, passed-next _ _ (c .before .before .before .before .loop .inv .1) (told (c .before .is-number .ensures) (c .if1 .left)))
 
 returns-2 : tie.Need-returns-2 Inv-loop μ-loop
-unfolding starterSlot
 returns-2 c = passed-all _ (c .before .loop .i) 32 (c .before .loop .inv .1) (omega arith)
 
 pub starter-slot-spec : {M : Type 1} → statement M
@@ -54,11 +47,9 @@ starter-slot-spec =
     (tie.spec
     Inv-loop
     μ-loop
-    mul-s
-    element-copy-out-s
     loop-holds
     mul-e
-    element-copy-out-e
+    array-copy-out-e
     is-number-requires
     returns
     add-i

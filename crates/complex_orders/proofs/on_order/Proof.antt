@@ -1,26 +1,133 @@
 use native.Mathlib.Omega.{arith}
-use Rattle.complex_orders.specs.ComplexOrders.{on-order}
-use Rattle.entries.specs.Entered.{fit-enter}
-use Rattle.records.specs.Done.{done-of, room-of}
+use Rattle.complex_orders.specs.ComplexOrders.{does, order-is, slot-within, cancels-room, cancels-done, answers-is}
+use Rattle.complex_orders.specs.declared.Arrival.{Arrival}
+use Rattle.records.specs.Done.{done-of, done-still, room-of}
+use Rattle.records.specs.Space.{wrote-length}
+use Rattle.entries.specs.Entered.{entered, entered-is, fit-enter}
+use Rattle.ranges.specs.Fit.{fit-legs}
+use Rattle.rules.specs.Events.{onOrder}
+use mathlib.Core.Path.{_≡_, sym, _∙_}
 use borrow.Author.Needs.{needs}
 use Rattle.complex_orders.proofs.on_order.Statement.{statement}
 use Rattle.complex_orders.proofs.on_order.Tie as tie
 
-enter-requires : tie.Need-enter-requires
-enter-requires c κs = search needs
+-- the rule by the arrival that the code has found
+arrived : (k : tie.After-arrives) {v : Arrival} → k .arrives .result ≡ v
+    → let s = k .before .before .before .before .before in onOrder (s .before .before .args .e) (s .before .before .args .b) ≡ does (s .insert .result .slot) (entered (s .before .before .args .e) (s .insert .result .rows) (s .before .before .args .b)) v
+arrived k t = let s = k .before .before .before .before .before in order-is _ _ (s .insert .ensures .0) (s .insert .ensures .1) (s .before .before .pre .0 .0) (sym t ∙ k .arrives .ensures)
 
-arrive-requires : tie.Need-arrive-requires
-arrive-requires c κs =
-    let x = c .before .before .enter .ensures in
-    let p = c .before .before .before .pre in
-    ((omega (arith, x .1, p .0 .0), fit-enter _ _ (x .0) (p .0 .1) (p .0 .2)), room-of (on-order _ _ (x .1) (x .0)) (p .1))
+insert-requires : tie.Need-insert-requires
+insert-requires c κs = search needs
 
-same-length : tie.Need-same-length
-same-length c = search needs
+cast-k : tie.Need-cast-k
+cast-k c = search needs
+
+mul-s : tie.Need-mul-s
+mul-s c = search needs
+
+element-copy-out-s : tie.Need-element-copy-out-s
+element-copy-out-s c = c .before .before .before .before .pre .0 .1 .strategy
+
+arrives-requires : tie.Need-arrives-requires
+arrives-requires c κs = let f = c .before .before .before .before .before .before .pre .0 .3 in (f .orders, f .priced, fit-legs (f .strategies) _)
+
+enum-told : tie.Need-enum-told
+enum-told c = search needs
+
+enum-told-2 : tie.Need-enum-told-2
+enum-told-2 c = search needs
+
+cancel-record-requires : tie.Need-cancel-record-requires
+cancel-record-requires c κs = search needs
+
+push-requires : tie.Need-push-requires
+unfolding does
+push-requires c κs = cancels-room _ _ (c .before .before .before .before .before .before .before .before .before .insert .ensures .0) (c .before .before .before .before .before .before .before .before .before .insert .ensures .1) (c .before .before .before .before .before .before .before .before .before .before .before .pre .0 .0) (c .before .before .before .before .before .before .before .before .before .before .before .pre .0 .2) (c .before .cancel-record .ensures) (room-of (arrived (c .before .before .before .before) (c .before .before .enum-told2 .given .1)) (c .before .before .before .before .before .before .before .before .before .before .before .pre .1))
+
+cut-entry-requires : tie.Need-cut-entry-requires
+cut-entry-requires c κs = search needs
+
+mul-t27 : tie.Need-mul-t27
+mul-t27 c = let k = slot-within _ _ (c .before .before .before .before .before .before .before .before .before .before .before .before .insert .ensures .0) (c .before .before .before .before .before .before .before .before .before .before .before .before .insert .ensures .1) (c .before .before .before .before .before .before .before .before .before .before .before .before .before .before .pre .0 .0) in omega arith
+
+element-set-from-c : tie.Need-element-set-from-c
+element-set-from-c c = slot-within _ _ (c .before .before .before .before .before .before .before .before .before .before .before .before .insert .ensures .0) (c .before .before .before .before .before .before .before .before .before .before .before .before .insert .ensures .1) (c .before .before .before .before .before .before .before .before .before .before .before .before .before .before .pre .0 .0)
+
+enum-told-3 : tie.Need-enum-told-3
+enum-told-3 c = search needs
+
+put-auction-requires : tie.Need-put-auction-requires
+put-auction-requires c κs = c .before .before .before .before .before .before .before .before .before .pre .0 .1 .strategy
+
+enum-told-4 : tie.Need-enum-told-4
+enum-told-4 c = search needs
+
+begin-requires : tie.Need-begin-requires
+unfolding does
+begin-requires c κs = ((slot-within _ _ (c .before .before .before .before .before .before .before .before .insert .ensures .0) (c .before .before .before .before .before .before .before .before .insert .ensures .1) (c .before .before .before .before .before .before .before .before .before .before .pre .0 .0), fit-enter _ _ (entered-is _ _ (c .before .before .before .before .before .before .before .before .insert .ensures .0)) (c .before .before .before .before .before .before .before .before .before .before .pre .0 .1) (c .before .before .before .before .before .before .before .before .before .before .pre .0 .3)), room-of (arrived (c .before .before .before) (c .before .enum-told4 .given .1)) (c .before .before .before .before .before .before .before .before .before .before .pre .1))
+
+enum-told-5 : tie.Need-enum-told-5
+enum-told-5 c = search needs
+
+trades-requires : tie.Need-trades-requires
+unfolding does
+trades-requires c κs = ((slot-within _ _ (c .before .before .before .before .before .before .before .before .insert .ensures .0) (c .before .before .before .before .before .before .before .before .insert .ensures .1) (c .before .before .before .before .before .before .before .before .before .before .pre .0 .0), fit-enter _ _ (entered-is _ _ (c .before .before .before .before .before .before .before .before .insert .ensures .0)) (c .before .before .before .before .before .before .before .before .before .before .pre .0 .1) (c .before .before .before .before .before .before .before .before .before .before .pre .0 .3)), room-of (arrived (c .before .before .before) (c .before .enum-told5 .given .1)) (c .before .before .before .before .before .before .before .before .before .before .pre .1))
 
 returns : tie.Need-returns
-returns c = let x = c .before .before .before .before .enter .ensures in done-of (on-order _ _ (x .1) (x .0)) (c .before .arrive .ensures)
+unfolding does
+returns c = done-of (arrived (c .before .before) (c .enum-told .given .1)) (done-still _ _ _)
+
+same-length : tie.Need-same-length
+same-length c = wrote-length (c .before .before .push .ensures)
+
+returns-2 : tie.Need-returns-2
+unfolding does
+returns-2 c = done-of (arrived (c .before .before .before .before .before .before .before) (c .before .before .before .before .before .enum-told2 .given .1)) (cancels-done _ _ (c .before .before .before .before .before .before .before .before .before .before .before .before .insert .ensures .0) (c .before .before .before .before .before .before .before .before .before .before .before .before .insert .ensures .1) (c .before .before .before .before .before .before .before .before .before .before .before .before .before .before .pre .0 .0) (c .before .before .before .before .before .before .before .before .before .before .before .before .before .before .pre .0 .2) (c .before .before .before .before .cancel-record .ensures) (c .cut-entry .ensures) (c .before .before .push .ensures))
+
+returns-3 : tie.Need-returns-3
+returns-3 c = done-of (arrived (c .before .before .before) (c .before .enum-told3 .given .1) ∙ answers-is _ _ (c .before .before .before .before .before .before .before .before .insert .ensures .0) (c .before .before .before .before .before .before .before .before .insert .ensures .1) (c .before .before .before .before .before .before .before .before .before .before .pre .0 .0) (c .put-auction .ensures)) (done-still _ _ _)
+
+same-length-2 : tie.Need-same-length-2
+same-length-2 c = search needs
+
+returns-4 : tie.Need-returns-4
+unfolding does
+returns-4 c = done-of (arrived (c .before .before .before .before .before) (c .before .before .before .enum-told4 .given .1)) (c .before .begin .ensures)
+
+same-length-3 : tie.Need-same-length-3
+same-length-3 c = search needs
+
+returns-5 : tie.Need-returns-5
+unfolding does
+returns-5 c = done-of (arrived (c .before .before .before .before .before) (c .before .before .before .enum-told5 .given .1)) (c .before .trades .ensures)
 
 pub on-order-spec : {M : Type 1} → statement M
 on-order-spec =
-    tie.close (tie.spec enter-requires arrive-requires same-length returns)
+    tie.close
+    (tie.spec
+    insert-requires
+    cast-k
+    mul-s
+    element-copy-out-s
+    arrives-requires
+    enum-told
+    enum-told-2
+    cancel-record-requires
+    push-requires
+    cut-entry-requires
+    mul-t27
+    element-set-from-c
+    enum-told-3
+    put-auction-requires
+    enum-told-4
+    begin-requires
+    enum-told-5
+    trades-requires
+    returns
+    same-length
+    returns-2
+    returns-3
+    same-length-2
+    returns-4
+    same-length-3
+    returns-5)

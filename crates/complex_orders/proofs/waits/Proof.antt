@@ -1,43 +1,26 @@
-use Rattle.ranges.specs.Fit.{fit-entry}
-use Rattle.complex_orders.specs.ComplexOrders.{waits-not, waits-answers}
-use Rattle.records.specs.Done.{done-still, done-of, room-of}
+use Rattle.complex_orders.specs.ComplexOrders.{waitsAs}
+use Rattle.base.specs.Pick.{tests, told}
 use borrow.Author.Needs.{needs}
 use Rattle.complex_orders.proofs.waits.Statement.{statement}
 use Rattle.complex_orders.proofs.waits.Tie as tie
 
-mul-e : tie.Need-mul-e
-mul-e c = search needs
-
-element-copy-out-e : tie.Need-element-copy-out-e
-element-copy-out-e c = search needs
-
-cancel-entry-requires : tie.Need-cancel-entry-requires
-cancel-entry-requires c κs = (c .before .before .before .before .pre .0 .0, room-of (waits-not _ _ (c .before .if1 .taken)) (c .before .before .before .before .pre .1))
-
-same-length : tie.Need-same-length
-same-length c = search needs
-
 returns : tie.Need-returns
-returns c = done-of (waits-not _ _ (c .before .before .before .if1 .taken)) (c .before .cancel-entry .ensures)
+unfolding waitsAs
+returns c = search tests
 
 cast-k : tie.Need-cast-k
 cast-k c = search needs
 
-answer-requires : tie.Need-answer-requires
-answer-requires c κs = (fit-entry (c .before .before .before .before .pre .0 .1 .entries) (c .before .before .before .before .args .i) .strategy, c .before .before .before .before .pre .0 .1)
+answers-requires : tie.Need-answers-requires
+answers-requires c κs = search needs
 
 returns-2 : tie.Need-returns-2
-returns-2 c = done-of (waits-answers _ _ (c .before .before .if1 .left) (c .answer .ensures)) (done-still _ _ _)
+unfolding waitsAs
+returns-2 c = search (tests, told (c .before .answers .ensures) (c .if2 .taken))
+
+returns-3 : tie.Need-returns-3
+unfolding waitsAs
+returns-3 c = search (tests, told (c .before .answers .ensures) (c .if2 .left))
 
 pub waits-spec : {M : Type 1} → statement M
-waits-spec =
-    tie.close
-    (tie.spec
-    mul-e
-    element-copy-out-e
-    cancel-entry-requires
-    same-length
-    returns
-    cast-k
-    answer-requires
-    returns-2)
+waits-spec = tie.close (tie.spec returns cast-k answers-requires returns-2 returns-3)

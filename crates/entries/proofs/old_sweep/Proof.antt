@@ -1,3 +1,4 @@
+use Rattle.tables.specs.Only.{onlyEntries}
 use native.Mathlib.Omega.{arith}
 use borrow.Author.Needs.{needs}
 use Rattle.base.specs.Walks.{Passed, passed-first, passed-next, passed-here, passed-all}
@@ -8,10 +9,10 @@ use Rattle.entries.proofs.old_sweep.Statement.{statement}
 use Rattle.entries.proofs.old_sweep.Tie as tie
 
 abbrev Inv-loop : tie.InvT-loop
-Inv-loop e b i₀ i = (i ≤ 32) × Passed (sameSweepAt b e) i
+Inv-loop e es i₀ i = (i ≤ 32) × Passed (sameSweepAt (onlyEntries es) e) i
 
 abbrev μ-loop : tie.MeasureT-loop
-μ-loop e b i₀ i = 32 - i
+μ-loop e es i₀ i = 32 - i
 
 loop-holds : tie.Need-loop-holds Inv-loop μ-loop
 loop-holds c = (omega arith, passed-first _)
@@ -19,8 +20,8 @@ loop-holds c = (omega arith, passed-first _)
 mul-same-sweep : tie.Need-mul-same-sweep Inv-loop μ-loop
 mul-same-sweep c = omega arith
 
-element-copy-out-same-sweep : tie.Need-element-copy-out-same-sweep Inv-loop μ-loop
-element-copy-out-same-sweep c = omega arith
+array-copy-out-same-sweep : tie.Need-array-copy-out-same-sweep Inv-loop μ-loop
+array-copy-out-same-sweep c = omega arith
 
 same-sweep-requires : tie.Need-same-sweep-requires Inv-loop μ-loop
 same-sweep-requires c κs = search needs
@@ -50,7 +51,7 @@ old-sweep-spec =
     μ-loop
     loop-holds
     mul-same-sweep
-    element-copy-out-same-sweep
+    array-copy-out-same-sweep
     same-sweep-requires
     returns
     add-i

@@ -1,3 +1,4 @@
+use Rattle.rules.specs.Events.{oldSweep}
 use borrow.Author.Needs.{needs}
 use Rattle.refusals.proofs.replaces.Statement.{statement}
 use Rattle.refusals.proofs.replaces.Tie as tie
@@ -9,7 +10,8 @@ old-sweep-requires : tie.Need-old-sweep-requires
 old-sweep-requires c κs = search needs
 
 returns : tie.Need-returns
-returns c = rw (← c .before .sweep-given .ensures, ← c .old-sweep .ensures)
+unfolding oldSweep
+returns c = rw (← c .before .before .sweep-given .ensures, ← c .old-sweep .ensures)
 
 pub replaces-spec : {M : Type 1} → statement M
 replaces-spec = tie.close (tie.spec sweep-given-requires old-sweep-requires returns)
