@@ -1,15 +1,54 @@
--- The cancel of a number by what the code tests.
-use mathlib.Core.Path.{_≡_, refl}
+-- The cancel of a number by the slot that the code finds: a number is live once.
+use mathlib.Core.Path.{_≡_, refl, _∙_}
 use mathlib.Core.Bool.{Bool, true, false, not}
-use Prim.Native.Nat.{ℕ}
+use mathlib.Core.List.{[], _∷_}
+use Prim.Native.Nat.{ℕ, _≤_, _<_}
+use native.Mathlib.Omega.{arith}
+use borrow.Author.Tests.{eqb-true, eqb-false, not-true}
 use lib.Dec.{eqb}
-use Rattle.base.specs.Walks.{clash}
+use Rattle.base.specs.Pick.{pick, pick-yes, tests}
+use Rattle.base.specs.Walks.{clash, firstN, first-holds, first-before}
+use Rattle.rules.specs.Sizes.{tableRows}
 use Rattle.rules.specs.declared.State.{State}
 use Rattle.rules.specs.State.{entryAt, orderAt}
-use Rattle.rules.specs.Moves.{still}
-use Rattle.rules.specs.Fills.{cancelEntry, cancelOrder}
-use Rattle.rules.specs.Events.{cancelEntryOf, cancelOrderOf}
-use Rattle.base.specs.Pick.{pick, pick-true, pick-yes}
+use Rattle.rules.specs.Moves.{Moved, still, and-then}
+use Rattle.rules.specs.Fills.{cutLeg, cancelLegRecord, cancelEntry, cancelOrder}
+use Rattle.rules.specs.Events.{cancelEntryOf, cancelOrderOf, cancelNumber}
+use Rattle.rules.specs.Valid.{Sound}
+use Rattle.rules.proofs.DayEnd.{each-still}
+use Rattle.rules.proofs.Cancels.{number-entry, number-order}
+use Rattle.tables.specs.Only.{onlyEntries, onlyOrders}
+use Rattle.fills.specs.Fills.{cancelled, cancel-live}
+
+-- a row of number x has something live, and is the one sought
+abbrev pub hasLive : ℕ → ℕ → ℕ → Bool
+hasLive x quantity n = pick (eqb x n) (not (eqb quantity 0)) false
+
+-- the entry at slot i is that row
+abbrev pub entryHas : ℕ → State → ℕ → Bool
+entryHas n b i = hasLive (entryAt b i .number) (entryAt b i .units) n
+
+-- the same of the leg order at slot i
+abbrev pub orderHas : ℕ → State → ℕ → Bool
+orderHas n b i = hasLive (orderAt b i .number) (orderAt b i .contracts) n
+
+-- the slot of the live entry of a number, 32 where there is none
+unfoldable pub entryOf : ℕ → State → ℕ
+entryOf n b = firstN (entryHas n b) tableRows
+
+-- the same of the leg orders
+unfoldable pub orderOf : ℕ → State → ℕ
+orderOf n b = firstN (orderHas n b) tableRows
+
+-- a cancel of a live leg order
+unfoldable pub cancelledOrder : ℕ → State → Moved
+cancelledOrder i b = record { state = cutLeg b i (orderAt b i .contracts); records = cancelLegRecord (orderAt b i) ∷ [] }
+
+-- laws
+
+-- what the test of a row says
+has-live : (x q n : ℕ) → hasLive x q n ≡ true → (x ≡ n) × ¬ (q ≡ 0)
+has-live x q n h = let p = pick-yes (eqb x n) h in (eqb-true x n (p .0), eqb-false q 0 (not-true _ (p .1)))
 
 -- a row that has nothing live is not moved, whatever its number
 idle-row : {A : Type 0} (t u : Bool) (x y : A) → pick t (not u) false ≡ false → pick t (pick u x y) x ≡ x
@@ -18,19 +57,40 @@ idle-row true true x y h = refl
 idle-row true false x y h = absurd (clash refl h)
 idle-row false u x y h = refl
 
-module _ (n i : ℕ) (b : State) where
-  pub entry-not : pick (eqb (entryAt b i .number) n) (not (eqb (entryAt b i .units) 0)) false ≡ false → cancelEntryOf n i b ≡ still b
+module _ (n : ℕ) (b : State) where
+  entry-idle : (i : ℕ) → entryHas n b i ≡ false → cancelEntryOf n i b ≡ still b
   unfolding cancelEntryOf cancelEntry
-  entry-not h = idle-row (eqb (entryAt b i .number) n) (eqb (entryAt b i .units) 0) _ _ h
+  entry-idle i h = idle-row (eqb (entryAt b i .number) n) (eqb (entryAt b i .units) 0) _ _ h
 
-  pub entry-yes : pick (eqb (entryAt b i .number) n) (not (eqb (entryAt b i .units) 0)) false ≡ true → cancelEntryOf n i b ≡ cancelEntry i b
-  unfolding cancelEntryOf
-  entry-yes h = pick-true _ _ _ (pick-yes (eqb (entryAt b i .number) n) h .0)
-
-  pub order-not : pick (eqb (orderAt b i .number) n) (not (eqb (orderAt b i .contracts) 0)) false ≡ false → cancelOrderOf n i b ≡ still b
+  order-idle : (i : ℕ) → orderHas n b i ≡ false → cancelOrderOf n i b ≡ still b
   unfolding cancelOrderOf cancelOrder
-  order-not h = idle-row (eqb (orderAt b i .number) n) (eqb (orderAt b i .contracts) 0) _ _ h
+  order-idle i h = idle-row (eqb (orderAt b i .number) n) (eqb (orderAt b i .contracts) 0) _ _ h
 
-  pub order-yes : pick (eqb (orderAt b i .number) n) (not (eqb (orderAt b i .contracts) 0)) false ≡ true → cancelOrderOf n i b ≡ cancelOrder i b
-  unfolding cancelOrderOf
-  order-yes h = pick-true _ _ _ (pick-yes (eqb (orderAt b i .number) n) h .0)
+  order-live : (i : ℕ) → ¬ (orderAt b i .contracts ≡ 0) → cancelOrder i b ≡ cancelledOrder i b
+  unfolding cancelOrder cancelledOrder
+  order-live i e = search tests
+
+  -- an entry is found
+  pub number-at-entry : {i : ℕ} → Sound b → i ≡ entryOf n (onlyEntries (b .entries)) → i < 32 → cancelNumber n b ≡ cancelled i b
+  unfolding entryOf
+  number-at-entry {i} s e l =
+      let h : entryHas n b i ≡ true = rw e (first-holds (entryHas n b) 32 (rw e at l)) in
+      let p = has-live _ _ n h in
+      number-entry b s n i l (p .0) (omega (arith, p .1)) ∙ cancel-live i b (p .1)
+
+  -- a leg order is found
+  pub number-at-order : {i : ℕ} → Sound b → i ≡ orderOf n (onlyOrders (b .orders)) → i < 32 → cancelNumber n b ≡ cancelledOrder i b
+  unfolding orderOf
+  number-at-order {i} s e l =
+      let h : orderHas n b i ≡ true = rw e (first-holds (orderHas n b) 32 (rw e at l)) in
+      let p = has-live _ _ n h in
+      number-order b s n i l (p .0) (omega (arith, p .1)) ∙ order-live i (p .1)
+
+  -- nothing is live of the number
+  pub number-not : {i j : ℕ} → i ≡ entryOf n (onlyEntries (b .entries)) → 32 ≤ i → j ≡ orderOf n (onlyOrders (b .orders)) → 32 ≤ j → cancelNumber n b ≡ still b
+  unfolding entryOf orderOf cancelNumber and-then
+  number-not e l f m =
+      rw (
+        each-still (cancelEntryOf n) b 32 (λ k h. entry-idle k (first-before (entryHas n b) 32 k (omega (arith, e)))),
+        each-still (cancelOrderOf n) b 32 (λ k h. order-idle k (first-before (orderHas n b) 32 k (omega (arith, f)))),
+      )

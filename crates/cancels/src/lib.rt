@@ -1,21 +1,24 @@
 // Cancel: what is live of a number.
 ghost use mathlib.Core.Path.{_≡_};
-ghost use mathlib.Core.Bool.{false, not};
-ghost use lib.Dec.{eqb};
-ghost use Rattle.base.specs.Pick.{pick};
-ghost use Rattle.rules.specs.Sizes.{tableRows};
-ghost use Rattle.rules.specs.Moves.{each};
-ghost use Rattle.rules.specs.Events.{cancelEntryOf, cancelOrderOf, cancelNumber};
+ghost use Rattle.rules.specs.Events.{cancelNumber};
+ghost use Rattle.rules.specs.Valid.{Sound};
 ghost use Rattle.records.specs.Space.{Room};
 ghost use Rattle.records.specs.Done.{Done};
-use fills::cancel_entry;
+ghost use Rattle.tables.specs.Only.{onlyEntries, onlyOrders};
+ghost use Rattle.cancels.specs.Cancels.{hasLive, entryOf, orderOf};
+use fills::cancel_record;
+use fills::cut_entry;
 use records::After;
+use records::push;
+use rules::Entry;
+use rules::LegOrder;
 use rules::State;
-use trades::cancel_order;
+use trades::cancel_leg_record;
+use trades::cut_order;
 
 // Whether a row of number x has something live, and is the one sought.
 fn has_live(x: u32, quantity: u32, number: u32) -> bool
-    ensures { λ r. ⌜ r ≡ pick (eqb x number) (not (eqb quantity 0)) false ⌝ }
+    ensures { λ r. ⌜ r ≡ hasLive x quantity number ⌝ }
 {
     if x == number {
         return quantity != 0;
@@ -23,50 +26,60 @@ fn has_live(x: u32, quantity: u32, number: u32) -> bool
     false
 }
 
-fn cancel_entries(b: State, number: u32, space: &mut [i32], n: usize) -> After
-    requires { ⌜ Room (now space) n (each (cancelEntryOf number) tableRows b .records) ⌝ }
-    ensures { λ t. ⌜ Done (now (space .entry)) (now (space .exit)) n (t .count) (t .state) (each (cancelEntryOf number) tableRows b) ⌝ }
+// The slot of the live entry of a number, 32 where there is none.
+fn entry_of(es: [Entry; State::ROWS], number: u32) -> usize
+    ensures { λ r. ⌜ r ≡ entryOf number (onlyEntries es) ⌝ }
 {
-    let mut c = b;
-    let mut m = n;
     let mut i: usize = 0;
     while i < State::ROWS {
-        let e = c.entries[i];
+        let e = es[i];
         if has_live(e.number, e.units, number) {
-            let t = cancel_entry(c, i, space, m);
-            c = t.state;
-            m = t.count;
+            return i;
         }
         i += 1;
     }
-    After { state: c, count: m }
+    State::ROWS
 }
 
-fn cancel_orders(b: State, number: u32, space: &mut [i32], n: usize) -> After
-    requires { ⌜ Room (now space) n (each (cancelOrderOf number) tableRows b .records) ⌝ }
-    ensures { λ t. ⌜ Done (now (space .entry)) (now (space .exit)) n (t .count) (t .state) (each (cancelOrderOf number) tableRows b) ⌝ }
+// The same of the leg orders.
+fn order_of(os: [LegOrder; State::LEG_ORDERS], number: u32) -> usize
+    ensures { λ r. ⌜ r ≡ orderOf number (onlyOrders os) ⌝ }
 {
-    let mut c = b;
-    let mut m = n;
     let mut i: usize = 0;
     while i < State::LEG_ORDERS {
-        let o = c.orders[i];
+        let o = os[i];
         if has_live(o.number, o.contracts, number) {
-            let t = cancel_order(c, i, space, m);
-            c = t.state;
-            m = t.count;
+            return i;
         }
         i += 1;
     }
-    After { state: c, count: m }
+    State::LEG_ORDERS
 }
 
-// The cancel of what is live of a number, in both tables.
+// The cancel of what is live of a number, in whichever table holds it.
 pub fn cancel_number(b: State, number: u32, space: &mut [i32], n: usize) -> After
+    requires { ⌜ Sound b ⌝ }
     requires { ⌜ Room (now space) n (cancelNumber number b .records) ⌝ }
     ensures { λ t. ⌜ Done (now (space .entry)) (now (space .exit)) n (t .count) (t .state) (cancelNumber number b) ⌝ }
 {
-    let x = cancel_entries(b, number, space, n);
-    let c = x.state;
-    cancel_orders(c, number, space, x.count)
+    let mut c = b;
+    let es = c.entries;
+    let i = entry_of(es, number);
+    if i < State::ROWS {
+        let e = c.entries[i];
+        let r = cancel_record(e);
+        let m = push(space, n, r);
+        c.entries[i] = cut_entry(e, e.units);
+        return After { state: c, count: m };
+    }
+    let os = c.orders;
+    let j = order_of(os, number);
+    if j < State::LEG_ORDERS {
+        let o = c.orders[j];
+        let r = cancel_leg_record(o);
+        let m = push(space, n, r);
+        c.orders[j] = cut_order(o, o.contracts);
+        return After { state: c, count: m };
+    }
+    After { state: c, count: n }
 }

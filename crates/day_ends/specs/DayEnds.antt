@@ -13,12 +13,16 @@ use Rattle.rules.specs.State.{fresh, entryAt, orderAt, strategyAt}
 use Rattle.rules.specs.Moves.{Moved, still, each}
 use Rattle.rules.specs.Auctions.{close}
 use Rattle.rules.specs.Events.{live, liveOrder, cancelNumber, closeRunning, lowerNumber, lowerEntry, lowerOrder, lowestLive, cancelLowest, restart, onDayEnd}
-use Rattle.rules.proofs.Shrinks.{Shrinks}
-use Rattle.rules.proofs.Finishes.{each-shrinks}
-use Rattle.rules.proofs.DayEnd.{Numbered, numbered-shrinks}
+use Rattle.rules.specs.Valid.{Sound}
+use Rattle.rules.proofs.Shrinks.{auction-shrinks}
+use Rattle.rules.proofs.DayEnd.{number-shrinks}
+use Rattle.rules.proofs.Entering.{sound-auctions, sound-shrinks, auctions-same}
+use Rattle.rules.proofs.Settled.{each-keeps}
+use Rattle.rules.proofs.Arrivals.{put-auctions}
+use Rattle.rules.proofs.Cancels.{number-strategies}
 use Rattle.records.specs.Done.{Done, done-still, done-of, done-then}
 use Rattle.rules.proofs.Turns.{idle}
-use Rattle.base.specs.Pick.{pick, pick-true, pick-false, pick-by, tests}
+use Rattle.base.specs.Pick.{pick, pick-true, pick-false, pick-all, pick-by, tests}
 
 -- the lower of some numbers does not depend on their order
 lower-none : (n : ℕ) → lowerNumber n 0 ≡ n
@@ -119,6 +123,19 @@ pub day-end : (timer : ℕ) (b : State) {c d f : State} {sp sq sr : List ℤ} {n
 unfolding onDayEnd
 day-end timer b {d = d} {sr = sr} {k = k} x y e = done-then _ _ x (done-then _ _ y (restarted timer e sr k d))
 
-pub numbered-each : (f : ℕ → State → Moved) → ((i : ℕ) (b : State) → Shrinks b (f i b .state)) → (i : ℕ) (b : State) {c : State} {sp sq : List ℤ} {n m : ℕ}
-    → Numbered b → Done sp sq n m c (each f i b) → Numbered c
-numbered-each f h i b r d = rw (d .state) (numbered-shrinks (each-shrinks f h i b) r)
+-- cancels and closed auctions leave a sound state
+pub lowest-sound : (i : ℕ) (b : State) → Sound b → Sound (cancelLowest i b .state)
+unfolding cancelLowest
+lowest-sound i b s =
+    let n : ℕ = lowestLive b in
+    sound-shrinks (number-shrinks n b) (auctions-same (number-strategies n b) (number-shrinks n b .defined) (sound-auctions b s)) s
+
+pub running-sound : (k : ℕ) (b : State) → Sound b → Sound (closeRunning k b .state)
+unfolding closeRunning close
+running-sound k b s =
+    pick-all (λ (m : Moved). Sound (m .state)) _
+    (sound-shrinks (auction-shrinks b k 0 0 false) (put-auctions b k 0 0 false (omega arith) (omega arith) (λ _. refl) (sound-auctions b s)) s) s
+
+pub sound-each : (f : ℕ → State → Moved) → ((i : ℕ) (b : State) → Sound b → Sound (f i b .state)) → (i : ℕ) (b : State) {c : State} {sp sq : List ℤ} {n m : ℕ}
+    → Sound b → Done sp sq n m c (each f i b) → Sound c
+sound-each f h i b s d = rw (d .state) (each-keeps Sound f i (λ j _ c. h j c) b s)

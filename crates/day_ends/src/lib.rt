@@ -7,8 +7,7 @@ ghost use Rattle.base.specs.Pick.{pick};
 ghost use Rattle.rules.specs.Sizes.{strategySlots, tableRows};
 ghost use Rattle.rules.specs.Moves.{each};
 ghost use Rattle.rules.specs.Events.{closeRunning, lowerNumber, lowestLive, cancelLowest, onDayEnd};
-ghost use Rattle.rules.specs.Valid.{Valid};
-ghost use Rattle.rules.proofs.DayEnd.{Numbered};
+ghost use Rattle.rules.specs.Valid.{Sound, Valid};
 ghost use Rattle.records.specs.Space.{Room};
 ghost use Rattle.records.specs.Done.{Done};
 use auctions::close;
@@ -61,7 +60,7 @@ fn lowest_live(b: State) -> u32
 
 // At the day's end: all that is live, by number, until nothing is.
 fn cancel_all(b: State, space: &mut [i32], n: usize) -> After
-    requires { ⌜ Numbered b ⌝ }
+    requires { ⌜ Sound b ⌝ }
     requires { ⌜ Room (now space) n (each cancelLowest (tableRows + tableRows) b .records) ⌝ }
     ensures { λ t. ⌜ Done (now (space .entry)) (now (space .exit)) n (t .count) (t .state) (each cancelLowest (tableRows + tableRows) b) ⌝ }
 {

@@ -1,4 +1,4 @@
--- Laws of the trade of a leg order, and of its cancel.
+-- Laws of the trade of a leg order.
 use mathlib.Core.Path.{_≡_, refl, sym, _∙_, ap}
 use mathlib.Core.Bool.{Bool, true, false}
 use mathlib.Core.Logic.{⊎-elim}
@@ -16,11 +16,11 @@ use Rattle.rules.specs.declared.Record.{Record}
 use Rattle.rules.specs.declared.State.{State}
 use Rattle.rules.specs.State.{noOrder, orderAt, withOrders}
 use Rattle.rules.specs.Moves.{Moved, still, and-then, each}
-use Rattle.rules.specs.Fills.{orderRecord, orderRow, cutOrder, cutLeg, legTrade, cancelLegRecord, cancelOrder}
+use Rattle.rules.specs.Fills.{orderRecord, orderRow, cutOrder, cutLeg, legTrade}
 use Rattle.rules.specs.Events.{aheadOrder, bestOrder, tradeOnce, tradeAll}
 use Rattle.rules.proofs.Turns.{idle}
 use Rattle.records.specs.Space.{Appended, Room}
-use Rattle.records.specs.Done.{Done, done-of, room-of}
+use Rattle.records.specs.Done.{Done}
 use Rattle.tables.specs.Only.{onlyOrders}
 use Rattle.legs.specs.Search.{best-order-most}
 
@@ -143,26 +143,6 @@ trades-none a b {h} e l =
 -- a turn that trades
 pub trade-turn : (a i : ℕ) (c : State) {h : ℕ} → h ≡ nextTrade a c → ¬ (h ≡ 32) → tradeOnce a i c ≡ legTrade c a h
 trade-turn a i c e z = once-trades a i c (let l : nextTrade a c < 32 = omega (arith, e, z, next-most a c) in l) ∙ ap (legTrade c a) (sym e)
-
--- CANCEL
-pub cancel-none : (i : ℕ) (b : State) → orderAt b i .contracts ≡ 0 → cancelOrder i b ≡ still b
-unfolding cancelOrder
-cancel-none i b e = pick-true _ _ _ (eq-eqb _ _ e)
-
-pub cancel-past : (i : ℕ) (b : State) → length (b .orders) ≡ 32 → 32 ≤ i → cancelOrder i b ≡ still b
-cancel-past i b n h = cancel-none i b (order-past b i n h)
-
-pub cancel-is : (i : ℕ) (b : State) → ¬ (orderAt b i .contracts ≡ 0)
-    → cancelOrder i b ≡ record { state = cutLeg b i (orderAt b i .contracts); records = cancelLegRecord (orderAt b i) ∷ [] }
-unfolding cancelOrder
-cancel-is i b e = pick-false _ _ _ (ne-eqb _ _ e)
-
-pub cancel-room : (i : ℕ) (b : State) {sp : List ℤ} {n : ℕ} → ¬ (orderAt b i .contracts ≡ 0) → Room sp n (cancelOrder i b .records) → Room sp n (cancelLegRecord (orderAt b i) ∷ [])
-cancel-room i b e r = room-of (cancel-is i b e) r
-
-pub cancel-done : (i : ℕ) (b : State) {sp sq : List ℤ} {n m : ℕ} {c : State} → ¬ (orderAt b i .contracts ≡ 0)
-    → Appended sp sq n m (cancelLegRecord (orderAt b i) ∷ []) → c ≡ cutLeg b i (orderAt b i .contracts) → Done sp sq n m c (cancelOrder i b)
-cancel-done i b e w g = done-of (cancel-is i b e) (record { wrote = w; state = g })
 
 -- the orders of a state that turns have led to are 32
 pub rows-after : (a i : ℕ) (b : State) {sp sq : List ℤ} {n m : ℕ} {c : State} → length (b .orders) ≡ 32 → Done sp sq n m c (each (tradeOnce a) i b) → length (c .orders) ≡ 32

@@ -1,8 +1,8 @@
-// Trades of a leg order with opposite ones, and its cancel, with their records.
+// Trades of a leg order with opposite ones, with their records, and the record of its cancel.
 ghost use mathlib.Core.Path.{_≡_};
 ghost use Prim.Native.Nat.{_+_, _<_};
 ghost use Rattle.rules.specs.Sizes.{tableRows, zeroLevel};
-ghost use Rattle.rules.specs.Fills.{orderRecord, orderRow, cutOrder, cutLeg, legTrade, cancelLegRecord, cancelOrder};
+ghost use Rattle.rules.specs.Fills.{orderRecord, orderRow, cutOrder, cutLeg, legTrade, cancelLegRecord};
 ghost use Rattle.rules.specs.Events.{tradeAll};
 ghost use Rattle.records.specs.Space.{Appended, Room};
 ghost use Rattle.records.specs.Done.{Done};
@@ -127,7 +127,7 @@ pub fn trade_all(b: State, a: usize, space: &mut [i32], n: usize) -> After
     After { state: c, count: m }
 }
 
-fn cancel_leg_record(o: LegOrder) -> Record
+pub fn cancel_leg_record(o: LegOrder) -> Record
     ensures { λ r. ⌜ r ≡ cancelLegRecord o ⌝ }
 {
     Record {
@@ -138,22 +138,4 @@ fn cancel_leg_record(o: LegOrder) -> Record
         quantity: o.contracts,
         level: ZERO_LEVEL,
     }
-}
-
-// The cancel of all that is live of the leg order at slot i; past the last slot there is none.
-pub fn cancel_order(b: State, i: usize, space: &mut [i32], n: usize) -> After
-    requires { ⌜ Room (now space) n (cancelOrder i b .records) ⌝ }
-    ensures { λ t. ⌜ Done (now (space .entry)) (now (space .exit)) n (t .count) (t .state) (cancelOrder i b) ⌝ }
-{
-    if State::LEG_ORDERS <= i {
-        return After { state: b, count: n };
-    }
-    let o = b.orders[i];
-    if o.contracts == 0 {
-        return After { state: b, count: n };
-    }
-    let r = cancel_leg_record(o);
-    let m = push(space, n, r);
-    let c = cut_leg(b, i, o.contracts);
-    After { state: c, count: m }
 }

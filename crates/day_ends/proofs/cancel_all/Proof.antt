@@ -1,6 +1,6 @@
-use Rattle.day_ends.specs.DayEnds.{numbered-each, low-is, lowest-stops}
+use Rattle.day_ends.specs.DayEnds.{lowest-sound, sound-each, low-is, lowest-stops}
 use Rattle.records.specs.Done.{Visited, visit-none, visit-moves, visit-room, visit-all, done-length}
-use Rattle.rules.proofs.DayEnd.{lowest-shrinks, lowest-none}
+use Rattle.rules.proofs.DayEnd.{numbered-sound, lowest-none}
 use Rattle.rules.specs.Events.{cancelLowest}
 use mathlib.Core.Path.{sym, _∙_}
 use Prim.Native.Nat.{_-_}
@@ -27,11 +27,12 @@ same-length c = done-length (c .before .before .before .loop .inv .done)
 returns : tie.Need-returns Inv-loop μ-loop
 returns c =
     let k = c .before .before .before in
-    lowest-stops _ _ (c .before .before .loop-test .taken) (k .loop .inv .done) (lowest-none (numbered-each cancelLowest lowest-shrinks _ _ (k .before .pre .0) (k .loop .inv .done)) (sym (c .before .lowest-live .ensures) ∙ c .if1 .taken))
+    lowest-stops _ _ (c .before .before .loop-test .taken) (k .loop .inv .done) (lowest-none (numbered-sound (sound-each cancelLowest lowest-sound _ _ (k .before .pre .0) (k .loop .inv .done))) (sym (c .before .lowest-live .ensures) ∙ c .if1 .taken))
 
 cancel-number-requires : tie.Need-cancel-number-requires Inv-loop μ-loop
-cancel-number-requires c κs = let k = c .before .before .before .before in
-    visit-room (k .loop .inv) (c .before .before .before .loop-test .taken) (low-is _ _ (c .before .before .lowest-live .ensures)) (k .before .pre .1)
+cancel-number-requires c κs =
+    let k = c .before .before .before .before in
+    (sound-each cancelLowest lowest-sound _ _ (k .before .pre .0) (k .loop .inv .done), visit-room (k .loop .inv) (c .before .before .before .loop-test .taken) (low-is _ _ (c .before .before .lowest-live .ensures)) (k .before .pre .1))
 
 add-i : tie.Need-add-i Inv-loop μ-loop
 add-i c = omega arith

@@ -1,5 +1,4 @@
-use Rattle.day_ends.specs.DayEnds.{numbered-each, day-end}
-use Rattle.rules.proofs.DayEnd.{numbered-sound, running-shrinks}
+use Rattle.day_ends.specs.DayEnds.{running-sound, sound-each, day-end}
 use Rattle.rules.specs.Events.{closeRunning, onDayEnd}
 use Rattle.records.specs.Done.{room-then, room-after}
 use borrow.Author.Needs.{needs}
@@ -15,7 +14,7 @@ unfolding onDayEnd
 cancel-all-requires c κs =
     let x = c .before .before .before .close-all .ensures in
     let p = c .before .before .before .before .before .pre in
-    (numbered-each closeRunning running-shrinks 16 _ (numbered-sound (p .0 .sound)) x, room-then _ _ (room-after _ _ (p .1) x))
+    (sound-each closeRunning running-sound 16 _ (p .0 .sound) x, room-then _ _ (room-after _ _ (p .1) x))
 
 fresh-requires : tie.Need-fresh-requires
 fresh-requires c κs = search needs

@@ -14,7 +14,9 @@ returns : tie.Need-returns
 returns c = took-refused _ _ _ (c .before .before .cancel-refusal .ensures) (c .before .before .before .before .pre) (c .before .if1 .taken) (c .refuse .ensures)
 
 cancel-number-requires : tie.Need-cancel-number-requires
-cancel-number-requires c κs = room-event _ _ _ (c .before .before .cancel-refusal .ensures) (c .before .before .before .before .pre) (c .before .if1 .left) (cancel-accepts _ _)
+cancel-number-requires c κs =
+    let p = c .before .before .before .before .pre in
+    (p .0 .sound, room-event _ _ _ (c .before .before .cancel-refusal .ensures) p (c .before .if1 .left) (cancel-accepts _ _))
 
 admit-requires : tie.Need-admit-requires
 admit-requires c κs = search needs
