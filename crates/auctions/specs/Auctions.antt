@@ -5,20 +5,21 @@ use mathlib.Core.List.{List}
 use Prim.Native.Nat.{ℕ, _≤_}
 use native.Mathlib.Omega.{arith}
 use lib.Dec.{eqb}
-use lib.ListN.{length, getD, List·getD-eq-default}
+use lib.ListN.{length, getD, set, List·getD-eq-default}
 use Rattle.base.specs.Pick.{pick, pick-true, pick-false, tests}
 use Rattle.base.specs.Walks.{firstN}
 use Rattle.rules.specs.declared.Entry.{Entry}
+use Rattle.rules.specs.declared.Strategy.{Strategy}
 use Rattle.rules.specs.declared.State.{State}
 use Rattle.rules.specs.declared.Record.{Record}
 use Rattle.rules.specs.declared.Kind.the-variants.{AuctionBegun, AuctionEnded}
 use Rattle.rules.specs.Sizes.{tableRows, zeroLevel}
-use Rattle.rules.specs.State.{noEntry, entryAt, strategyAt}
+use Rattle.rules.specs.State.{noEntry, entryAt, strategyAt, withStrategies}
 use Rattle.rules.specs.Moves.{still}
 use Rattle.rules.specs.Sides.{other}
 use Rattle.rules.specs.Fills.{cancelEntry}
 use Rattle.tables.specs.Only.{onlyEntries}
-use Rattle.rules.specs.Auctions.{putAuction, isNumber, starterSlot, answer, lapses, cancelLapsed}
+use Rattle.rules.specs.Auctions.{withAuction, putAuction, isNumber, starterSlot, answer, lapses, cancelLapsed}
 
 abbrev pub begunRecord : Entry → Record
 begunRecord e = record { kind = AuctionBegun; number = e .number; place = e .strategy; side = e .side; quantity = e .units; level = e .level }
@@ -38,6 +39,24 @@ answersIn es k n side = eqb (getD es (starterIn es k n) noEntry .side) (other si
 
 pub side-past : (es : List Entry) (i : ℕ) → length es ≡ 32 → 32 ≤ i → 0 ≡ getD es i noEntry .side
 side-past es i n h = rw (List·getD-eq-default es noEntry {n = i} (omega arith))
+
+-- the state with another strategy stored at slot k
+abbrev pub auctioned : State → ℕ → Strategy → State
+auctioned b k s = record {
+  strategies = set (b .strategies) k s;
+  entries = b .entries;
+  orders = b .orders;
+  defined = b .defined;
+  opened = b .opened;
+  clock = b .clock;
+  timer = b .timer;
+  last = b .last;
+}
+
+-- its auction changed in place
+pub put-is : (b : State) (k n t : ℕ) (a : Bool) {s : Strategy} → s ≡ withAuction (strategyAt b k) n t a → auctioned b k s ≡ putAuction b k n t a
+unfolding putAuction withStrategies
+put-is b k n t a e = rw e
 
 -- the slot of the rules
 pub starter-is : (k : ℕ) (b : State) → starterIn (b .entries) k (strategyAt b k .starter) ≡ starterSlot b k

@@ -8,7 +8,7 @@ ghost use Rattle.rules.specs.Sizes.{strategySlots, tableRows};
 ghost use lib.ListN.{getD};
 ghost use Rattle.rules.specs.State.{noEntry};
 ghost use Rattle.rules.specs.Moves.{each};
-ghost use Rattle.rules.specs.Auctions.{liveIn, putAuction, begin, close, lapses, cancelLapsed, endUnfilled};
+ghost use Rattle.rules.specs.Auctions.{liveIn, withAuction, putAuction, begin, close, lapses, cancelLapsed, endUnfilled};
 ghost use Rattle.records.specs.Space.{Room};
 ghost use Rattle.records.specs.Done.{Done};
 ghost use Rattle.ranges.specs.Fit.{Fit};
@@ -20,6 +20,7 @@ use rules::Entry;
 use rules::Kind;
 use rules::Record;
 use rules::State;
+use rules::Strategy;
 use rules::ZERO_LEVEL;
 use sides::other;
 use states::live_in;
@@ -49,17 +50,25 @@ pub fn starter_slot(es: [Entry; State::ROWS], k: usize, n: u32) -> usize
     State::ROWS
 }
 
-// The auction of strategy k, changed: its starter, the clock at its start, whether it was answered.
-pub fn put_auction(b: State, k: usize, n: u32, t: u32, a: bool) -> State
+// The auction of a strategy, changed: its starter, the clock at its start, whether it was answered.
+pub fn with_auction(s: Strategy, n: u32, t: u32, a: bool) -> Strategy
+    ensures { λ r. ⌜ r ≡ withAuction s n t a ⌝ }
+{
+    let mut r = s;
+    r.starter = n;
+    r.begun = t;
+    r.answered = a;
+    r
+}
+
+// The same of strategy k.
+fn put_auction(b: State, k: usize, n: u32, t: u32, a: bool) -> State
     requires { ⌜ k < strategySlots ⌝ }
     ensures { λ c. ⌜ c ≡ putAuction b k n t a ⌝ }
 {
-    let mut s = b.strategies[k];
-    s.starter = n;
-    s.begun = t;
-    s.answered = a;
     let mut c = b;
-    c.strategies[k] = s;
+    let s = c.strategies[k];
+    c.strategies[k] = with_auction(s, n, t, a);
     c
 }
 

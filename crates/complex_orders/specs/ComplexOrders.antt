@@ -22,13 +22,13 @@ use Rattle.rules.specs.Nets.{prices, netOf, legNet}
 use Rattle.rules.specs.Strategies.{shutSet, allOpen}
 use Rattle.rules.specs.Passes.{turnAt, pass}
 use Rattle.rules.specs.Fills.{cancelRecord, cutEntry, cancelEntry}
-use Rattle.rules.specs.Auctions.{running, putAuction, begin, answer}
+use Rattle.rules.specs.Auctions.{running, withAuction, putAuction, begin, answer}
 use Rattle.rules.specs.Events.{live, keep, behind, freeSlot, restOrCancel, mayStart, starts, waits, trades, arrive, onOrder}
 use Rattle.rules.proofs.Tables.{behind-slot}
 use Rattle.records.specs.Space.{Appended, Room}
 use Rattle.records.specs.Done.{Done}
 use Rattle.fills.specs.Fills.{stored, cancel-room, cancel-stores}
-use Rattle.auctions.specs.Auctions.{answersIn, answer-by}
+use Rattle.auctions.specs.Auctions.{answersIn, answer-by, auctioned, put-is}
 use Rattle.entries.specs.Entered.{entered, entered-is}
 use Rattle.passes.specs.Passes.{stopsAt, oppositeIn, netIn, pass-still}
 use Rattle.complex_orders.specs.declared.Arrival.{Arrival}
@@ -177,9 +177,10 @@ module _ (e : Entry) (b : State) {i : ℕ} {rows : List Entry} (p : rows ≡ beh
     cancels-done g x = cancel-stores i (entered e rows b) stands told-of (rw (enters-at h) g) x
 
   -- an answer
-  pub answers-is : freeSlot b < 32 → {d : State} → d ≡ putAuction (entered e rows b) (e .strategy) (strategyOf b e .starter) (strategyOf b e .begun) true → does i (entered e rows b) A.Answers ≡ still d
+  pub answers-is : freeSlot b < 32 → {s : Strategy} → s ≡ withAuction (strategyOf b e) (strategyOf b e .starter) (strategyOf b e .begun) true
+      → does i (entered e rows b) A.Answers ≡ still (auctioned (entered e rows b) (e .strategy) s)
   unfolding does
-  answers-is h g = rw (enters-at h, g)
+  answers-is h g = rw (enters-at h) (ap still (sym (put-is (entered e rows b) (e .strategy) _ _ true g)))
 
 -- whether an order starts an auction, by the leg net that the code has found
 module _ (e : Entry) (s : Strategy) (os : List LegOrder) where

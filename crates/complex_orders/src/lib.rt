@@ -14,7 +14,7 @@ ghost use Rattle.ranges.specs.Fit.{FitLegs, Priced, Fit};
 ghost use Rattle.complex_orders.specs.ComplexOrders.{startsIn, restsAs, waitsAs, arrivalOf};
 use auctions::answers;
 use auctions::begin;
-use auctions::put_auction;
+use auctions::with_auction;
 use entries::insert;
 use fills::cancel_entry;
 use fills::cancel_record;
@@ -180,8 +180,8 @@ pub fn on_order(e: Entry, b: State, space: &mut [i32], n: usize) -> After
             After { state: c, count: m }
         }
         Arrival::Answers => {
-            let d = put_auction(c, k, s.starter, s.begun, true);
-            After { state: d, count: n }
+            c.strategies[k] = with_auction(s, s.starter, s.begun, true);
+            After { state: c, count: n }
         }
         Arrival::Starts => begin(c, i, space, n),
         Arrival::Passes => trades(c, i, space, n),

@@ -9,7 +9,7 @@ use Rattle.rules.specs.declared.State.{State}
 use Rattle.rules.specs.State.{noOrder, orderAt, withOrders, withLast}
 use Rattle.rules.specs.Moves.{still, and-then}
 use Rattle.rules.specs.Auctions.{legPasses}
-use Rattle.rules.specs.Events.{liveOrder, enterOrder, freeOrderSlot, tradeAll, ifRests, onLegOrder}
+use Rattle.rules.specs.Events.{liveOrder, behind, enterOrder, freeOrderSlot, tradeAll, ifRests, onLegOrder}
 use Rattle.rules.specs.Valid.{FitOrder}
 use Rattle.rules.proofs.Control.{tradeAll-kept, shrinks-kept}
 use Rattle.rules.proofs.Entering.{fit-no-order}
@@ -35,6 +35,14 @@ module _ (s a : ℕ) (b : State) where
 pub leg-is : (o : LegOrder) (b : State) {a : ℕ} {c : State} → a ≡ freeOrderSlot b → c ≡ enterOrder o b → onLegOrder o b ≡ and-then (tradeAll a c) (ifRests (o .series) a)
 unfolding onLegOrder
 leg-is o b p e = rw (p, e)
+
+-- the state with these rows, and the leg order's number given last
+abbrev pub entered : LegOrder → List LegOrder → State → State
+entered o rows b = record { strategies = b .strategies; entries = b .entries; orders = rows; defined = b .defined; opened = b .opened; clock = b .clock; timer = b .timer; last = o .number }
+
+pub entered-is : (o : LegOrder) (b : State) {rows : List LegOrder} → rows ≡ behind liveOrder noOrder o (b .orders) → entered o rows b ≡ enterOrder o b
+unfolding enterOrder withLast withOrders
+entered-is o b p = rw p
 
 pub slot-is : (b : State) {a : ℕ} → a ≡ freeOrderSlot b → freeOrderSlot b < 32 → a < 32
 slot-is b e h = rw e h

@@ -2,11 +2,10 @@
 ghost use mathlib.Core.Path.{_≡_};
 ghost use lib.ListN.{length};
 ghost use Rattle.rules.specs.State.{noOrder};
-ghost use Rattle.rules.specs.Events.{liveOrder, keep, behind, enterOrder, freeOrderSlot, meetsOrder, bestOrder};
+ghost use Rattle.rules.specs.Events.{liveOrder, keep, behind, freeOrderSlot, meetsOrder, bestOrder};
 ghost use Rattle.tables.specs.Only.{onlyOrders};
 ghost use Rattle.legs.specs.Search.{aheadOf};
 use nets::stands;
-use records::with_orders;
 use rules::LegOrder;
 use rules::State;
 use sides::better;
@@ -25,7 +24,7 @@ fn live(o: LegOrder) -> bool
 }
 
 // The live orders in front, in their order, and one more behind them, if a slot is free.
-fn insert(os: [LegOrder; State::LEG_ORDERS], o: LegOrder) -> [LegOrder; State::LEG_ORDERS]
+pub fn insert(os: [LegOrder; State::LEG_ORDERS], o: LegOrder) -> [LegOrder; State::LEG_ORDERS]
     ensures { λ rows. ⌜ rows ≡ behind liveOrder noOrder o os ⌝ }
 {
     let mut rows = [NO_ORDER; State::LEG_ORDERS];
@@ -65,17 +64,6 @@ pub fn free_order_slot(os: [LegOrder; State::LEG_ORDERS]) -> usize
     ensures { λ r. ⌜ r ≡ freeOrderSlot (onlyOrders os) ⌝ }
 {
     count(os)
-}
-
-// A leg order enters behind the live ones, if a slot is free.
-pub fn enter_order(o: LegOrder, b: State) -> State
-    ensures { λ c. ⌜ c ≡ enterOrder o b ⌝ }
-{
-    let os = b.orders;
-    let rows = insert(os, o);
-    let mut c = with_orders(b, rows);
-    c.last = o.number;
-    c
 }
 
 // Whether an order is one that o trades with.

@@ -3,11 +3,8 @@ ghost use mathlib.Core.Path.{_≡_};
 ghost use mathlib.Core.List.{[], _∷_};
 ghost use Prim.Native.Nat.{_+_, _*_, _-_, _<_, min};
 ghost use Rattle.rules.specs.Records.{kindNumber, cents};
-ghost use Rattle.rules.specs.State.{withOrders};
 ghost use Rattle.records.specs.Space.{Appended, Room};
-use rules::Entry;
 use rules::Kind;
-use rules::LegOrder;
 use rules::Record;
 use rules::State;
 
@@ -72,12 +69,4 @@ pub fn less(a: u32, b: u32) -> u32
         return 0;
     }
     a - b
-}
-
-pub fn with_orders(b: State, rows: [LegOrder; State::LEG_ORDERS]) -> State
-    ensures { λ c. ⌜ c ≡ withOrders b rows ⌝ }
-{
-    let mut c = b;
-    c.orders = rows;
-    c
 }

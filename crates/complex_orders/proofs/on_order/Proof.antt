@@ -1,4 +1,3 @@
-use native.Mathlib.Omega.{arith}
 use Rattle.complex_orders.specs.ComplexOrders.{does, order-is, slot-within, cancels-room, cancels-done, answers-is}
 use Rattle.complex_orders.specs.declared.Arrival.{Arrival}
 use Rattle.records.specs.Done.{done-of, done-still, room-of}
@@ -7,6 +6,7 @@ use Rattle.entries.specs.Entered.{entered, entered-is, fit-enter}
 use Rattle.ranges.specs.Fit.{fit-legs}
 use Rattle.rules.specs.Events.{onOrder}
 use mathlib.Core.Path.{_≡_, sym, _∙_}
+use native.Mathlib.Omega.{arith}
 use borrow.Author.Needs.{needs}
 use Rattle.complex_orders.proofs.on_order.Statement.{statement}
 use Rattle.complex_orders.proofs.on_order.Tie as tie
@@ -47,8 +47,8 @@ push-requires c κs = cancels-room _ _ (c .before .before .before .before .befor
 cut-entry-requires : tie.Need-cut-entry-requires
 cut-entry-requires c κs = search needs
 
-mul-t27 : tie.Need-mul-t27
-mul-t27 c = let k = slot-within _ _ (c .before .before .before .before .before .before .before .before .before .before .before .before .insert .ensures .0) (c .before .before .before .before .before .before .before .before .before .before .before .before .insert .ensures .1) (c .before .before .before .before .before .before .before .before .before .before .before .before .before .before .pre .0 .0) in omega arith
+mul-t26 : tie.Need-mul-t26
+mul-t26 c = let k = slot-within _ _ (c .before .before .before .before .before .before .before .before .before .before .before .before .insert .ensures .0) (c .before .before .before .before .before .before .before .before .before .before .before .before .insert .ensures .1) (c .before .before .before .before .before .before .before .before .before .before .before .before .before .before .pre .0 .0) in omega arith
 
 element-set-from-c : tie.Need-element-set-from-c
 element-set-from-c c = slot-within _ _ (c .before .before .before .before .before .before .before .before .before .before .before .before .insert .ensures .0) (c .before .before .before .before .before .before .before .before .before .before .before .before .insert .ensures .1) (c .before .before .before .before .before .before .before .before .before .before .before .before .before .before .pre .0 .0)
@@ -56,8 +56,14 @@ element-set-from-c c = slot-within _ _ (c .before .before .before .before .befor
 enum-told-3 : tie.Need-enum-told-3
 enum-told-3 c = search needs
 
-put-auction-requires : tie.Need-put-auction-requires
-put-auction-requires c κs = c .before .before .before .before .before .before .before .before .before .pre .0 .1 .strategy
+with-auction-requires : tie.Need-with-auction-requires
+with-auction-requires c κs = search needs
+
+mul-t31 : tie.Need-mul-t31
+mul-t31 c = search needs
+
+element-set-from-c-2 : tie.Need-element-set-from-c-2
+element-set-from-c-2 c = c .before .before .before .before .before .before .before .before .before .before .pre .0 .1 .strategy
 
 enum-told-4 : tie.Need-enum-told-4
 enum-told-4 c = search needs
@@ -85,7 +91,7 @@ unfolding does
 returns-2 c = done-of (arrived (c .before .before .before .before .before .before .before) (c .before .before .before .before .before .enum-told2 .given .1)) (cancels-done _ _ (c .before .before .before .before .before .before .before .before .before .before .before .before .insert .ensures .0) (c .before .before .before .before .before .before .before .before .before .before .before .before .insert .ensures .1) (c .before .before .before .before .before .before .before .before .before .before .before .before .before .before .pre .0 .0) (c .before .before .before .before .before .before .before .before .before .before .before .before .before .before .pre .0 .2) (c .before .before .before .before .cancel-record .ensures) (c .cut-entry .ensures) (c .before .before .push .ensures))
 
 returns-3 : tie.Need-returns-3
-returns-3 c = done-of (arrived (c .before .before .before) (c .before .enum-told3 .given .1) ∙ answers-is _ _ (c .before .before .before .before .before .before .before .before .insert .ensures .0) (c .before .before .before .before .before .before .before .before .insert .ensures .1) (c .before .before .before .before .before .before .before .before .before .before .pre .0 .0) (c .put-auction .ensures)) (done-still _ _ _)
+returns-3 c = done-of (arrived (c .before .before .before) (c .before .enum-told3 .given .1) ∙ answers-is _ _ (c .before .before .before .before .before .before .before .before .insert .ensures .0) (c .before .before .before .before .before .before .before .before .insert .ensures .1) (c .before .before .before .before .before .before .before .before .before .before .pre .0 .0) (c .with-auction .ensures)) (done-still _ _ _)
 
 same-length-2 : tie.Need-same-length-2
 same-length-2 c = search needs
@@ -115,10 +121,12 @@ on-order-spec =
     cancel-record-requires
     push-requires
     cut-entry-requires
-    mul-t27
+    mul-t26
     element-set-from-c
     enum-told-3
-    put-auction-requires
+    with-auction-requires
+    mul-t31
+    element-set-from-c-2
     enum-told-4
     begin-requires
     enum-told-5
