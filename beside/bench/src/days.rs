@@ -148,9 +148,9 @@ const CENTRE: u32 = 1_000;
 /// The best bid is so much below, the best offer above.
 const AWAY: u32 = 5;
 
-struct Maker {
-    book: Book,
-    frames: Vec<Frame>,
+pub(crate) struct Maker {
+    pub(crate) book: Book,
+    pub(crate) frames: Vec<Frame>,
 }
 
 /// The strategies: 2 to 6 legs in traded series, ratios 1 to 3.
@@ -169,7 +169,14 @@ fn strategy(index: usize) -> Event {
 }
 
 impl Maker {
-    fn push(&mut self, event: Event) {
+    pub(crate) fn empty() -> Maker {
+        Maker {
+            book: Book::first(),
+            frames: Vec::new(),
+        }
+    }
+
+    pub(crate) fn push(&mut self, event: Event) {
         let frame = bytes(&event);
         self.book.step(&frame, SPACE);
         self.frames.push(frame);
@@ -178,10 +185,7 @@ impl Maker {
     /// A book with every strategy, 30 leg orders of 32 and 12 complex orders of
     /// 16, whose auctions last 1 ms.
     fn busy() -> Maker {
-        let mut maker = Maker {
-            book: Book::first(),
-            frames: Vec::new(),
-        };
+        let mut maker = Maker::empty();
         maker.push(Event::DayEnd { timer: 1 });
         for series in 0..32 {
             maker.push(Event::Series { series, state: 1 });
@@ -227,7 +231,7 @@ impl Maker {
         });
     }
 
-    fn sweep(&mut self, member: u16, strategy: u8, side: u8, units: u16, limit: i32) {
+    pub(crate) fn sweep(&mut self, member: u16, strategy: u8, side: u8, units: u16, limit: i32) {
         self.push(Event::Sweep {
             member,
             strategy,
@@ -238,7 +242,7 @@ impl Maker {
     }
 
     /// The net that an order of this side takes from the legs.
-    fn net(&self, strategy: u8, side: u8) -> i32 {
+    pub(crate) fn net(&self, strategy: u8, side: u8) -> i32 {
         self.book.leg_net(strategy, side).unwrap_or(0) as i32
     }
 }

@@ -1,9 +1,13 @@
 //! Times the proved program `tape` beside the reckoning's `tape`, on the same
-//! days: a busy day of every kind of event, and days of one kind mostly.
+//! days: a busy day of every kind of event, and days of one kind mostly. Of the
+//! proved one it counts the copies of the state, and times each event by itself.
 
 #![forbid(unsafe_code)]
 #![deny(warnings)]
 
+pub mod copies;
 pub mod days;
 pub mod measure;
+pub mod tails;
 pub mod text;
+pub mod worst;

@@ -1,6 +1,6 @@
 //! Times of programs, and what is reckoned from them.
 
-use std::fs::File;
+use std::fs::{self, File};
 use std::path::Path;
 use std::process::{Command, Stdio};
 use std::time::Instant;
@@ -66,6 +66,35 @@ pub fn seconds(program: &Path, input: &Path) -> Result<f64, String> {
         true => Ok(time),
         false => Err(format!("{name} ended badly: {status}")),
     }
+}
+
+/// Plays an input through a program with a library of ours put before the C library,
+/// what it prints thrown away. The library writes a file, which a variable of its own
+/// names; its bytes are the answer.
+pub fn preloaded(
+    program: &Path,
+    library: &Path,
+    input: &Path,
+    variable: &str,
+    output: &Path,
+) -> Result<Vec<u8>, String> {
+    let name = program.display();
+    let file = File::open(input).map_err(|error| format!("{}: {error}", input.display()))?;
+    let status = Command::new(program)
+        .env("LD_PRELOAD", library)
+        .env(variable, output)
+        .stdin(file)
+        .stdout(Stdio::null())
+        .status()
+        .map_err(|error| format!("{name} cannot be run: {error}"))?;
+    if !status.success() {
+        return Err(format!("{name} ended badly: {status}"));
+    }
+    let bytes = fs::read(output)
+        .map_err(|_| format!("{name} does not take the library {}", library.display()))?;
+    // So that no file of an earlier run is taken for one of the next.
+    fs::remove_file(output).map_err(|error| format!("{}: {error}", output.display()))?;
+    Ok(bytes)
 }
 
 /// What a program prints for an input.

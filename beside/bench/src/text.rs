@@ -38,3 +38,28 @@ pub fn kind_row(cells: [&str; 6]) -> String {
         .trim_end()
         .to_string()
 }
+
+/// A row of the table of single events.
+pub fn tail_row(cells: [&str; 7]) -> String {
+    let [kind, events, half, most, nearly_all, worst, event] = cells;
+    format!(
+        "{kind:<15}  {events:>7}  {half:>7}  {most:>7}  {nearly_all:>7}  {worst:>7}  {event:>7}"
+    )
+}
+
+/// A row of the table of the worst of each kind.
+pub fn worst_row(cells: [&str; 5]) -> String {
+    let [kind, worst, records, day, event] = cells;
+    format!("{kind:<15}  {worst:>7}  {records:>7}  {day:<13}  {event:>7}")
+}
+
+/// A row of the table of the days whose events take long.
+pub fn long_row(cells: [&str; 4]) -> String {
+    let [day, worst, kind, about] = cells;
+    format!("{day:<15}  {worst:>7}  {kind:<15}  {about}")
+}
+
+/// Nanoseconds as microseconds.
+pub fn micro(nanoseconds: u64) -> String {
+    format!("{:.2}", nanoseconds as f64 / 1e3)
+}

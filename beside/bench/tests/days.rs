@@ -4,6 +4,7 @@
 #![deny(warnings)]
 
 use bench::days::{busy_day, days, names, Frame};
+use bench::worst::long_days;
 use reckoning::book::{Book, SPACE};
 use reckoning::events::Answer;
 use std::collections::{BTreeMap, BTreeSet};
@@ -115,4 +116,62 @@ fn every_kind_has_a_day() {
     );
     let known: BTreeSet<&str> = names().into_iter().collect();
     assert_eq!(known.len(), names().len());
+}
+
+/// What is held before the last event of a long day, and what that one writes: its
+/// kind, and of records whole fills, leg fills, cancels, auctions begun and ended.
+#[test]
+fn the_last_event_of_a_long_day_does_what_is_said_of_it() {
+    let rows: [(&str, [usize; 4], usize, u8, [usize; 5]); 10] = [
+        ("full-book", [16, 16, 16, 31], 16, 6, [0; 5]),
+        // 15 limits with 2 whole fills of 6 legs each; 27 leg nets with a whole fill,
+        // its 6 legs and 6 leg orders each; what is left is cancelled.
+        ("complex-order", [16, 15, 0, 32], 0, 2, [57, 504, 1, 0, 0]),
+        ("leg-order", [16, 16, 0, 31], 0, 4, [42, 504, 0, 0, 0]),
+        ("opening", [16, 16, 0, 32], 0, 6, [42, 504, 0, 0, 0]),
+        ("crossing", [16, 16, 0, 32], 0, 6, [57, 504, 0, 0, 0]),
+        ("halt", [16, 16, 16, 32], 16, 6, [0, 0, 32, 0, 16]),
+        ("auction", [16, 16, 16, 32], 1, 7, [105, 876, 0, 0, 1]),
+        ("answers", [16, 16, 16, 32], 1, 7, [147, 1_044, 1, 0, 1]),
+        ("auctions", [16, 16, 16, 32], 16, 7, [40, 480, 17, 0, 16]),
+        ("day-end", [16, 16, 16, 32], 16, 8, [0, 0, 64, 0, 16]),
+    ];
+    let days = long_days();
+    let known: Vec<&str> = days.iter().map(|day| day.name).collect();
+    assert_eq!(known, rows.map(|row| row.0));
+    for (day, (name, tables, running, kind, written)) in days.iter().zip(rows) {
+        let mut book = Book::first();
+        let (last, before) = day.frames.split_last().expect(name);
+        let answers = play(&mut book, before);
+        let refused = answers.iter().filter(|a| a.answer != 0).count();
+        assert_eq!(refused, if name == "full-book" { 4 } else { 0 }, "{name}");
+        assert_eq!(held(&book), tables, "{name}");
+        let auctions = book.auctions.iter().flatten().count();
+        assert_eq!(auctions, running, "{name}");
+        assert_eq!(last[2], kind, "{name}");
+        let answer = book.step(last, SPACE);
+        assert_eq!(answer.answer, 0, "{name}");
+        let count = |kind: i32| answer.records.iter().filter(|r| r.kind == kind).count();
+        assert_eq!([1, 2, 3, 4, 5].map(count), written, "{name}");
+    }
+}
+
+/// The last 13 events of the full book: refusals, then an event of each kind.
+#[test]
+fn the_full_book_refuses_what_has_no_room() {
+    let days = long_days();
+    let frames = &days[0].frames;
+    let mut book = Book::first();
+    let (before, last) = frames.split_at(frames.len() - 13);
+    play(&mut book, before);
+    assert_eq!(held(&book), [16, 16, 16, 32]);
+    let kinds: Vec<u8> = last.iter().map(|frame| frame[2]).collect();
+    assert_eq!(kinds, [2, 3, 4, 1, 1, 3, 3, 3, 5, 5, 4, 7, 6]);
+    let answers = play(&mut book, last);
+    let refusals: Vec<u32> = answers.iter().map(|answer| answer.answer).collect();
+    assert_eq!(refusals, [12, 12, 12, 12, 0, 0, 0, 0, 0, 0, 0, 0, 0]);
+    // A strategy that is held, the last but one; a sweep replaced and one removed.
+    assert_eq!(answers[4].value, 14);
+    let records: Vec<usize> = answers.iter().map(|a| a.records.len()).collect();
+    assert_eq!(records, [0, 0, 0, 0, 0, 1, 1, 0, 1, 1, 0, 0, 0]);
 }

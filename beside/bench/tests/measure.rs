@@ -193,6 +193,44 @@ fn bad_uses() {
             1,
             "'none' is no day; one is: all, strategy, ",
         ),
+        (program, "long", 2, "usage: bench"),
+        (
+            program,
+            "long none",
+            1,
+            "'none' is no long day; one is: full-book, ",
+        ),
+        (
+            program,
+            "copies /none /none 1 1 /none",
+            1,
+            "no size of the state",
+        ),
+        (
+            program,
+            "copies /none /none 1 1 /none 9",
+            1,
+            "no size of a table",
+        ),
+        (
+            program,
+            "copies /none /none 1 1 /none 9 x",
+            1,
+            "'x' is no number from 1",
+        ),
+        (
+            program,
+            "copies /none /none 1 1 /none 9 8",
+            1,
+            "/none/some: ",
+        ),
+        (program, "tails /none /none /none 1 1", 2, "usage: bench"),
+        (
+            program,
+            "tails /none /none /none 1 1 /none",
+            1,
+            "/none/events: ",
+        ),
         (program, "time /none /none 1 1 1 /none", 1, "/none/all: "),
     ] {
         let output = (Command::new(path).args(words.split_whitespace()).output())

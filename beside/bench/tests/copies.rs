@@ -1,0 +1,60 @@
+//! Copies are told apart by their length.
+
+#![forbid(unsafe_code)]
+#![deny(warnings)]
+
+use bench::copies::{Bounds, Copies};
+
+/// The sizes as they are: the state, and its three tables.
+const STATE: usize = 1_748;
+const TABLES: [usize; 3] = [576, 640, 512];
+
+#[test]
+fn bounds_from_the_sizes() {
+    let bounds = Bounds {
+        table: 512,
+        whole: 1_728,
+        longest: 1_780,
+    };
+    assert_eq!(Bounds::of(STATE, &TABLES), Some(bounds));
+    let one = Bounds {
+        table: 40,
+        whole: 40,
+        longest: 76,
+    };
+    assert_eq!(Bounds::of(44, &[40]), Some(one));
+    assert_eq!(Bounds::of(STATE, &[]), None);
+}
+
+#[test]
+fn copies_by_their_length() {
+    let bounds = Bounds::of(STATE, &TABLES).expect("bounds");
+    let of = |lines: &str| Copies::of(lines, bounds);
+    let copies = |whole, tables, longer| {
+        Some(Copies {
+            whole,
+            tables,
+            longer,
+        })
+    };
+    assert_eq!(of(""), copies(0, 0, 0));
+    for (length, wanted) in [
+        (0, copies(0, 0, 0)),
+        (511, copies(0, 0, 0)),
+        (512, copies(0, 7, 0)),
+        (1_152, copies(0, 7, 0)),
+        (1_727, copies(0, 7, 0)),
+        (1_728, copies(7, 0, 0)),
+        (1_748, copies(7, 0, 0)),
+        (1_780, copies(7, 0, 0)),
+        (1_781, copies(0, 0, 7)),
+        (65_536, copies(0, 0, 7)),
+    ] {
+        assert_eq!(of(&format!("{length} 7\n")), wanted, "{length}");
+    }
+    let lines = "16 1\n512 20\n640 300\n1728 4000\n1748 50000\n3000 600000\n";
+    assert_eq!(of(lines), copies(54_000, 320, 600_000));
+    for bad in ["512", "512 ", "512 x", "x 512", "512 1 1", "512 1\n\n"] {
+        assert_eq!(of(bad), None, "{bad}");
+    }
+}
