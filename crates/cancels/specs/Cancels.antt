@@ -33,12 +33,12 @@ abbrev pub orderHas : ℕ → State → ℕ → Bool
 orderHas n b i = hasLive (orderAt b i .number) (orderAt b i .contracts) n
 
 -- the slot of the live entry of a number, 32 where there is none
-unfoldable pub entryOf : ℕ → State → ℕ
-entryOf n b = firstN (entryHas n b) tableRows
+unfoldable pub entrySlot : ℕ → State → ℕ
+entrySlot n b = firstN (entryHas n b) tableRows
 
 -- the same of the leg orders
-unfoldable pub orderOf : ℕ → State → ℕ
-orderOf n b = firstN (orderHas n b) tableRows
+unfoldable pub orderSlot : ℕ → State → ℕ
+orderSlot n b = firstN (orderHas n b) tableRows
 
 -- a cancel of a live leg order
 unfoldable pub cancelledOrder : ℕ → State → Moved
@@ -71,24 +71,24 @@ module _ (n : ℕ) (b : State) where
   order-live i e = search tests
 
   -- an entry is found
-  pub number-at-entry : {i : ℕ} → Sound b → i ≡ entryOf n (onlyEntries (b .entries)) → i < 32 → cancelNumber n b ≡ cancelled i b
-  unfolding entryOf
+  pub number-at-entry : {i : ℕ} → Sound b → i ≡ entrySlot n (onlyEntries (b .entries)) → i < 32 → cancelNumber n b ≡ cancelled i b
+  unfolding entrySlot
   number-at-entry {i} s e l =
       let h : entryHas n b i ≡ true = rw e (first-holds (entryHas n b) 32 (rw e at l)) in
       let p = has-live _ _ n h in
       number-entry b s n i l (p .0) (omega (arith, p .1)) ∙ cancel-live i b (p .1)
 
   -- a leg order is found
-  pub number-at-order : {i : ℕ} → Sound b → i ≡ orderOf n (onlyOrders (b .orders)) → i < 32 → cancelNumber n b ≡ cancelledOrder i b
-  unfolding orderOf
+  pub number-at-order : {i : ℕ} → Sound b → i ≡ orderSlot n (onlyOrders (b .orders)) → i < 32 → cancelNumber n b ≡ cancelledOrder i b
+  unfolding orderSlot
   number-at-order {i} s e l =
       let h : orderHas n b i ≡ true = rw e (first-holds (orderHas n b) 32 (rw e at l)) in
       let p = has-live _ _ n h in
       number-order b s n i l (p .0) (omega (arith, p .1)) ∙ order-live i (p .1)
 
   -- nothing is live of the number
-  pub number-not : {i j : ℕ} → i ≡ entryOf n (onlyEntries (b .entries)) → 32 ≤ i → j ≡ orderOf n (onlyOrders (b .orders)) → 32 ≤ j → cancelNumber n b ≡ still b
-  unfolding entryOf orderOf cancelNumber and-then
+  pub number-not : {i j : ℕ} → i ≡ entrySlot n (onlyEntries (b .entries)) → 32 ≤ i → j ≡ orderSlot n (onlyOrders (b .orders)) → 32 ≤ j → cancelNumber n b ≡ still b
+  unfolding entrySlot orderSlot cancelNumber and-then
   number-not e l f m =
       rw (
         each-still (cancelEntryOf n) b 32 (λ k h. entry-idle k (first-before (entryHas n b) 32 k (omega (arith, e)))),

@@ -5,7 +5,7 @@ ghost use Rattle.rules.specs.Valid.{Sound};
 ghost use Rattle.records.specs.Space.{Room};
 ghost use Rattle.records.specs.Done.{Done};
 ghost use Rattle.tables.specs.Only.{onlyEntries, onlyOrders};
-ghost use Rattle.cancels.specs.Cancels.{hasLive, entryOf, orderOf};
+ghost use Rattle.cancels.specs.Cancels.{hasLive, entrySlot, orderSlot};
 use fills::cancel_record;
 use fills::cut_entry;
 use records::After;
@@ -28,7 +28,7 @@ fn has_live(x: u32, quantity: u32, number: u32) -> bool
 
 // The slot of the live entry of a number, 32 where there is none.
 fn entry_of(es: [Entry; State::ROWS], number: u32) -> usize
-    ensures { λ r. ⌜ r ≡ entryOf number (onlyEntries es) ⌝ }
+    ensures { λ r. ⌜ r ≡ entrySlot number (onlyEntries es) ⌝ }
 {
     let mut i: usize = 0;
     while i < State::ROWS {
@@ -43,7 +43,7 @@ fn entry_of(es: [Entry; State::ROWS], number: u32) -> usize
 
 // The same of the leg orders.
 fn order_of(os: [LegOrder; State::LEG_ORDERS], number: u32) -> usize
-    ensures { λ r. ⌜ r ≡ orderOf number (onlyOrders os) ⌝ }
+    ensures { λ r. ⌜ r ≡ orderSlot number (onlyOrders os) ⌝ }
 {
     let mut i: usize = 0;
     while i < State::LEG_ORDERS {

@@ -27,7 +27,7 @@ use Rattle.rules.specs.Events.{live, keep, behind, freeSlot, restOrCancel, mayS
 use Rattle.rules.proofs.Tables.{behind-slot}
 use Rattle.records.specs.Space.{Appended, Room}
 use Rattle.records.specs.Done.{Done}
-use Rattle.fills.specs.Fills.{stored, cancel-room, cancel-stores}
+use Rattle.fills.specs.Fills.{withEntry, cancel-room, cancel-stores}
 use Rattle.auctions.specs.Auctions.{answersIn, answer-by, auctioned, put-is}
 use Rattle.entries.specs.Entered.{entered, entered-is}
 use Rattle.passes.specs.Passes.{stopsAt, oppositeIn, netIn, pass-still}
@@ -173,7 +173,7 @@ module _ (e : Entry) (b : State) {i : ℕ} {rows : List Entry} (p : rows ≡ beh
     cancels-room x = cancel-room i (entered e rows b) stands told-of x
 
     pub cancels-done : {f : Entry} → f ≡ cutEntry e (e .units) → {sp sq : List ℤ} {n m : ℕ} → Appended sp sq n m (r ∷ [])
-        → Done sp sq n m (stored (entered e rows b) i f) (cancelEntry i (entered e rows b))
+        → Done sp sq n m (withEntry (entered e rows b) i f) (cancelEntry i (entered e rows b))
     cancels-done g x = cancel-stores i (entered e rows b) stands told-of (rw (enters-at h) g) x
 
   -- an answer

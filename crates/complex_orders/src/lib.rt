@@ -34,8 +34,8 @@ use sides::other;
 use states::none_shut;
 use states::runs;
 
-// What an order does that has entered: it rests, is cancelled, waits as an answer to the auction, starts one, or has its
-// shared pass.
+// What an order does that has entered: it stays, resting or waiting in the auction; it is cancelled; it waits and answers
+// the auction; it starts one; or it has its shared pass.
 pub enum Arrival {
     Rests,
     Cancelled,

@@ -37,9 +37,9 @@ pub cancel-live : (i : ℕ) (b : State) → (entryAt b i .units ≡ 0 → ⊥) �
 unfolding cancelEntry cancelled
 cancel-live i b e = search tests
 
--- the state with another entry stored at slot i
-abbrev pub stored : State → ℕ → Entry → State
-stored b i f = record {
+-- the state with another entry at slot i
+abbrev pub withEntry : State → ℕ → Entry → State
+withEntry b i f = record {
   strategies = b .strategies;
   entries = set (b .entries) i f;
   orders = b .orders;
@@ -57,6 +57,6 @@ module _ (i : ℕ) (b : State) (live : ¬ (entryAt b i .units ≡ 0)) {r : Recor
   cancel-room w = rw p (room-of (cancel-live i b live) w)
 
   pub cancel-stores : {f : Entry} → f ≡ cutEntry (entryAt b i) (entryAt b i .units) → {sp sq : List ℤ} {n m : ℕ} → Appended sp sq n m (r ∷ [])
-      → Done sp sq n m (stored b i f) (cancelEntry i b)
+      → Done sp sq n m (withEntry b i f) (cancelEntry i b)
   unfolding cancelled cut withEntries
   cancel-stores q w = done-of (cancel-live i b live) (record { wrote = rw p at w; state = rw q })

@@ -24,7 +24,7 @@ use Rattle.ranges.specs.Fit.{Fit, fit-legs, fit-done}
 use Rattle.fills.specs.Fills.{filled, whole-some}
 
 -- a fit book with these entries, of which s is the strategy of entry a
-pub record Holds (es : List Entry) (s : Strategy) (a : ℕ) (b : State) : Type 0 where
+pub record HasRows (es : List Entry) (s : Strategy) (a : ℕ) (b : State) : Type 0 where
   pub fit : Fit b
   pub entries : b .entries ≡ es
   pub strategy : strategyOf b (entryAt b a) ≡ s
@@ -51,7 +51,7 @@ unfolding giveGroup give
 group-shrinks a level g b = slots-shrink a level (share (entryAt b a .units) (sizes (b .entries) (entryAt b a) level g)) 32 b
 
 -- a rule that shrinks the book leaves entry a its strategy
-pub holds-after : {es rows : List Entry} {s : Strategy} {a : ℕ} {f : State → Moved} {sp sq : List ℤ} {n m : ℕ} → ((b : State) → Shrinks b (f b .state)) → DoneIn (Holds es s a) f sp sq n m (putEntries rows) → (b : State) → Holds es s a b → Holds rows s a (putEntries rows b)
+pub holds-after : {es rows : List Entry} {s : Strategy} {a : ℕ} {f : State → Moved} {sp sq : List ℤ} {n m : ℕ} → ((b : State) → Shrinks b (f b .state)) → DoneIn (HasRows es s a) f sp sq n m (putEntries rows) → (b : State) → HasRows es s a b → HasRows rows s a (putEntries rows b)
 unfolding withEntries
 holds-after {rows = rows} {a = a} shrinks d b h =
     let x = d .done b h in
@@ -59,15 +59,15 @@ holds-after {rows = rows} {a = a} shrinks d b h =
     record { fit = fit-done x (shrinks b) (h .fit); entries = refl; strategy = ap (λ (i : ℕ). getD (b .strategies) i noStrategy) (k .entry a .strategy) ∙ h .strategy }
 
 -- nobody is met
-pub give-nobody : (es : List Entry) (s : Strategy) (a : ℕ) (sp : List ℤ) (n : ℕ) → DoneIn (Holds es s a) still sp sp n n (putEntries es)
+pub give-nobody : (es : List Entry) (s : Strategy) (a : ℕ) (sp : List ℤ) (n : ℕ) → DoneIn (HasRows es s a) still sp sp n n (putEntries es)
 unfolding withEntries
 give-nobody es s a sp n = record { done = λ b h. rw (sym (h .entries)) (done-still sp n b) }
 
 -- what the witness of the room tells of the strategy and the entries
-pub legs-few : {es : List Entry} {s : Strategy} {a : ℕ} {f : State → Moved} {sp : List ℤ} {n : ℕ} → RoomIn (Holds es s a) f sp n → s .count ≤ 6
+pub legs-few : {es : List Entry} {s : Strategy} {a : ℕ} {f : State → Moved} {sp : List ℤ} {n : ℕ} → RoomIn (HasRows es s a) f sp n → s .count ≤ 6
 legs-few r = rw (sym (r .held .strategy)) (fit-legs (r .held .fit .strategies) _ .count)
 
-pub entries-fit : {es : List Entry} {s : Strategy} {a : ℕ} {f : State → Moved} {sp : List ℤ} {n : ℕ} → RoomIn (Holds es s a) f sp n → All FitEntry es
+pub entries-fit : {es : List Entry} {s : Strategy} {a : ℕ} {f : State → Moved} {sp : List ℤ} {n : ℕ} → RoomIn (HasRows es s a) f sp n → All FitEntry es
 entries-fit r = rw (sym (r .held .entries)) (r .held .fit .entries)
 
 -- entries a and i after a fill of q units
@@ -79,17 +79,17 @@ cutBoth rows a i q =
 -- the loop over the slots, which has visited i of them
 pub record Giving (es : List Entry) (s : Strategy) (a level : ℕ) (qs : List ℕ) (sp sq : List ℤ) (n m : ℕ) (rows : List Entry) (i : ℕ) : Type 0 where
   pub most : i ≤ 32
-  pub done : DoneIn (Holds es s a) (each (giveAt a level qs) i) sp sq n m (putEntries rows)
+  pub done : DoneIn (HasRows es s a) (each (giveAt a level qs) i) sp sq n m (putEntries rows)
 
 pub give-none : (es : List Entry) (s : Strategy) (a level : ℕ) (qs : List ℕ) (sp : List ℤ) (n : ℕ) → Giving es s a level qs sp sp n n es 0
 unfolding withEntries
 give-none es s a level qs sp n = record { most = omega arith; done = slots-none _ (λ b h. rw (sym (h .entries))) }
 
 module _ {es : List Entry} {s : Strategy} {a level : ℕ} {qs : List ℕ} {sp sq : List ℤ} {n m : ℕ} {rows : List Entry} {i : ℕ} (g : Giving es s a level qs sp sq n m rows i) where
-  holds-here : (b : State) → Holds es s a b → Holds rows s a (putEntries rows b)
+  holds-here : (b : State) → HasRows es s a b → HasRows rows s a (putEntries rows b)
   holds-here = holds-after (slots-shrink a level qs i) (g .done)
 
-  pub give-room : RoomIn (Holds es s a) (give a level qs) sp n → i < 32 → (slot qs i ≡ 0 → ⊥) →
+  pub give-room : RoomIn (HasRows es s a) (give a level qs) sp n → i < 32 → (slot qs i ≡ 0 → ⊥) →
       Room sq m (partyRecords (getD rows a noEntry) s (slot qs i) level noPrices ++ partyRecords (getD rows i noEntry) s (slot qs i) level noPrices)
   unfolding give filled withEntries
   give-room r l some =
@@ -107,15 +107,15 @@ module _ {es : List Entry} {s : Strategy} {a level : ℕ} {qs : List ℕ} {sp sq
   pub give-stays : i < 32 → slot qs i ≡ 0 → Giving es s a level qs sp sq n m rows (i + 1)
   give-stays l none = record { most = omega arith; done = slots-stay (giveAt a level qs) (g .done) (λ b h. whole-none _ a i level (slot qs i) none) }
 
-  pub give-all : 32 ≤ i → DoneIn (Holds es s a) (give a level qs) sp sq n m (putEntries rows)
+  pub give-all : 32 ≤ i → DoneIn (HasRows es s a) (give a level qs) sp sq n m (putEntries rows)
   unfolding give
   give-all l = let e : i ≡ 32 = omega (arith, g .most) in rw e at (g .done)
 
 -- the ways to divide, by the quotas that the code has found
-pub in-turn-is : {es : List Entry} {s : Strategy} (a level g : ℕ) {qs : List ℕ} → qs ≡ inTurn (getD es a noEntry .units) (sizes es (getD es a noEntry) level g) → (b : State) → Holds es s a b → giveInTurn a level g b ≡ give a level qs b
+pub in-turn-is : {es : List Entry} {s : Strategy} (a level g : ℕ) {qs : List ℕ} → qs ≡ inTurn (getD es a noEntry .units) (sizes es (getD es a noEntry) level g) → (b : State) → HasRows es s a b → giveInTurn a level g b ≡ give a level qs b
 unfolding giveInTurn
 in-turn-is a level g e b h = rw (e, h .entries)
 
-pub group-is : {es : List Entry} {s : Strategy} (a level g : ℕ) {qs : List ℕ} → qs ≡ share (getD es a noEntry .units) (sizes es (getD es a noEntry) level g) → (b : State) → Holds es s a b → giveGroup a level g b ≡ give a level qs b
+pub group-is : {es : List Entry} {s : Strategy} (a level g : ℕ) {qs : List ℕ} → qs ≡ share (getD es a noEntry .units) (sizes es (getD es a noEntry) level g) → (b : State) → HasRows es s a b → giveGroup a level g b ≡ give a level qs b
 unfolding giveGroup
 group-is a level g e b h = rw (e, h .entries)

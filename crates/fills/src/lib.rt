@@ -9,7 +9,7 @@ ghost use Rattle.rules.specs.Passes.{give, giveInTurn, giveGroup, giveShared};
 ghost use Rattle.records.specs.Space.{Appended, Room};
 ghost use Rattle.records.specs.Done.{Done, RoomIn, DoneIn};
 ghost use Rattle.ranges.specs.Fit.{Fit};
-ghost use Rattle.fills.specs.Gives.{Holds, putEntries};
+ghost use Rattle.fills.specs.Gives.{HasRows, putEntries};
 use quotas::in_turn;
 use quotas::share;
 use quotas::sizes;
@@ -155,7 +155,7 @@ pub fn whole_fill(
 }
 
 // The entries after fills, and the next free place for records.
-pub struct Given {
+pub struct AfterFills {
     pub rows: [Entry; State::ROWS],
     pub count: usize,
 }
@@ -169,10 +169,10 @@ fn give(
     qs: [u32; State::ROWS],
     space: &mut [i32],
     n: usize,
-) -> Given
+) -> AfterFills
     requires { ⌜ a < tableRows ⌝ }
-    requires { ⌜ RoomIn (Holds es s a) (give a level qs) (now space) n ⌝ }
-    ensures { λ t. ⌜ DoneIn (Holds es s a) (give a level qs) (now (space .entry)) (now (space .exit)) n (t .count) (putEntries (t .rows)) ⌝ }
+    requires { ⌜ RoomIn (HasRows es s a) (give a level qs) (now space) n ⌝ }
+    ensures { λ t. ⌜ DoneIn (HasRows es s a) (give a level qs) (now (space .entry)) (now (space .exit)) n (t .count) (putEntries (t .rows)) ⌝ }
 {
     let mut rows = es;
     let mut m = n;
@@ -189,7 +189,7 @@ fn give(
         }
         i += 1;
     }
-    Given {
+    AfterFills {
         rows: rows,
         count: m,
     }
@@ -204,10 +204,10 @@ pub fn give_in_turn(
     g: u8,
     space: &mut [i32],
     n: usize,
-) -> Given
+) -> AfterFills
     requires { ⌜ a < tableRows ⌝ }
-    requires { ⌜ RoomIn (Holds es s a) (giveInTurn a level g) (now space) n ⌝ }
-    ensures { λ t. ⌜ DoneIn (Holds es s a) (giveInTurn a level g) (now (space .entry)) (now (space .exit)) n (t .count) (putEntries (t .rows)) ⌝ }
+    requires { ⌜ RoomIn (HasRows es s a) (giveInTurn a level g) (now space) n ⌝ }
+    ensures { λ t. ⌜ DoneIn (HasRows es s a) (giveInTurn a level g) (now (space .entry)) (now (space .exit)) n (t .count) (putEntries (t .rows)) ⌝ }
 {
     let e = es[a];
     let xs = sizes(es, e, level, g);
@@ -224,10 +224,10 @@ fn give_group(
     g: u8,
     space: &mut [i32],
     n: usize,
-) -> Given
+) -> AfterFills
     requires { ⌜ a < tableRows ⌝ }
-    requires { ⌜ RoomIn (Holds es s a) (giveGroup a level g) (now space) n ⌝ }
-    ensures { λ t. ⌜ DoneIn (Holds es s a) (giveGroup a level g) (now (space .entry)) (now (space .exit)) n (t .count) (putEntries (t .rows)) ⌝ }
+    requires { ⌜ RoomIn (HasRows es s a) (giveGroup a level g) (now space) n ⌝ }
+    ensures { λ t. ⌜ DoneIn (HasRows es s a) (giveGroup a level g) (now (space .entry)) (now (space .exit)) n (t .count) (putEntries (t .rows)) ⌝ }
 {
     let e = es[a];
     let xs = sizes(es, e, level, g);
@@ -243,10 +243,10 @@ pub fn give_shared(
     level: u32,
     space: &mut [i32],
     n: usize,
-) -> Given
+) -> AfterFills
     requires { ⌜ a < tableRows ⌝ }
-    requires { ⌜ RoomIn (Holds es s a) (giveShared a level) (now space) n ⌝ }
-    ensures { λ t. ⌜ DoneIn (Holds es s a) (giveShared a level) (now (space .entry)) (now (space .exit)) n (t .count) (putEntries (t .rows)) ⌝ }
+    requires { ⌜ RoomIn (HasRows es s a) (giveShared a level) (now space) n ⌝ }
+    ensures { λ t. ⌜ DoneIn (HasRows es s a) (giveShared a level) (now (space .entry)) (now (space .exit)) n (t .count) (putEntries (t .rows)) ⌝ }
 {
     let x = give_in_turn(es, s, a, level, 0, space, n);
     let fs = x.rows;

@@ -37,12 +37,12 @@ unfolding onLegOrder
 leg-is o b p e = rw (p, e)
 
 -- the state with these rows, and the leg order's number given last
-abbrev pub entered : LegOrder → List LegOrder → State → State
-entered o rows b = record { strategies = b .strategies; entries = b .entries; orders = rows; defined = b .defined; opened = b .opened; clock = b .clock; timer = b .timer; last = o .number }
+abbrev pub enteredOrder : LegOrder → List LegOrder → State → State
+enteredOrder o rows b = record { strategies = b .strategies; entries = b .entries; orders = rows; defined = b .defined; opened = b .opened; clock = b .clock; timer = b .timer; last = o .number }
 
-pub entered-is : (o : LegOrder) (b : State) {rows : List LegOrder} → rows ≡ behind liveOrder noOrder o (b .orders) → entered o rows b ≡ enterOrder o b
+pub entered-order-is : (o : LegOrder) (b : State) {rows : List LegOrder} → rows ≡ behind liveOrder noOrder o (b .orders) → enteredOrder o rows b ≡ enterOrder o b
 unfolding enterOrder withLast withOrders
-entered-is o b p = rw p
+entered-order-is o b p = rw p
 
 pub slot-is : (b : State) {a : ℕ} → a ≡ freeOrderSlot b → freeOrderSlot b < 32 → a < 32
 slot-is b e h = rw e h

@@ -1,5 +1,4 @@
 // Leg order: it enters and trades, and if any rests the passes by legs only follow.
-ghost use mathlib.Core.Path.{_≡_};
 ghost use Prim.Native.Nat.{_<_};
 ghost use Rattle.rules.specs.Sizes.{tableRows};
 ghost use Rattle.rules.specs.Events.{freeOrderSlot, onLegOrder};

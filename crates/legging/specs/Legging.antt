@@ -20,7 +20,7 @@ use Rattle.records.specs.Space.{Appended, Room, wrote-first, wrote-next}
 use Rattle.records.specs.Done.{Done, done-of, room-of}
 use Rattle.nets.specs.declared.LegPrices.{LegPrices}
 use Rattle.nets.specs.Nets.{legPrices}
-use Rattle.legging.specs.declared.Legged.{Legged}
+use Rattle.legging.specs.declared.AfterLegs.{AfterLegs}
 
 -- one leg: its records are written, and its quotas taken from the rows
 pub record OneLeg (sp sq : List ℤ) (n m : ℕ) (rows rest os : List LegOrder) (side q price : ℕ) (l : Leg) : Type 0 where
@@ -47,7 +47,7 @@ recordsByLegs e os s =
     partyRecords e s (unitsByLegs e os s) (netOf s ps) ps ++ joinN (orderRecordsAt os (takesAt (e .side) (unitsByLegs e os s) (s .legs) ps)) (s .count)
 
 -- .. such a fill done: the records written, the units and the leg orders handed back
-pub record FilledByLegs (sp sq : List ℤ) (n : ℕ) (t : Legged) (e : Entry) (os : List LegOrder) (s : Strategy) : Type 0 where
+pub record FilledByLegs (sp sq : List ℤ) (n : ℕ) (t : AfterLegs) (e : Entry) (os : List LegOrder) (s : Strategy) : Type 0 where
   pub wrote : Appended sp sq n (t .count) (recordsByLegs e os s)
   pub units : t .units ≡ unitsByLegs e os s
   pub rows : t .rows ≡ ordersByLegs e os s
@@ -96,6 +96,6 @@ by-legs a b = refl
 pub legs-room : (a : ℕ) (b : State) {sp : List ℤ} {n : ℕ} → Room sp n (legFill a b .records) → Room sp n (recordsByLegs (entryAt b a) (b .orders) (strategyOf b (entryAt b a)))
 legs-room a b r = room-of (by-legs a b) r
 
-pub legs-done : (a : ℕ) (b : State) {sp sq : List ℤ} {n : ℕ} {t : Legged} → FilledByLegs sp sq n t (entryAt b a) (b .orders) (strategyOf b (entryAt b a))
+pub legs-done : (a : ℕ) (b : State) {sp sq : List ℤ} {n : ℕ} {t : AfterLegs} → FilledByLegs sp sq n t (entryAt b a) (b .orders) (strategyOf b (entryAt b a))
     → Done sp sq n (t .count) (withOrders (cut b a (t .units)) (t .rows)) (legFill a b)
 legs-done a b f = done-of (by-legs a b) (record { wrote = f .wrote; state = rw (f .units, f .rows) })

@@ -31,7 +31,7 @@ struct Cuts {
 }
 
 // The leg orders left, the units taken, and the next free place for records.
-pub struct Legged {
+pub struct AfterLegs {
     pub rows: [LegOrder; State::LEG_ORDERS],
     pub units: u32,
     pub count: usize,
@@ -145,7 +145,7 @@ pub fn leg_fill(
     s: Strategy,
     space: &mut [i32],
     n: usize,
-) -> Legged
+) -> AfterLegs
     requires { ⌜ All FitOrder os × FitLegs s × (e .units ≤ 9999) ⌝ }
     requires { ⌜ Room (now space) n (recordsByLegs e os s) ⌝ }
     ensures { λ t. ⌜ FilledByLegs (now (space .entry)) (now (space .exit)) n t e os s ⌝ }
@@ -156,7 +156,7 @@ pub fn leg_fill(
     let m = party_records(space, n, e, s, q, p.net, ps);
     let c = all_legs(os, e.side, q, s, ps, space, m);
     let rows = c.rows;
-    Legged {
+    AfterLegs {
         rows: rows,
         units: q,
         count: c.count,

@@ -33,7 +33,7 @@ use Rattle.passes.specs.Passes.{stopsAt, legs-still}
 use Rattle.matching.specs.Searches.{Searched, searched-past, searched-here, searched-all}
 use Rattle.matching.specs.Matching.{passesLegs, legs-not, legs-yes, in-yes, in-not}
 
--- whether strategy t gets passes by legs only, and the first turn of that of its entry e does something
+-- whether strategy t gets passes by legs only, and the pass of its entry e does something
 unfoldable pub actsIn : Entry → Strategy → List LegOrder → ℕ → ℕ → Bool
 actsIn e t os opened s = both (passesLegs t s opened) (not (stopsAt (turnAt e 0 (netReady os (e .side) t))))
 
@@ -249,22 +249,22 @@ module _ (s : ℕ) where
           legs-yes (p / 32) (p % 32) b d ∙ legs-still (p % 32) b (netReady (b .orders) (e .side) (strategyAt b (p / 32))) (rw own refl) (not-false _ idle)
 
 -- THE LOOP: the places before one are visited, and that one acts
-pub record Passing (s : ℕ) (b₀ : State) (sp sq : List ℤ) (n m : ℕ) (b : State) (at : ℕ) : Type 0 where
+pub record PassedTo (s : ℕ) (b₀ : State) (sp sq : List ℤ) (n m : ℕ) (b : State) (at : ℕ) : Type 0 where
   pub visited : Visited (placePass s) 512 b₀ sp sq n m b at
   pub next : at < 512 → actsAt b s at ≡ true
 
 -- the next that acts, after the first i places
 passing-from : {s : ℕ} {b₀ b : State} {sp sq : List ℤ} {n m i at : ℕ} → Visited (placePass s) 512 b₀ sp sq n m b i
-    → at ≡ nextAt b s i → Passing s b₀ sp sq n m b at
+    → at ≡ nextAt b s i → PassedTo s b₀ sp sq n m b at
 passing-from {s} {b = b} {i = i} {at = at} v e = record {
   visited = visit-skips v (next-from b s i e (v .most)) (next-most b s i e) (λ p l h. place-stays s p b (next-skips b s i e p l h));
   next = next-acts b s i e;
 }
 
-pub passing-first : {s : ℕ} {b : State} {at : ℕ} (sp : List ℤ) (n : ℕ) → at ≡ nextAt b s 0 → Passing s b sp sp n n b at
+pub passing-first : {s : ℕ} {b : State} {at : ℕ} (sp : List ℤ) (n : ℕ) → at ≡ nextAt b s 0 → PassedTo s b sp sp n n b at
 passing-first {s} {b} sp n e = passing-from (visit-none (placePass s) 512 b sp n) e
 
-module _ {s : ℕ} {b₀ b : State} {sp sq : List ℤ} {n m at : ℕ} (f : Fit b₀) (v : Passing s b₀ sp sq n m b at) where
+module _ {s : ℕ} {b₀ b : State} {sp sq : List ℤ} {n m at : ℕ} (f : Fit b₀) (v : PassedTo s b₀ sp sq n m b at) where
   -- the ranges in the loop
   pub passing-fit : Fit b
   unfolding placePass
@@ -280,7 +280,7 @@ module _ {s : ℕ} {b₀ b : State} {sp sq : List ℤ} {n m at : ℕ} (f : Fit b
   passing-room h r = visit-room (v .visited) h (place-moves s at b (v .next h)) (room-of (passes-places s f) r)
 
   pub passing-next : at < 512 → {sr : List ℤ} {o x : ℕ} {c : State} → Done sq sr m o c (pass LegsOnly true (at % 32) b)
-      → x ≡ nextAt c s (at + 1) → Passing s b₀ sp sr n o c x
+      → x ≡ nextAt c s (at + 1) → PassedTo s b₀ sp sr n o c x
   passing-next h d e = passing-from (visit-moves (v .visited) h (place-moves s at b (v .next h)) d) e
 
   pub passing-less : at < 512 → {sr : List ℤ} {o x : ℕ} {c : State} → Done sq sr m o c (pass LegsOnly true (at % 32) b) → x ≡ nextAt c s (at + 1) → 512 - x < 512 - at

@@ -60,7 +60,7 @@ fn day_order(k: usize, e: Entry) -> bool
     false
 }
 
-// Whether strategy t gets passes by legs only, and the first turn of that of its entry e does something.
+// Whether strategy t gets passes by legs only, and the pass of its entry e does something.
 fn acts_in(e: Entry, t: Strategy, os: [LegOrder; State::LEG_ORDERS], opened: u32, s: u8) -> bool
     requires { ⌜ All FitOrder os × All Priced os × FitLegs t ⌝ }
     ensures { λ r. ⌜ r ≡ actsIn e t os opened s ⌝ }

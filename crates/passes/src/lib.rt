@@ -8,9 +8,9 @@ ghost use Rattle.rules.specs.Passes.{legsFirst, turnAt, meetLimit, pass};
 ghost use Rattle.records.specs.Space.{Room};
 ghost use Rattle.records.specs.Done.{Done, RoomIn, DoneIn};
 ghost use Rattle.ranges.specs.Fit.{FitLegs, Priced, Fit};
-ghost use Rattle.fills.specs.Gives.{Holds, putEntries};
+ghost use Rattle.fills.specs.Gives.{HasRows, putEntries};
 ghost use Rattle.passes.specs.Passes.{stopsAt, oppositeIn, netIn};
-use fills::Given;
+use fills::AfterFills;
 use fills::cut_entry;
 use fills::give_in_turn;
 use fills::give_shared;
@@ -113,13 +113,13 @@ fn meet_limit(
     level: u32,
     space: &mut [i32],
     n: usize,
-) -> Given
+) -> AfterFills
     requires { ⌜ a < tableRows ⌝ }
-    requires { ⌜ RoomIn (Holds es s a) (meetLimit way a level) (now space) n ⌝ }
-    ensures { λ t. ⌜ DoneIn (Holds es s a) (meetLimit way a level) (now (space .entry)) (now (space .exit)) n (t .count) (putEntries (t .rows)) ⌝ }
+    requires { ⌜ RoomIn (HasRows es s a) (meetLimit way a level) (now space) n ⌝ }
+    ensures { λ t. ⌜ DoneIn (HasRows es s a) (meetLimit way a level) (now (space .entry)) (now (space .exit)) n (t .count) (putEntries (t .rows)) ⌝ }
 {
     match way {
-        Allocation::LegsOnly => Given { rows: es, count: n },
+        Allocation::LegsOnly => AfterFills { rows: es, count: n },
         Allocation::Shared => give_shared(es, s, a, level, space, n),
         Allocation::Numbered => give_in_turn(es, s, a, level, 3, space, n),
     }

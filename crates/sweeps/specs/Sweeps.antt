@@ -1,11 +1,9 @@
 -- The rules of a sweep by what the code tests, and the ranges that they keep.
 use mathlib.Core.Path.{_≡_, ap}
 use mathlib.Core.Bool.{true, false}
-use mathlib.Core.List.{List}
 use Prim.Native.Nat.{ℕ, _≤_, _<_}
 use native.Mathlib.Omega.{arith}
 use borrow.Author.Tests.{eq-eqb}
-use lib.IntN.{ℤ}
 use lib.ListN.{length, List·getD-eq-default}
 use Rattle.base.specs.Pick.{pick-yes, tests}
 use Rattle.base.specs.Walks.{first-holds, clash}
@@ -17,10 +15,7 @@ use Rattle.rules.specs.Fills.{cancelEntry}
 use Rattle.rules.specs.Auctions.{answer}
 use Rattle.rules.specs.Events.{live, enter, sameSweep, sameSweepAt, oldSweep, enterSweep}
 use Rattle.rules.specs.Valid.{FitEntry}
-use Rattle.rules.proofs.Shrinks.{cancel-shrinks}
-use Rattle.records.specs.Done.{Done}
 use Rattle.tables.specs.Only.{onlyEntries}
-use Rattle.ranges.specs.Fit.{Fit, fit-done}
 
 -- an entry that is live is in its ranges
 pub record MayEnter (e : Entry) : Type 0 where
@@ -46,10 +41,6 @@ module _ (e : Entry) (b : State) where
   pub sweep-enters : live e ≡ true → {c d : State} → c ≡ enter e b → d ≡ answer (e .strategy) (e .side) c → still d ≡ enterSweep e b
   unfolding enterSweep
   sweep-enters l p q = rw (q, p) (search tests)
-
--- the ranges after a cancel
-pub fit-cancel : (i : ℕ) (b : State) {c : State} {sp sq : List ℤ} {n m : ℕ} → Fit b → Done sp sq n m c (cancelEntry i b) → Fit c
-fit-cancel i b f d = fit-done d (cancel-shrinks b i) f
 
 -- the cancel at the slot that the code has found
 pub old-is : (e : Entry) (b : State) {i : ℕ} → i ≡ oldSweep (onlyEntries (b .entries)) e → cancelEntry (oldSweep b e) b ≡ cancelEntry i b

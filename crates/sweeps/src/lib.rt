@@ -1,5 +1,4 @@
 // Sweep: the one that it replaces is cancelled first, then it enters and answers the auction.
-ghost use mathlib.Core.Path.{_≡_};
 ghost use Rattle.rules.specs.Events.{onSweep};
 ghost use Rattle.records.specs.Space.{Room};
 ghost use Rattle.records.specs.Done.{Done};

@@ -1,4 +1,4 @@
-use Rattle.cancels.specs.Cancels.{orderHas, orderOf}
+use Rattle.cancels.specs.Cancels.{orderHas, orderSlot}
 use Rattle.tables.specs.Only.{onlyOrders}
 use native.Mathlib.Omega.{arith}
 use borrow.Author.Needs.{needs}
@@ -27,7 +27,7 @@ has-live-requires : tie.Need-has-live-requires Inv-loop μ-loop
 has-live-requires c κs = search needs
 
 returns : tie.Need-returns Inv-loop μ-loop
-unfolding orderOf
+unfolding orderSlot
 returns c = passed-here _ _ 32 (c .before .before .before .before .loop .inv .1) (c .before .before .before .loop-test .taken) (told (c .before .has-live .ensures) (c .if1 .taken))
 
 add-i : tie.Need-add-i Inv-loop μ-loop
@@ -40,7 +40,7 @@ loop-again : tie.Need-loop-again Inv-loop μ-loop
 loop-again c = (omega arith, passed-next _ _ (c .before .before .before .before .loop .inv .1) (told (c .before .has-live .ensures) (c .if1 .left)))
 
 returns-2 : tie.Need-returns-2 Inv-loop μ-loop
-unfolding orderOf
+unfolding orderSlot
 returns-2 c = passed-all _ (c .before .loop .i) 32 (c .before .loop .inv .1) (omega arith)
 
 pub order-of-spec : {M : Type 1} → statement M

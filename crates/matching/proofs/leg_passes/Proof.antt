@@ -1,4 +1,4 @@
-use Rattle.matching.specs.Places.{Passing, passing-first, passing-fit, passing-fits, passing-room, passing-next, passing-less, passing-all}
+use Rattle.matching.specs.Places.{PassedTo, passing-first, passing-fit, passing-fits, passing-room, passing-next, passing-less, passing-all}
 use Rattle.records.specs.Done.{done-length}
 use Prim.Native.Nat.{_-_}
 use native.Mathlib.Omega.{arith}
@@ -6,7 +6,7 @@ use Rattle.matching.proofs.leg_passes.Statement.{statement}
 use Rattle.matching.proofs.leg_passes.Tie as tie
 
 abbrev Inv-loop : tie.InvT-loop
-Inv-loop s from space₀ n c₀ m₀ at₀ space c m at = Passing s c₀ space₀ space n m c at
+Inv-loop s from space₀ n c₀ m₀ at₀ space c m at = PassedTo s c₀ space₀ space n m c at
 
 abbrev μ-loop : tie.MeasureT-loop
 μ-loop s from space₀ n c₀ m₀ at₀ space c m at = 512 - at

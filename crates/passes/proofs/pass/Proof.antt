@@ -8,7 +8,7 @@ use Rattle.rules.specs.Fills.{cut}
 use Rattle.rules.specs.Passes.{pass, turn, turnOf}
 use Rattle.records.specs.Done.{Visited, visit-none, visit-moves, visit-room, visit-all, done-length}
 use Rattle.ranges.specs.Fit.{Fit, fit-entry, fit-legs}
-use Rattle.fills.specs.Gives.{Holds}
+use Rattle.fills.specs.Gives.{HasRows}
 use Rattle.legging.specs.Legging.{legs-room, legs-done}
 use Rattle.passes.specs.Passes.{fit-turns, turn-in, turn-stops, turn-legs, turn-limit}
 use Rattle.passes.proofs.pass.Statement.{statement}
@@ -25,7 +25,7 @@ fits : (l : tie.At-loop Inv-loop μ-loop) → Fit (l .loop .c)
 fits l = fit-turns _ _ _ _ _ (l .before .before .pre .0 .1) (l .loop .inv .done)
 
 -- .. which is one with the entries and the strategy that the code has read
-held : (l : tie.At-loop Inv-loop μ-loop) → Holds (l .loop .c .entries) (strategyOf (l .loop .c) (entryAt (l .loop .c) (l .before .before .args .a))) (l .before .before .args .a) (l .loop .c)
+held : (l : tie.At-loop Inv-loop μ-loop) → HasRows (l .loop .c .entries) (strategyOf (l .loop .c) (entryAt (l .loop .c) (l .before .before .args .a))) (l .before .before .args .a) (l .loop .c)
 held l = record { fit = fits l; entries = refl; strategy = refl }
 
 -- the loop that a turn is found in
