@@ -171,19 +171,23 @@ pub fn on_order(e: Entry, b: State, space: &mut [i32], n: usize) -> After
     let s = c.strategies[k];
     let os = c.orders;
     let a = arrives(e, s, c.opened, rows, os);
+    let mut m = n;
     match a {
-        Arrival::Rests => After { state: c, count: n },
+        Arrival::Rests => {}
         Arrival::Cancelled => {
             let r = cancel_record(e);
-            let m = push(space, n, r);
+            m = push(space, n, r);
             c.entries[i] = cut_entry(e, e.units);
-            After { state: c, count: m }
         }
         Arrival::Answers => {
             c.strategies[k] = with_auction(s, s.starter, s.begun, true);
-            After { state: c, count: n }
         }
-        Arrival::Starts => begin(c, i, space, n),
-        Arrival::Passes => trades(c, i, space, n),
+        Arrival::Starts => {
+            return begin(c, i, space, n);
+        }
+        Arrival::Passes => {
+            return trades(c, i, space, n);
+        }
     }
+    After { state: c, count: m }
 }

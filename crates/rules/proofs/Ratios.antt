@@ -1,4 +1,4 @@
--- The ratio of a series in the strategy that a definition gives is that of the definition, in lowest terms.
+-- A sum over the legs of the strategy that a definition gives is that over the legs of the definition, in lowest terms; so is the ratio of a series.
 use mathlib.Core.Path.{_≡_, refl, sym, _∙_, ap}
 use mathlib.Core.Bool.{Bool, true, false}
 use mathlib.Core.Logic.{⊎-elim}
@@ -9,7 +9,7 @@ use borrow.Author.Tests.{eqb-true, eq-eqb, ltb-true, ltb-false, lt-ltb}
 use lib.Dec.{eqb, ltb}
 use lib.ListN.{length, getD, take, replicate}
 use Rattle.base.specs.Pick.{pick, pick-by, pick-true, pick-false, pick-yes}
-use Rattle.base.specs.Walks.{sumN, firstN, all-holds, first-holds, first-is, any-holds, any-where, sum-zero, sum-same, sum-rest, below, clash}
+use Rattle.base.specs.Walks.{sumN, firstN, all-holds, first-holds, first-is, any-holds, any-where, sum-zero, sum-same, sum-rest, sum-first, sum-swap, below, clash}
 use Rattle.base.specs.All.{all-at, all-replicate}
 use Rattle.events.specs.declared.Strategy.{Strategy as GivenStrategy}
 use Rattle.rules.specs.declared.Leg.{Leg}
@@ -50,28 +50,27 @@ module _ (f : ℕ → Bool) (r : ℕ → ℕ) (k : ℕ) (once : (i j : ℕ) → 
       sum-only (λ (i : ℕ). pick (f i) (r i) 0) k (firstN f k) p (λ j l z. pick-false _ _ _ (hit j l z)) ∙ pick-true _ _ _ (first-holds f k p))
       (λ t. sum-zero _ k (λ i l. pick-false _ _ _ (hit i l (λ (z : i ≡ firstN f k). omega (arith, ltb-false (firstN f k) k t)))))
 
--- the term at one number
-sum-diag : (g : ℕ → ℕ) (s k : ℕ) → sumN (λ (i : ℕ). ifSame i s (g i)) k ≡ pick (ltb s k) (g s) 0
-sum-diag g s k =
-    pick-by (λ (x : ℕ). sumN (λ (i : ℕ). ifSame i s (g i)) k ≡ x) (ltb s k)
-    (λ t. sum-only (λ (i : ℕ). ifSame i s (g i)) k s (ltb-true s k t) (λ j l z. when-no j s (g j) z) ∙ pick-true _ _ _ (eq-eqb s s refl))
-    (λ t. sum-zero _ k (λ i l. when-no i s (g i) (λ (z : i ≡ s). omega (arith, ltb-false s k t))))
+-- the sum over the rows of a list
+sum-rows : {A : Type 0} (w : A → ℕ) (d : A) (l : List A) → sumN (λ (i : ℕ). w (getD l i d)) (length l) ≡ tally w l
+unfolding tally sumN
+sum-rows w d [] = refl
+sum-rows w d (x ∷ xs) = omega (arith, sum-first (λ (i : ℕ). w (getD (x ∷ xs) i d)) (length xs), sum-rows w d xs)
 
--- THE RATIO OF A SERIES in a strategy's legs
-abbrev share : ℕ → Leg → ℕ
-share s l = ifSame (l .series) s (l .ratio)
-
-module _ (legs : List Leg) (count : ℕ) (def : Definition legs count) (s : ℕ) where
+-- A SUM OVER THE LEGS of a definition is that over the legs of its strategy, whatever each counts
+module _ (legs : List Leg) (count : ℕ) (def : Definition legs count) where
   abbrev low : List Leg
   low = lowest legs count def
 
   abbrev place : ℕ → ℕ
   place x = placeOf legs count x
 
+  abbrev divided : ℕ → Leg
+  divided i = dividedAt legs (divisor legs count) i
+
   -- no series is twice
-  pub once : (i j : ℕ) → i < j → j < count → inSeries legs s j ≡ true → inSeries legs s i ≡ false
+  pub once : (s i j : ℕ) → i < j → j < count → inSeries legs s j ≡ true → inSeries legs s i ≡ false
   unfolding twice
-  once i j h l e = go (inSeries legs s i) refl
+  once s i j h l e = go (inSeries legs s i) refl
     where
       go : (t : Bool) → inSeries legs s i ≡ t → inSeries legs s i ≡ false
       go false q = q
@@ -81,65 +80,49 @@ module _ (legs : List Leg) (count : ℕ) (def : Definition legs count) (s : ℕ)
           let r : repeats legs j ≡ true = lt-ltb _ _ (any-where f j (any-holds f j i h (eq-eqb _ _ same))) in
           absurd (clash (any-holds (repeats legs) count j l r) (def .once))
 
-  -- in the definition: that of the leg at its place
-  given-ratio : sumN (ratioGivenAt legs (divisor legs count) s) count ≡ pick (ltb (place s) count) (ratioOf legs (place s) / divisor legs count) 0
-  unfolding placeOf
-  given-ratio = sum-hit (inSeries legs s) (λ (i : ℕ). ratioOf legs i / divisor legs count) count once
+  module _ (w : Leg → ℕ) where
+    -- in one series: that of the leg at its place, which is the only one there
+    one-series : (x : ℕ) → tally w (legsOf low count x) ≡ sumN (λ (i : ℕ). pick (inSeries legs x i) (w (divided i)) 0) count
+    unfolding tally placeOf
+    one-series x =
+        rw (place-same legs count def x)
+        (pick-by (λ (ls : List Leg). tally w ls ≡ pick (ltb (place x) count) (w (divided (place x))) 0) (ltb (place x) count)
+        (λ t. let h : place x < count = ltb-true _ _ t in omega (arith, ap w (lowest-at legs count def (place x) h), pick-true (ltb (place x) count) (w (divided (place x))) 0 t))
+        (λ t. sym (pick-false _ _ _ t))
+        ∙ sym (sum-hit (inSeries legs x) (λ (i : ℕ). w (divided i)) count (once x)))
 
-  -- in the strategy: the legs of each series in turn
-  place-low : (x : ℕ) → placeOf low count x ≡ place x
-  place-low x = place-same legs count def x
+    -- each leg stands in one of the 32 series
+    one-leg : (i : ℕ) → i < count → sumN (λ (x : ℕ). pick (inSeries legs x i) (w (divided i)) 0) 32 ≡ w (divided i)
+    one-leg i l =
+        sum-only (λ (x : ℕ). pick (inSeries legs x i) (w (divided i)) 0) 32 (seriesOf legs i) (def .series i l) (λ x m n. when-no (seriesOf legs i) x (w (divided i)) (λ z. n (sym z)))
+        ∙ pick-true (inSeries legs (seriesOf legs i) i) (w (divided i)) 0 (eq-eqb (seriesOf legs i) (seriesOf legs i) refl)
 
-  low-series : (x : ℕ) → place x < count → getD low (place x) noLeg ≡ dividedAt legs (divisor legs count) (place x)
-  low-series x h = lowest-at legs count def (place x) h
+    rows-sum : tally w (rows legs count def) ≡ sumN (λ (i : ℕ). w (divided i)) count
+    unfolding bySeries
+    rows-sum =
+        tally-join w (legsOf low count) 32
+        ∙ sum-same _ (λ (x : ℕ). sumN (λ (i : ℕ). pick (inSeries legs x i) (w (divided i)) 0) count) 32 (λ x l. one-series x)
+        ∙ sum-swap (λ (x i : ℕ). pick (inSeries legs x i) (w (divided i)) 0) 32 count
+        ∙ sum-same _ (λ (i : ℕ). w (divided i)) count (λ i l. one-leg i l)
 
-  in-place : (x : ℕ) → place x < count → seriesOf legs (place x) ≡ x
-  unfolding placeOf
-  in-place x h = eqb-true _ _ (first-holds (inSeries legs x) count h)
+    pub legs-sum : sumN (λ (i : ℕ). w (legAt (defined legs count) i)) (defined legs count .count) ≡ sumN (λ (i : ℕ). w (divided i)) count
+    unfolding defined
+    legs-sum =
+        let n : length (rows legs count def) ≡ defined legs count .count = length-is legs count def in
+        sum-same (λ (i : ℕ). w (legAt (defined legs count) i)) (λ (i : ℕ). w (getD (rows legs count def) i noLeg)) (defined legs count .count)
+        (λ i l. ap w (padded-at legs count def i (omega arith)))
+        ∙ ap (sumN (λ (i : ℕ). w (getD (rows legs count def) i noLeg))) (sym n)
+        ∙ sum-rows w noLeg (rows legs count def)
+        ∙ rows-sum
 
-  one-series : (x : ℕ) → tally (share s) (legsOf low count x) ≡ ifSame x s (pick (ltb (place x) count) (ratioOf legs (place x) / divisor legs count) 0)
-  unfolding tally
-  one-series x =
-      rw (place-low x)
-      (pick-by (λ (ls : List Leg). tally (share s) ls ≡ ifSame x s (pick (ltb (place x) count) (ratioOf legs (place x) / divisor legs count) 0)) (ltb (place x) count)
-      (λ t.
-      let h : place x < count = ltb-true _ _ t in
-      let p : share s (getD low (place x) noLeg) ≡ ifSame x s (ratioOf legs (place x) / divisor legs count) =
-      ap (share s) (low-series x h) ∙ ap (λ (y : ℕ). ifSame y s (ratioOf legs (place x) / divisor legs count)) (in-place x h) in
-      omega (arith, p, ap (λ (y : ℕ). ifSame x s y) (pick-true (ltb (place x) count) (ratioOf legs (place x) / divisor legs count) 0 t)))
-      (λ t. sym (ap (λ (y : ℕ). ifSame x s y) (pick-false (ltb (place x) count) (ratioOf legs (place x) / divisor legs count) 0 t) ∙ pick-none (eqb x s))))
-
-  -- a series of a leg is one of the 32
-  small : pick (ltb s 32) (pick (ltb (place s) count) (ratioOf legs (place s) / divisor legs count) 0) 0 ≡ pick (ltb (place s) count) (ratioOf legs (place s) / divisor legs count) 0
-  small =
-      pick-by (λ (x : ℕ). pick (ltb s 32) x 0 ≡ x) (ltb (place s) count)
-      (λ t.
-      let h : place s < count = ltb-true _ _ t in
-      pick-true _ _ _ (lt-ltb s 32 (let k : seriesOf legs (place s) < 32 = def .series (place s) h in omega (arith, in-place s h))))
-      (λ t. pick-none (ltb s 32))
-
-  rows-ratio : tally (share s) (rows legs count def) ≡ sumN (ratioGivenAt legs (divisor legs count) s) count
-  unfolding bySeries
-  rows-ratio =
-      tally-join (share s) (legsOf low count) 32
-      ∙ sum-same _ (λ (x : ℕ). ifSame x s (pick (ltb (place x) count) (ratioOf legs (place x) / divisor legs count) 0)) 32 (λ x l. one-series x)
-      ∙ sum-diag (λ (x : ℕ). pick (ltb (place x) count) (ratioOf legs (place x) / divisor legs count) 0) s 32
-      ∙ small
-      ∙ sym given-ratio
-
-  pub defined-ratio : ratioFor (defined legs count) s ≡ sumN (ratioGivenAt legs (divisor legs count) s) count
-  unfolding ratioFor defined
-  defined-ratio =
-      let n : length (rows legs count def) ≡ defined legs count .count = length-is legs count def in
-      sum-same (ratioAt (defined legs count) s) (λ (i : ℕ). share s (getD (rows legs count def) i noLeg)) (defined legs count .count)
-      (λ i l. ap (share s) (padded-at legs count def i (omega arith)))
-      ∙ sum-tally (share s) noLeg (pick-none (eqb 0 s)) (rows legs count def) (defined legs count .count) (omega arith)
-      ∙ rows-ratio
+-- the ratio of a series
+abbrev share : ℕ → Leg → ℕ
+share s l = ifSame (l .series) s (l .ratio)
 
 -- "The ratio is that of the accepted kind 1 event that answered its strategy"
 pub given-ratios : (e : GivenStrategy) → Definition (legsGiven e) (e .count) → (s : ℕ) → ratioFor (strategyGiven e) s ≡ ratioIn e s
-unfolding strategyGiven ratioIn
-given-ratios e d s = defined-ratio (legsGiven e) (e .count) d s
+unfolding strategyGiven ratioIn ratioFor
+given-ratios e d s = legs-sum (legsGiven e) (e .count) d (share s)
 
 -- LEGS PAST THE COUNT are empty
 pub record Padded (st : Strategy) : Type 0 where

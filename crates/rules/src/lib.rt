@@ -13,10 +13,10 @@ pub struct Leg {
 pub struct Strategy {
     pub legs: [Leg; 6],
     pub count: u8,
+    pub answered: bool,
     pub series: u32,
     pub starter: u32,
     pub begun: u32,
-    pub answered: bool,
 }
 
 // A complex order, or a sweep (life 4). An entry of 0 units is empty. Its level is the limit in cents and 10,000,000 more.

@@ -22,19 +22,33 @@ use turns::ROOM;
 use turns::record_space;
 use turns::tell;
 
-// Reads until the first frame of the rest is whole or no more comes.
+// Reads on until the first frame of the rest is whole or no more comes, where the rest has its length.
+fn fill_on(block: &mut [u8], r: Rest) -> Rest
+    requires { ⌜ Lies r (now block) ⌝ }
+    ensures { λ q. ⌜ More (now (block .entry)) (now (block .exit)) r q ⌝ }
+{
+    let at = r.at;
+    let end = r.end;
+    let need = needed(&block[at..end]);
+    if need <= end - at {
+        return r;
+    }
+    fill(block, r, need)
+}
+
+// Reads until the first frame of the rest is whole or no more comes. Mostly it is there already.
 fn fill_frame(block: &mut [u8], r: Rest) -> Rest
     requires { ⌜ Lies r (now block) ⌝ }
     ensures { λ q. ⌜ More (now (block .entry)) (now (block .exit)) r q ⌝ }
 {
+    if 2 <= r.end - r.at {
+        return fill_on(block, r);
+    }
     let q = fill(block, r, 2);
-    let at = q.at;
-    let end = q.end;
-    if end - at < 2 {
+    if q.end - q.at < 2 {
         return q;
     }
-    let need = needed(&block[at..end]);
-    fill(block, q, need)
+    fill_on(block, q)
 }
 
 // The line of a last frame that is cut short, or whose length is under 4.

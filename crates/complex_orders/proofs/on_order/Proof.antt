@@ -1,12 +1,12 @@
-use Rattle.complex_orders.specs.ComplexOrders.{does, order-is, slot-within, cancels-room, cancels-done, answers-is}
-use Rattle.complex_orders.specs.declared.Arrival.{Arrival}
-use Rattle.records.specs.Done.{done-of, done-still, room-of}
-use Rattle.records.specs.Space.{wrote-length}
-use Rattle.entries.specs.Entered.{entered, entered-is, fit-enter}
-use Rattle.ranges.specs.Fit.{fit-legs}
-use Rattle.rules.specs.Events.{onOrder}
-use mathlib.Core.Path.{_≡_, sym, _∙_}
 use native.Mathlib.Omega.{arith}
+use mathlib.Core.Path.{_≡_, sym, _∙_}
+use Rattle.rules.specs.Events.{onOrder}
+use Rattle.ranges.specs.Fit.{fit-legs}
+use Rattle.entries.specs.Entered.{entered, entered-is, fit-enter}
+use Rattle.records.specs.Space.{wrote-length}
+use Rattle.records.specs.Done.{done-of, done-still, room-of}
+use Rattle.complex_orders.specs.declared.Arrival.{Arrival}
+use Rattle.complex_orders.specs.ComplexOrders.{does, order-is, slot-within, cancels-room, cancels-done, answers-is}
 use borrow.Author.Needs.{needs}
 use Rattle.complex_orders.proofs.on_order.Statement.{statement}
 use Rattle.complex_orders.proofs.on_order.Tie as tie
@@ -47,8 +47,8 @@ push-requires c κs = cancels-room _ _ (c .before .before .before .before .befor
 cut-entry-requires : tie.Need-cut-entry-requires
 cut-entry-requires c κs = search needs
 
-mul-t26 : tie.Need-mul-t26
-mul-t26 c = let k = slot-within _ _ (c .before .before .before .before .before .before .before .before .before .before .before .before .insert .ensures .0) (c .before .before .before .before .before .before .before .before .before .before .before .before .insert .ensures .1) (c .before .before .before .before .before .before .before .before .before .before .before .before .before .before .pre .0 .0) in omega arith
+mul-t24 : tie.Need-mul-t24
+mul-t24 c = let k = slot-within _ _ (c .before .before .before .before .before .before .before .before .before .before .before .before .insert .ensures .0) (c .before .before .before .before .before .before .before .before .before .before .before .before .insert .ensures .1) (c .before .before .before .before .before .before .before .before .before .before .before .before .before .before .pre .0 .0) in omega arith
 
 element-set-from-c : tie.Need-element-set-from-c
 element-set-from-c c = slot-within _ _ (c .before .before .before .before .before .before .before .before .before .before .before .before .insert .ensures .0) (c .before .before .before .before .before .before .before .before .before .before .before .before .insert .ensures .1) (c .before .before .before .before .before .before .before .before .before .before .before .before .before .before .pre .0 .0)
@@ -59,8 +59,8 @@ enum-told-3 c = search needs
 with-auction-requires : tie.Need-with-auction-requires
 with-auction-requires c κs = search needs
 
-mul-t31 : tie.Need-mul-t31
-mul-t31 c = search needs
+mul-t28 : tie.Need-mul-t28
+mul-t28 c = search needs
 
 element-set-from-c-2 : tie.Need-element-set-from-c-2
 element-set-from-c-2 c = c .before .before .before .before .before .before .before .before .before .before .pre .0 .1 .strategy
@@ -72,6 +72,13 @@ begin-requires : tie.Need-begin-requires
 unfolding does
 begin-requires c κs = ((slot-within _ _ (c .before .before .before .before .before .before .before .before .insert .ensures .0) (c .before .before .before .before .before .before .before .before .insert .ensures .1) (c .before .before .before .before .before .before .before .before .before .before .pre .0 .0), fit-enter _ _ (entered-is _ _ (c .before .before .before .before .before .before .before .before .insert .ensures .0)) (c .before .before .before .before .before .before .before .before .before .before .pre .0 .1) (c .before .before .before .before .before .before .before .before .before .before .pre .0 .3)), room-of (arrived (c .before .before .before) (c .before .enum-told4 .given .1)) (c .before .before .before .before .before .before .before .before .before .before .pre .1))
 
+same-length : tie.Need-same-length
+same-length c = search needs
+
+returns : tie.Need-returns
+unfolding does
+returns c = done-of (arrived (c .before .before .before .before .before) (c .before .before .before .enum-told4 .given .1)) (c .before .begin .ensures)
+
 enum-told-5 : tie.Need-enum-told-5
 enum-told-5 c = search needs
 
@@ -79,33 +86,26 @@ trades-requires : tie.Need-trades-requires
 unfolding does
 trades-requires c κs = ((slot-within _ _ (c .before .before .before .before .before .before .before .before .insert .ensures .0) (c .before .before .before .before .before .before .before .before .insert .ensures .1) (c .before .before .before .before .before .before .before .before .before .before .pre .0 .0), fit-enter _ _ (entered-is _ _ (c .before .before .before .before .before .before .before .before .insert .ensures .0)) (c .before .before .before .before .before .before .before .before .before .before .pre .0 .1) (c .before .before .before .before .before .before .before .before .before .before .pre .0 .3)), room-of (arrived (c .before .before .before) (c .before .enum-told5 .given .1)) (c .before .before .before .before .before .before .before .before .before .before .pre .1))
 
-returns : tie.Need-returns
-unfolding does
-returns c = done-of (arrived (c .before .before) (c .enum-told .given .1)) (done-still _ _ _)
-
-same-length : tie.Need-same-length
-same-length c = wrote-length (c .before .before .push .ensures)
-
-returns-2 : tie.Need-returns-2
-unfolding does
-returns-2 c = done-of (arrived (c .before .before .before .before .before .before .before) (c .before .before .before .before .before .enum-told2 .given .1)) (cancels-done _ _ (c .before .before .before .before .before .before .before .before .before .before .before .before .insert .ensures .0) (c .before .before .before .before .before .before .before .before .before .before .before .before .insert .ensures .1) (c .before .before .before .before .before .before .before .before .before .before .before .before .before .before .pre .0 .0) (c .before .before .before .before .before .before .before .before .before .before .before .before .before .before .pre .0 .2) (c .before .before .before .before .cancel-record .ensures) (c .cut-entry .ensures) (c .before .before .push .ensures))
-
-returns-3 : tie.Need-returns-3
-returns-3 c = done-of (arrived (c .before .before .before) (c .before .enum-told3 .given .1) ∙ answers-is _ _ (c .before .before .before .before .before .before .before .before .insert .ensures .0) (c .before .before .before .before .before .before .before .before .insert .ensures .1) (c .before .before .before .before .before .before .before .before .before .before .pre .0 .0) (c .with-auction .ensures)) (done-still _ _ _)
-
 same-length-2 : tie.Need-same-length-2
 same-length-2 c = search needs
 
-returns-4 : tie.Need-returns-4
+returns-2 : tie.Need-returns-2
 unfolding does
-returns-4 c = done-of (arrived (c .before .before .before .before .before) (c .before .before .before .enum-told4 .given .1)) (c .before .begin .ensures)
+returns-2 c = done-of (arrived (c .before .before .before .before .before) (c .before .before .before .enum-told5 .given .1)) (c .before .trades .ensures)
+
+returns-3 : tie.Need-returns-3
+unfolding does
+returns-3 c = done-of (arrived (c .before .before) (c .enum-told .given .1)) (done-still _ _ _)
 
 same-length-3 : tie.Need-same-length-3
 same-length-3 c = search needs
 
-returns-5 : tie.Need-returns-5
+returns-4 : tie.Need-returns-4
 unfolding does
-returns-5 c = done-of (arrived (c .before .before .before .before .before) (c .before .before .before .enum-told5 .given .1)) (c .before .trades .ensures)
+returns-4 c = done-of (arrived (c .before .before .before .before .before .before .before) (c .before .before .before .before .before .enum-told2 .given .1)) (cancels-done _ _ (c .before .before .before .before .before .before .before .before .before .before .before .before .insert .ensures .0) (c .before .before .before .before .before .before .before .before .before .before .before .before .insert .ensures .1) (c .before .before .before .before .before .before .before .before .before .before .before .before .before .before .pre .0 .0) (c .before .before .before .before .before .before .before .before .before .before .before .before .before .before .pre .0 .2) (c .before .before .before .before .cancel-record .ensures) (c .cut-entry .ensures) (c .before .before .push .ensures))
+
+returns-5 : tie.Need-returns-5
+returns-5 c = done-of (arrived (c .before .before .before) (c .before .enum-told3 .given .1) ∙ answers-is _ _ (c .before .before .before .before .before .before .before .before .insert .ensures .0) (c .before .before .before .before .before .before .before .before .insert .ensures .1) (c .before .before .before .before .before .before .before .before .before .before .pre .0 .0) (c .with-auction .ensures)) (done-still _ _ _)
 
 pub on-order-spec : {M : Type 1} → statement M
 on-order-spec =
@@ -121,21 +121,21 @@ on-order-spec =
     cancel-record-requires
     push-requires
     cut-entry-requires
-    mul-t26
+    mul-t24
     element-set-from-c
     enum-told-3
     with-auction-requires
-    mul-t31
+    mul-t28
     element-set-from-c-2
     enum-told-4
     begin-requires
+    same-length
+    returns
     enum-told-5
     trades-requires
-    returns
-    same-length
+    same-length-2
     returns-2
     returns-3
-    same-length-2
-    returns-4
     same-length-3
+    returns-4
     returns-5)
