@@ -51,6 +51,8 @@ auctioned b k s = record {
   clock = b .clock;
   timer = b .timer;
   last = b .last;
+  national = b .national;
+  range = b .range;
 }
 
 -- its auction changed in place

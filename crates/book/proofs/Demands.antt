@@ -76,7 +76,7 @@ module _ (b : State) (frame : List ℕ) (s t : List ℤ) (x : Taken) (w : Steppe
         refused = λ n g.
             let h = some-given n g in
             let still-is = left-alone (refused-still b frame (length s) (h .1)) in
-            (subst (λ (m : ℕ). applies (tableOf b (readOf frame) (length s)) m ≡ true) (h .0) (exact .some (h .1)), λ m l. exact .smallest m (rw (h .0) l), still-is .0, still-is .1);
+            (subst (λ (m : ℕ). applies (tableOf b (readOf frame) (length s)) m ≡ true) (h .0) (exact .some (h .1)), λ m l. exact .first m (rw (h .0) l), still-is .0, still-is .1);
       }
 
   -- DEMAND 2

@@ -15,7 +15,7 @@ use Rattle.frames.specs.declared.Written.the-variants as W
 use Rattle.rules.specs.declared.State.{State}
 use Rattle.rules.specs.declared.Answer.{Answer}
 use Rattle.rules.specs.declared.Answer.the-variants as A
-use Rattle.rules.specs.Refusals.{applies, tableOf}
+use Rattle.rules.specs.Refusals.{rank, applies, tableOf}
 use Rattle.rules.specs.Step.{step, answerOf, answerNumber, answerValue, answerCount}
 use Rattle.rules.specs.Records.{Line, numbersOf}
 use Rattle.rules.specs.Totals.{Logged, OneDay, Totals}
@@ -71,13 +71,13 @@ seen c = record {
   lines = linesIn (answerCount (c .answer)) (c .left);
 }
 
--- DEMAND 1, of a call with book b: accepted, and no cause of the table applies; or the smallest refusal that applies, and then neither the
--- book nor the space is changed.
+-- DEMAND 1, of a call with book b: accepted, and no cause of the table applies; or the first refusal that applies in the order in which they are
+-- checked, and then neither the book nor the space is changed.
 pub record Answers (b : State) (frame : List ℕ) (s t : List ℤ) (x : Taken) : Type 0 where
   pub accepted : (value count : ℕ) → x .answer ≡ A.Accepted value count → (n : ℕ) → applies (tableOf b (readOf frame) (length s)) n ≡ false
   pub refused : (n : ℕ) → x .answer ≡ A.Refused n →
       (applies (tableOf b (readOf frame) (length s)) n ≡ true)
-      × ((m : ℕ) → m < n → applies (tableOf b (readOf frame) (length s)) m ≡ false)
+      × ((m : ℕ) → rank m < rank n → applies (tableOf b (readOf frame) (length s)) m ≡ false)
       × (x .book .state ≡ b)
       × (t ≡ s)
 
@@ -90,7 +90,7 @@ pub record Exact (b : State) (frame : List ℕ) (s t : List ℤ) (x : Taken) : T
   pub written-read : (e : Event) (sp : List ℕ) (n : ℕ) → writtenOf e (length sp) ≡ W.Length n → readOf (take n (spaceOf e sp)) ≡ R.Event e
   pub read-written : (f : List ℕ) → Bytes f → (e : Event) → readOf f ≡ R.Event e → (sp : List ℕ) → length f ≤ length sp → Wrote e sp (f ++ drop (length f) sp) (W.Length (length f))
 
--- DEMAND 3, of a list of calls: the totals of document 01 hold of what the caller saw, with nothing after an accepted day end; and what he saw
+-- DEMAND 3, of a list of calls: the totals, and the claims of the requests, hold of what the caller saw, with nothing after an accepted day end; and what he saw
 -- is every number that his spaces hold of the records.
 pub record TotalsHold (cs : List Call) (end : Book) : Type 0 where
   pub whole : All ReadWhole cs

@@ -19,14 +19,18 @@ use Rattle.events.specs.declared.Clock.{Clock as GivenClock}
 use Rattle.events.specs.declared.Series.{Series as GivenSeries}
 use Rattle.events.specs.declared.DayEnd.{DayEnd as GivenDayEnd}
 use Rattle.events.specs.declared.LegOrder.{LegOrder as GivenLegOrder}
+use Rattle.events.specs.declared.National.{National as GivenNational}
+use Rattle.events.specs.declared.Range.{Range as GivenRange}
 use Rattle.rules.specs.declared.Strategy.{Strategy}
 use Rattle.rules.specs.declared.Entry.{Entry}
 use Rattle.rules.specs.declared.LegOrder.{LegOrder}
+use Rattle.rules.specs.declared.Quote.{Quote}
 use Rattle.rules.specs.declared.State.{State}
 use Rattle.rules.specs.Moves.{still}
 use Rattle.rules.specs.Strategies.{sameAt, held, numberOf, added, define}
 use Rattle.rules.specs.Events.{freeSlot, freeOrderSlot, onOrder, onSweep, onLegOrder, cancelNumber, onSeries, onClock, onDayEnd}
-use Rattle.rules.specs.Given.{strategyGiven, orderGiven, sweepGiven, legOrderGiven}
+use Rattle.rules.specs.National.{onNational, onRange}
+use Rattle.rules.specs.Given.{strategyGiven, orderGiven, sweepGiven, legOrderGiven, quoteGiven}
 use Rattle.rules.specs.Refusals.{firstCause, causes, illFormed, strategiesFull}
 use Rattle.rules.specs.Step.{valueOf, accept}
 use Rattle.rules.specs.Fits.{FitOrderGiven, FitSweepGiven, FitLegOrderGiven}
@@ -128,7 +132,23 @@ module _ (b : State) where
   unfolding valueOf
   day-end-value e = refl
 
--- a series and a day's end are never refused
+  pub national-accepts : (e : GivenNational) {q : Quote} {c : State} → q ≡ quoteGiven e → c ≡ onNational (e .series) q b → accept b (E.National e) ≡ still c
+  unfolding accept
+  national-accepts e g h = rw (h, g)
+
+  pub national-value : (e : GivenNational) → 0 ≡ valueOf b (E.National e)
+  unfolding valueOf
+  national-value e = refl
+
+  pub range-accepts : (e : GivenRange) {c : State} → c ≡ onRange (e .range) b → accept b (E.Range e) ≡ still c
+  unfolding accept
+  range-accepts e h = rw h
+
+  pub range-value : (e : GivenRange) → 0 ≡ valueOf b (E.Range e)
+  unfolding valueOf
+  range-value e = refl
+
+-- a series, a day's end and an execution range are never refused
 pub series-none : (b : State) (e : GivenSeries) → 0 ≡ firstCause (causes b (E.Series e))
 unfolding causes firstCause
 series-none b e = refl
@@ -136,6 +156,10 @@ series-none b e = refl
 pub day-end-none : (b : State) (e : GivenDayEnd) → 0 ≡ firstCause (causes b (E.DayEnd e))
 unfolding causes firstCause
 day-end-none b e = refl
+
+pub range-none : (b : State) (e : GivenRange) → 0 ≡ firstCause (causes b (E.Range e))
+unfolding causes firstCause
+range-none b e = refl
 
 -- a strategy's number
 pub number-most : (b : State) (t : Strategy) {k : ℕ} → k ≡ numberOf b t → b .defined ≤ 16 → k < 4294967296

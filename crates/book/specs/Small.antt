@@ -162,6 +162,8 @@ starts b (E.Cancel e) v f c = ranged-sound (v .sound)
 starts b (E.Series e) v f c = λ x. ranged-opened b x refl (ranged-sound (v .sound))
 starts b (E.Clock e) v f c = ranged-sound (sound-clock b (e .time) (v .sound) f)
 starts b (E.DayEnd e) v f c = ranged-sound (v .sound)
+starts b (E.National e) v f c = tt
+starts b (E.Range e) v f c = tt
 
 pub accept-small : (b : State) (e : Event) → Valid b → FitEvent e → firstCause (causes b e) ≡ 0 → All Small (accept b e .records)
 accept-small b e v f c = accept-told small-kept b e (starts b e v f c)

@@ -10,7 +10,7 @@ ghost use Rattle.base.specs.Pick.{pick};
 ghost use lib.Dec.{eqb};
 ghost use lib.ListN.{length};
 ghost use Prim.Native.Nat.{_≤_, _<_};
-ghost use Rattle.rules.specs.Sizes.{strategySlots, orderSlots, sweepSlots, legOrderSlots, recordSpace};
+ghost use Rattle.rules.specs.Sizes.{strategySlots, orderSlots, sweepSlots, legOrderSlots, seriesCount, recordSpace};
 ghost use Rattle.book.specs.Books.{First, Took, Stepped};
 ghost use Rattle.book.specs.Outcomes.{refuse, admit};
 use cancels::cancel_number;
@@ -23,12 +23,16 @@ use frames::read;
 use given::ill_formed;
 use given::leg_order_given;
 use given::order_given;
+use given::quote_given;
 use given::strategy_given;
 use given::sweep_given;
 use leg_orders::on_leg_order;
+use national::set_prices;
+use national::set_range;
 use refusals::cancel_refusal;
 use refusals::clock_refusal;
 use refusals::leg_order_refusal;
+use refusals::national_refusal;
 use refusals::order_refusal;
 use refusals::sweep_refusal;
 use rules::Answer;
@@ -238,6 +242,31 @@ impl Book {
         admit(c, 0, t.count)
     }
 
+    // Kind 9: the national prices of a series.
+    fn national(self, e: events::National, space: &mut [i32]) -> Taken
+        requires { ⌜ Valid (self .state) × ((e .series < seriesCount) × (e .bid ≤ 99999) × (e .offer ≤ 99999)) × (recordSpace ≤ length (now space)) ⌝ }
+        ensures { λ x. ⌜ Took (self .state) (E.National e) (now (space .entry)) (now (space .exit)) x ⌝ }
+    {
+        let b = self.state;
+        let r = national_refusal(e);
+        if r != 0 {
+            return refuse(b, r);
+        }
+        let q = quote_given(e);
+        let c = set_prices(b, e.series as u8, q);
+        admit(c, 0, 0)
+    }
+
+    // Kind 10: the execution range.
+    fn range(self, e: events::Range, space: &mut [i32]) -> Taken
+        requires { ⌜ Valid (self .state) × (e .range ≤ 9999) × (recordSpace ≤ length (now space)) ⌝ }
+        ensures { λ x. ⌜ Took (self .state) (E.Range e) (now (space .entry)) (now (space .exit)) x ⌝ }
+    {
+        let b = self.state;
+        let c = set_range(b, e.range);
+        admit(c, 0, 0)
+    }
+
     // A frame of any bytes, with a record space of any length: the answer, the book, and the records in the space. A refused
     // event hands back the book that came, and leaves the space.
     pub fn step(self, frame: &[u8], space: &mut [i32]) -> Taken
@@ -263,6 +292,8 @@ impl Book {
                 Event::Series(e) => self.series(e, space),
                 Event::Clock(e) => self.clock(e, space),
                 Event::DayEnd(e) => self.day_end(e, space),
+                Event::National(e) => self.national(e, space),
+                Event::Range(e) => self.range(e, space),
             },
         }
     }

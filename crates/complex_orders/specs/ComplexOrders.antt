@@ -48,7 +48,7 @@ restsAs e = pick (eqb (e .life) 0) A.Rests A.Cancelled
 unfoldable pub waitsAs : Entry → Strategy → List Entry → Arrival
 waitsAs e s es = pick (eqb (e .life) 3) A.Cancelled (pick (answersIn es (e .strategy) (s .starter) (e .side)) A.Answers A.Rests)
 
--- its shared pass does nothing
+-- its shared pass does nothing, whatever its bounds
 abbrev pub idleIn : Entry → Strategy → List Entry → List LegOrder → Bool
 idleIn e s es os = stopsAt (turnAt e (oppositeIn Shared es e) (netIn true os (e .side) s))
 

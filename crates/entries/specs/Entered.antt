@@ -12,7 +12,7 @@ use Rattle.ranges.specs.Fit.{Fit}
 
 -- the state with these rows, and the entry's number given last
 abbrev pub entered : Entry → List Entry → State → State
-entered e rows b = record { strategies = b .strategies; entries = rows; orders = b .orders; defined = b .defined; opened = b .opened; clock = b .clock; timer = b .timer; last = e .number }
+entered e rows b = record { strategies = b .strategies; entries = rows; orders = b .orders; defined = b .defined; opened = b .opened; clock = b .clock; timer = b .timer; last = e .number; national = b .national; range = b .range }
 
 pub entered-is : (e : Entry) (b : State) {rows : List Entry} → rows ≡ behind live noEntry e (b .entries) → entered e rows b ≡ enter e b
 unfolding enter withLast withEntries
@@ -30,4 +30,7 @@ fit-enter e b g h f =
       strategyRows = f .strategyRows;
       entryRows = behind-length live noEntry e (b .entries);
       orderRows = f .orderRows;
+      quotes = f .quotes;
+      quoteRows = f .quoteRows;
+      range = f .range;
     })

@@ -28,6 +28,8 @@ event-row (E.Cancel e) = refl
 event-row (E.Series e) = refl
 event-row (E.Clock e) = refl
 event-row (E.DayEnd e) = refl
+event-row (E.National e) = refl
+event-row (E.Range e) = refl
 
 pub length-row-of : (e : Event) → length (rowOf e) ≡ 19
 length-row-of (E.Strategy e) = refl
@@ -38,6 +40,8 @@ length-row-of (E.Cancel e) = refl
 length-row-of (E.Series e) = refl
 length-row-of (E.Clock e) = refl
 length-row-of (E.DayEnd e) = refl
+length-row-of (E.National e) = refl
+length-row-of (E.Range e) = refl
 
 pub kind-code : (e : Event) → kindOf (codeOf (kindIn e)) ≡ kindIn e
 unfolding kindOf pick
@@ -49,6 +53,8 @@ kind-code (E.Cancel e) = refl
 kind-code (E.Series e) = refl
 kind-code (E.Clock e) = refl
 kind-code (E.DayEnd e) = refl
+kind-code (E.National e) = refl
+kind-code (E.Range e) = refl
 
 pub code-lt : (k : Kind) → codeOf k < 256 ^ 2
 code-lt K.Strategy = omega arith
@@ -59,6 +65,8 @@ code-lt K.Cancel = omega arith
 code-lt K.Series = omega arith
 code-lt K.Clock = omega arith
 code-lt K.DayEnd = omega arith
+code-lt K.National = omega arith
+code-lt K.Range = omega arith
 code-lt K.Unknown = omega arith
 
 abbrev pub kindRead : Reading → Kind
@@ -78,6 +86,8 @@ kind-back K.Cancel v = refl
 kind-back K.Series v = refl
 kind-back K.Clock v = refl
 kind-back K.DayEnd v = refl
+kind-back K.National v = refl
+kind-back K.Range v = refl
 kind-back K.Unknown v = refl
 
 pub answer-event : (k : Kind) (v : List ℕ) (n : ℕ) → 4 ≤ lengthOf k n → readingNumber (eventOf k v) ≡ 0
@@ -90,6 +100,8 @@ answer-event K.Cancel v n h = refl
 answer-event K.Series v n h = refl
 answer-event K.Clock v n h = refl
 answer-event K.DayEnd v n h = refl
+answer-event K.National v n h = refl
+answer-event K.Range v n h = refl
 answer-event K.Unknown v n h = absurd (omega arith)
 
 -- a known kind gives an event
@@ -103,6 +115,8 @@ event-is K.Cancel v n h = (_, refl)
 event-is K.Series v n h = (_, refl)
 event-is K.Clock v n h = (_, refl)
 event-is K.DayEnd v n h = (_, refl)
+event-is K.National v n h = (_, refl)
+event-is K.Range v n h = (_, refl)
 event-is K.Unknown v n h = absurd (omega arith)
 
 unknown-zero : (n : ℕ) → lengthOf K.Unknown n ≡ 0
@@ -121,7 +135,9 @@ code-kind x n =
     (λ _. pick-by P (eqb x 6) (λ t _. sym (eqb-true x 6 t))
     (λ _. pick-by P (eqb x 7) (λ t _. sym (eqb-true x 7 t))
     (λ _. pick-by P (eqb x 8) (λ t _. sym (eqb-true x 8 t))
-    (λ _. no))))))))
+    (λ _. pick-by P (eqb x 9) (λ t _. sym (eqb-true x 9 t))
+    (λ _. pick-by P (eqb x 10) (λ t _. sym (eqb-true x 10 t))
+    (λ _. no))))))))))
   where
     no : 4 ≤ lengthOf K.Unknown n → codeOf K.Unknown ≡ x
     no h = absurd (omega (arith, h, unknown-zero n))

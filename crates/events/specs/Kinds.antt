@@ -16,9 +16,12 @@ kindOf n =
     (pick (eqb n 5) K.Cancel
     (pick (eqb n 6) K.Series
     (pick (eqb n 7) K.Clock
-    (pick (eqb n 8) K.DayEnd K.Unknown)))))))
+    (pick (eqb n 8) K.DayEnd
+    (pick (eqb n 9) K.National
+    (pick (eqb n 10) K.Range K.Unknown)))))))))
 
--- "1 strategy", "2 complex order", "3 sweep", "4 leg order", "5 cancel", "6 series", "7 clock", "8 day end"
+-- "1 strategy", "2 complex order", "3 sweep", "4 leg order", "5 cancel", "6 series", "7 clock", "8 day end",
+-- "Kind 9 carries series, national bid (4) and offer (4)", "Kind 10 carries the range in cents (2)"
 abbrev pub codeOf : Kind → ℕ
 codeOf K.Strategy = 1
 codeOf K.Order = 2
@@ -28,6 +31,8 @@ codeOf K.Cancel = 5
 codeOf K.Series = 6
 codeOf K.Clock = 7
 codeOf K.DayEnd = 8
+codeOf K.National = 9
+codeOf K.Range = 10
 codeOf K.Unknown = 0
 
 -- "Length 16", and so on for each kind; a strategy's without its legs; 0, which no frame of 4 bytes has, for an unknown kind
@@ -40,6 +45,8 @@ fixedOf K.Cancel = 10
 fixedOf K.Series = 6
 fixedOf K.Clock = 8
 fixedOf K.DayEnd = 6
+fixedOf K.National = 13
+fixedOf K.Range = 6
 fixedOf K.Unknown = 0
 
 -- "Length 5 + 3 × count for every count byte", n being the first field; the fixed length for the other kinds
@@ -55,4 +62,6 @@ fixed-le K.Cancel = omega arith
 fixed-le K.Series = omega arith
 fixed-le K.Clock = omega arith
 fixed-le K.DayEnd = omega arith
+fixed-le K.National = omega arith
+fixed-le K.Range = omega arith
 fixed-le K.Unknown = omega arith

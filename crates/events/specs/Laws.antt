@@ -44,6 +44,8 @@ sound-table K.Cancel = refl
 sound-table K.Series = refl
 sound-table K.Clock = refl
 sound-table K.DayEnd = refl
+sound-table K.National = refl
+sound-table K.Range = refl
 sound-table K.Unknown = refl
 
 thinb : List Field → Bool
@@ -130,6 +132,8 @@ offset-fits K.Cancel n h = omega arith
 offset-fits K.Series n h = omega arith
 offset-fits K.Clock n h = omega arith
 offset-fits K.DayEnd n h = omega arith
+offset-fits K.National n h = omega arith
+offset-fits K.Range n h = omega arith
 offset-fits K.Unknown n h = omega arith
 
 -- the fields fill the frame, where a strategy's count is at most six
@@ -158,6 +162,8 @@ exact K.Cancel n s h = record { whole = refl; short = omega arith }
 exact K.Series n s h = record { whole = refl; short = omega arith }
 exact K.Clock n s h = record { whole = refl; short = omega arith }
 exact K.DayEnd n s h = record { whole = refl; short = omega arith }
+exact K.National n s h = record { whole = refl; short = omega arith }
+exact K.Range n s h = record { whole = refl; short = omega arith }
 exact K.Unknown n s h = absurd (omega arith)
 
 pub four-le : (e : Event) (n : ℕ) → 4 ≤ lengthOf (kindIn e) n
@@ -170,6 +176,8 @@ four-le (E.Cancel e) n = omega arith
 four-le (E.Series e) n = omega arith
 four-le (E.Clock e) n = omega arith
 four-le (E.DayEnd e) n = omega arith
+four-le (E.National e) n = omega arith
+four-le (E.Range e) n = omega arith
 
 -- only a strategy's frame looks at the count
 pub field-same : (k : Kind) (a b : ℕ) → (k ≡ K.Strategy → a ≡ b) → layoutOf k a ≡ layoutOf k b
@@ -182,6 +190,8 @@ field-same K.Cancel a b h = refl
 field-same K.Series a b h = refl
 field-same K.Clock a b h = refl
 field-same K.DayEnd a b h = refl
+field-same K.National a b h = refl
+field-same K.Range a b h = refl
 field-same K.Unknown a b h = refl
 
 pub length-same : (k : Kind) (a b : ℕ) → (k ≡ K.Strategy → a ≡ b) → lengthOf k a ≡ lengthOf k b
@@ -194,6 +204,8 @@ length-same K.Cancel a b h = refl
 length-same K.Series a b h = refl
 length-same K.Clock a b h = refl
 length-same K.DayEnd a b h = refl
+length-same K.National a b h = refl
+length-same K.Range a b h = refl
 length-same K.Unknown a b h = refl
 
 -- the fields as the code passes them
@@ -282,4 +294,6 @@ fixed-fields K.Cancel s u n i = present-all _ 6 13 refl i
 fixed-fields K.Series s u n i = present-all _ 2 17 refl i
 fixed-fields K.Clock s u n i = present-all _ 4 15 refl i
 fixed-fields K.DayEnd s u n i = present-all _ 2 17 refl i
+fixed-fields K.National s u n i = present-all _ 9 10 refl i
+fixed-fields K.Range s u n i = present-all _ 2 17 refl i
 fixed-fields K.Unknown s u n i = absurd (u refl)

@@ -76,6 +76,14 @@ time = (4, 0, 86400000, 0)
 abbrev pub timer : Field
 timer = (2, 1, 5000, 0)
 
+-- "national bid (4) and offer (4), each 0–99,999, 0 meaning missing"
+abbrev pub nationalPrice : Field
+nationalPrice = (4, 0, 99999, 0)
+
+-- "the range in cents (2), 0–9,999"
+abbrev pub range : Field
+range = (2, 0, 9999, 0)
+
 -- "per leg series (1) 0–31, side (1), ratio (1) 1–12"
 abbrev pub leg : List Field → List Field
 leg fs = series ∷ side ∷ ratio ∷ fs
@@ -98,6 +106,10 @@ fieldsOf K.Series = series ∷ state ∷ replicate 17 none
 fieldsOf K.Clock = time ∷ replicate 18 none
 -- "8 day end: next day's timer (2) 1–5,000 ms"
 fieldsOf K.DayEnd = timer ∷ replicate 18 none
+-- "Kind 9 carries series, national bid (4) and offer (4), each 0–99,999, 0 meaning missing; length 13."
+fieldsOf K.National = series ∷ nationalPrice ∷ nationalPrice ∷ replicate 16 none
+-- "Kind 10 carries the range in cents (2), 0–9,999; length 6"
+fieldsOf K.Range = range ∷ replicate 18 none
 fieldsOf K.Unknown = replicate 19 none
 
 -- the fields of a frame of a kind whose first field is n: of its table those that the bytes past the fourth can hold, one byte each at least.

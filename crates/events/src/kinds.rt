@@ -16,7 +16,9 @@ pub fn kind_of(n: u32) -> Kind
         6 => Kind::Series,
         7 => Kind::Clock,
         8 => Kind::DayEnd,
-        0 | 9..=u32::MAX => Kind::Unknown,
+        9 => Kind::National,
+        10 => Kind::Range,
+        0 | 11..=u32::MAX => Kind::Unknown,
     }
 }
 
@@ -32,6 +34,8 @@ pub fn code_of(kind: Kind) -> u32
         Kind::Series => 6,
         Kind::Clock => 7,
         Kind::DayEnd => 8,
+        Kind::National => 9,
+        Kind::Range => 10,
         Kind::Unknown => 0,
     }
 }
@@ -49,6 +53,8 @@ fn fixed_length(kind: Kind) -> usize
         Kind::Series => 6,
         Kind::Clock => 8,
         Kind::DayEnd => 6,
+        Kind::National => 13,
+        Kind::Range => 6,
         Kind::Unknown => 0,
     }
 }

@@ -13,6 +13,8 @@ pub enum Kind {
     Series,
     Clock,
     DayEnd,
+    National,
+    Range,
     Unknown,
 }
 
@@ -76,6 +78,18 @@ pub struct DayEnd {
     pub timer: u32,
 }
 
+// The national best bid and offer of a series; 0 is a missing one.
+pub struct National {
+    pub series: u32,
+    pub bid: u32,
+    pub offer: u32,
+}
+
+// The execution range in cents.
+pub struct Range {
+    pub range: u32,
+}
+
 pub enum Event {
     Strategy(Strategy),
     Order(Order),
@@ -85,6 +99,8 @@ pub enum Event {
     Series(Series),
     Clock(Clock),
     DayEnd(DayEnd),
+    National(National),
+    Range(Range),
 }
 
 // What reading answers: the event, or the refusal.

@@ -10,7 +10,9 @@ use super::Kind;
 use super::Leg;
 use super::LegOrder;
 use super::Legs;
+use super::National;
 use super::Order;
+use super::Range;
 use super::Reading;
 use super::Series;
 use super::Strategy;
@@ -31,6 +33,8 @@ pub fn kind_in(event: Event) -> Kind
         Event::Series(_) => Kind::Series,
         Event::Clock(_) => Kind::Clock,
         Event::DayEnd(_) => Kind::DayEnd,
+        Event::National(_) => Kind::National,
+        Event::Range(_) => Kind::Range,
     }
 }
 
@@ -108,6 +112,16 @@ pub fn row_of(event: Event) -> [u32; 19]
             row[0] = e.timer;
             row
         }
+        Event::National(e) => {
+            row[0] = e.series;
+            row[1] = e.bid;
+            row[2] = e.offer;
+            row
+        }
+        Event::Range(e) => {
+            row[0] = e.range;
+            row
+        }
     }
 }
 
@@ -124,6 +138,8 @@ pub fn event_of(kind: Kind, row: [u32; 19]) -> Reading
         Kind::Series => series_event(row),
         Kind::Clock => clock_event(row),
         Kind::DayEnd => day_end_event(row),
+        Kind::National => national_event(row),
+        Kind::Range => range_event(row),
         Kind::Unknown => Reading::Refused(2),
     }
 }
@@ -222,6 +238,22 @@ fn day_end_event(row: [u32; 19]) -> Reading
     ensures { λ r. ⌜ r ≡ eventOf Kind.DayEnd row ⌝ }
 {
     Reading::Event(Event::DayEnd(DayEnd { timer: row[0] }))
+}
+
+fn national_event(row: [u32; 19]) -> Reading
+    ensures { λ r. ⌜ r ≡ eventOf Kind.National row ⌝ }
+{
+    Reading::Event(Event::National(National {
+        series: row[0],
+        bid: row[1],
+        offer: row[2],
+    }))
+}
+
+fn range_event(row: [u32; 19]) -> Reading
+    ensures { λ r. ⌜ r ≡ eventOf Kind.Range row ⌝ }
+{
+    Reading::Event(Event::Range(Range { range: row[0] }))
 }
 
 pub fn length_in(event: Event) -> usize

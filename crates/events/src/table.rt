@@ -42,6 +42,12 @@ pub const TIME: Field = Field(4, 0, 86400000, 0);
 
 pub const TIMER: Field = Field(2, 1, 5000, 0);
 
+// A national bid or offer; 0 is a missing one.
+pub const NATIONAL_PRICE: Field = Field(4, 0, 99999, 0);
+
+// The execution range in cents.
+pub const RANGE: Field = Field(2, 0, 9999, 0);
+
 // The fields of a kind, and empty ones up to 19.
 pub fn fields_of(kind: Kind) -> [Field; 19]
     ensures { λ r. ⌜ r ≡ fieldsOf kind ⌝ }
@@ -55,6 +61,8 @@ pub fn fields_of(kind: Kind) -> [Field; 19]
         Kind::Series => series_fields(),
         Kind::Clock => clock_fields(),
         Kind::DayEnd => day_end_fields(),
+        Kind::National => national_fields(),
+        Kind::Range => range_fields(),
         Kind::Unknown => no_fields(),
     }
 }
@@ -154,6 +162,24 @@ fn day_end_fields() -> [Field; 19]
 {
     let mut f = [NONE; 19];
     f[0] = TIMER;
+    f
+}
+
+fn national_fields() -> [Field; 19]
+    ensures { λ r. ⌜ r ≡ fieldsOf Kind.National ⌝ }
+{
+    let mut f = [NONE; 19];
+    f[0] = SERIES;
+    f[1] = NATIONAL_PRICE;
+    f[2] = NATIONAL_PRICE;
+    f
+}
+
+fn range_fields() -> [Field; 19]
+    ensures { λ r. ⌜ r ≡ fieldsOf Kind.Range ⌝ }
+{
+    let mut f = [NONE; 19];
+    f[0] = RANGE;
     f
 }
 

@@ -48,6 +48,8 @@ withEntry b i f = record {
   clock = b .clock;
   timer = b .timer;
   last = b .last;
+  national = b .national;
+  range = b .range;
 }
 
 -- a cancel in place: the record written, and the entry stored that has nothing left

@@ -39,6 +39,8 @@ row-back K.Cancel n f = refl
 row-back K.Series n f = refl
 row-back K.Clock n f = refl
 row-back K.DayEnd n f = refl
+row-back K.National n f = refl
+row-back K.Range n f = refl
 row-back K.Unknown n f = refl
 
 -- Reading what was written.

@@ -14,7 +14,9 @@ use events::Event;
 use events::Field;
 use events::Kind;
 use events::LegOrder;
+use events::National;
 use events::Order;
+use events::Range;
 use events::Reading;
 use events::Series;
 use events::Sweep;
@@ -169,6 +171,34 @@ fn day_end_in(frame: &[u8]) -> Reading
     )
 }
 
+fn national_in(frame: &[u8]) -> Reading
+    requires { ⌜ 13 ≤ length (now frame) ⌝ }
+    ensures { λ r. ⌜ r ≡ carriedOf Kind.National (now (frame .entry)) ⌝ }
+{
+    let series = test(frame, 4, table::SERIES, true);
+    let bid = test(frame, 5, table::NATIONAL_PRICE, series.ok);
+    let offer = test(frame, 9, table::NATIONAL_PRICE, bid.ok);
+    if_fits(
+        offer.ok,
+        Reading::Event(Event::National(National {
+            series: series.value,
+            bid: bid.value,
+            offer: offer.value,
+        })),
+    )
+}
+
+fn range_in(frame: &[u8]) -> Reading
+    requires { ⌜ 6 ≤ length (now frame) ⌝ }
+    ensures { λ r. ⌜ r ≡ carriedOf Kind.Range (now (frame .entry)) ⌝ }
+{
+    let range = test(frame, 4, table::RANGE, true);
+    if_fits(
+        range.ok,
+        Reading::Event(Event::Range(Range { range: range.value })),
+    )
+}
+
 // By the table of fields: a strategy, whose fields depend on its count. No frame has the length of an unknown kind.
 fn by_table(kind: Kind, frame: &[u8]) -> Reading
     requires { ⌜ Whole kind (now frame) ⌝ }
@@ -193,6 +223,8 @@ pub(crate) fn carried(kind: Kind, frame: &[u8]) -> Reading
         Kind::Series => series_in(frame),
         Kind::Clock => clock_in(frame),
         Kind::DayEnd => day_end_in(frame),
+        Kind::National => national_in(frame),
+        Kind::Range => range_in(frame),
         Kind::Strategy | Kind::Unknown => by_table(kind, frame),
     }
 }

@@ -1,13 +1,15 @@
-// What the events of kinds 1 to 4 bring: the row that enters, the strategy defined, and whether its definition is ill-formed.
+// What the events of kinds 1 to 4 and 9 bring: the row that enters, the strategy defined, whether its definition is
+// ill-formed, and the national prices.
 ghost use mathlib.Core.Path.{_≡_};
 ghost use Prim.Native.Nat.{_<_};
-ghost use Rattle.rules.specs.Given.{legGiven, legsGiven, strategyGiven, sweepGiven, orderGiven, legOrderGiven};
+ghost use Rattle.rules.specs.Given.{legGiven, legsGiven, strategyGiven, sweepGiven, orderGiven, legOrderGiven, quoteGiven};
 ghost use Rattle.rules.specs.Fits.{FitGiven, FitSweepGiven, FitOrderGiven, FitLegOrderGiven};
 ghost use Rattle.rules.specs.Refusals.{illFormed};
 ghost use Rattle.rules.specs.Valid.{FitLeg};
 use rules::Entry;
 use rules::Leg;
 use rules::LegOrder;
+use rules::Quote;
 use rules::State;
 use rules::Strategy;
 use strategies::defined;
@@ -60,6 +62,16 @@ pub fn leg_order_given(b: State, e: events::LegOrder) -> LegOrder
         side: e.side as u8,
         contracts: e.contracts,
         price: e.price,
+    }
+}
+
+// National prices as they are set.
+pub fn quote_given(e: events::National) -> Quote
+    ensures { λ r. ⌜ r ≡ quoteGiven e ⌝ }
+{
+    Quote {
+        bid: e.bid,
+        offer: e.offer,
     }
 }
 

@@ -38,7 +38,7 @@ leg-is o b p e = rw (p, e)
 
 -- the state with these rows, and the leg order's number given last
 abbrev pub enteredOrder : LegOrder → List LegOrder → State → State
-enteredOrder o rows b = record { strategies = b .strategies; entries = b .entries; orders = rows; defined = b .defined; opened = b .opened; clock = b .clock; timer = b .timer; last = o .number }
+enteredOrder o rows b = record { strategies = b .strategies; entries = b .entries; orders = rows; defined = b .defined; opened = b .opened; clock = b .clock; timer = b .timer; last = o .number; national = b .national; range = b .range }
 
 pub entered-order-is : (o : LegOrder) (b : State) {rows : List LegOrder} → rows ≡ behind liveOrder noOrder o (b .orders) → enteredOrder o rows b ≡ enterOrder o b
 unfolding enterOrder withLast withOrders
@@ -59,6 +59,9 @@ enter-fit o b h p f = record {
   strategyRows = f .strategyRows;
   entryRows = f .entryRows;
   orderRows = behind-length liveOrder noOrder o (b .orders);
+  quotes = f .quotes;
+  quoteRows = f .quoteRows;
+  range = f .range;
 }
 
 pub fit-enter : (o : LegOrder) (b : State) {c : State} → c ≡ enterOrder o b → FitOrder o → Priced o → Fit b → Fit c

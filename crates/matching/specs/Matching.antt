@@ -1,5 +1,5 @@
 -- The rules of the match and of the passes by legs only, by what the code tests, and the ranges that they keep.
-use mathlib.Core.Path.{_≡_, refl, _∙_, ap}
+use mathlib.Core.Path.{_≡_, refl, sym, _∙_, ap}
 use mathlib.Core.Bool.{Bool, true, false, not}
 use mathlib.Core.List.{List}
 use Prim.Native.Nat.{ℕ, _+_, _-_, _≤_, _<_, min}
@@ -13,16 +13,20 @@ use Rattle.base.specs.Walks.{walk}
 use Rattle.base.specs.Sets.{has, minus}
 use Rattle.rules.specs.declared.Strategy.{Strategy}
 use Rattle.rules.specs.declared.Entry.{Entry}
+use Rattle.rules.specs.declared.Bounds.{Bounds}
 use Rattle.rules.specs.declared.State.{State}
 use Rattle.rules.specs.declared.Allocation.the-variants.{LegsOnly}
 use Rattle.rules.specs.State.{noEntry, entryAt, strategyAt}
 use Rattle.rules.specs.Moves.{Moved, still, each}
 use Rattle.rules.specs.Sides.{other, better}
 use Rattle.rules.specs.Strategies.{shutSet}
+use Rattle.rules.specs.National.{boundsAt, mayMeet}
 use Rattle.rules.specs.Fills.{wholeFill}
 use Rattle.rules.specs.Passes.{pass}
-use Rattle.rules.specs.Auctions.{liveIn, dayOrder, legPass, legPassesIn, ahead, bestSlot, crossed, matchOnce, matchAll, matchIn}
+use Rattle.rules.specs.Auctions.{liveIn, dayOrder, legPass, legPassesIn, ahead, bestSlot, crossed, mayMatch, matchOnce, matchAll, matchIn}
 use Rattle.rules.proofs.Control.{each-kept, matchOnce-kept, matchIn-kept, shrinks-kept}
+use Rattle.rules.proofs.Shrinks.{Shrinks}
+use Rattle.rules.proofs.Gives.{bounds-same}
 use Rattle.rules.proofs.Turns.{idle}
 use Rattle.records.specs.Done.{Done}
 use Rattle.ranges.specs.Fit.{Fit, fit-done}
@@ -50,6 +54,10 @@ bestEntry es k side = walk (bestNext es k side) 32 32
 -- whether two entries meet
 unfoldable pub meet : List Entry → ℕ → ℕ → Bool
 meet es x y = pick (ltb x 32) (pick (ltb y 32) (leb (getD es y noEntry .level) (getD es x noEntry .level)) false) false
+
+-- whether they do, and both may fill at the lower number's limit
+unfoldable pub mayMatchIn : Bounds → List Entry → ℕ → ℕ → Bool
+mayMatchIn w es x y = both (meet es x y) (mayMeet w (getD es (pick (ltb (getD es x noEntry .number) (getD es y noEntry .number)) x y) noEntry .level))
 
 -- two entries that meet
 unfoldable pub matched : State → ℕ → ℕ → Moved
@@ -116,19 +124,40 @@ pub meet-slots : (es : List Entry) (x y : ℕ) → meet es x y ≡ true → (x <
 unfolding meet
 meet-slots es x y e = let p = pick-yes _ e in (ltb-true _ _ (p .0), ltb-true _ _ (pick-yes _ (p .1) .0))
 
+module _ (w : Bounds) (es : List Entry) (x y : ℕ) where
+  pub may-slots : mayMatchIn w es x y ≡ true → (x < 32) × (y < 32)
+  unfolding mayMatchIn
+  may-slots e = meet-slots es x y (pick-yes _ e .0)
+
+  pub may-apart : meet es x y ≡ false → false ≡ mayMatchIn w es x y
+  unfolding mayMatchIn
+  may-apart e = search tests
+
+  pub may-buy : meet es x y ≡ true → getD es x noEntry .number < getD es y noEntry .number → mayMeet w (getD es x noEntry .level) ≡ mayMatchIn w es x y
+  unfolding mayMatchIn pick
+  may-buy e h = rw (e, lt-ltb _ _ h) refl
+
+  pub may-sell : meet es x y ≡ true → getD es y noEntry .number ≤ getD es x noEntry .number → mayMeet w (getD es y noEntry .level) ≡ mayMatchIn w es x y
+  unfolding mayMatchIn pick
+  may-sell e h = rw (e, le-ltb _ _ h) refl
+
 best-is : (b : State) (k side : ℕ) → bestEntry (b .entries) k side ≡ bestSlot b k side
 unfolding bestEntry bestSlot aheadOf ahead
 best-is b k side = refl
 
 -- one match by the slots that the code has found
-module _ (k i : ℕ) (b : State) {x y : ℕ} (p : x ≡ bestEntry (b .entries) k 0) (q : y ≡ bestEntry (b .entries) k 1) where
-  pub match-none : meet (b .entries) x y ≡ false → matchOnce k i b ≡ still b
-  unfolding matchOnce pick meet crossed
-  match-none e = rw (← best-is b k 0, ← best-is b k 1, ← p, ← q, e)
+module _ (k i : ℕ) (b : State) {w : Bounds} {x y : ℕ} (h : w ≡ boundsAt b k) (p : x ≡ bestEntry (b .entries) k 0) (q : y ≡ bestEntry (b .entries) k 1) where
+  may-is : mayMatchIn w (b .entries) x y ≡ mayMatch b k (bestSlot b k 0) (bestSlot b k 1)
+  unfolding mayMatchIn meet crossed
+  may-is = rw (h, p, q, best-is b k 0, best-is b k 1)
 
-  pub match-some : meet (b .entries) x y ≡ true → matchOnce k i b ≡ matched b x y
-  unfolding matchOnce pick meet crossed matched
-  match-some e = rw (← best-is b k 0, ← best-is b k 1, ← p, ← q, e)
+  pub match-none : mayMatchIn w (b .entries) x y ≡ false → matchOnce k i b ≡ still b
+  unfolding matchOnce
+  match-none e = pick-false _ _ _ (sym may-is ∙ e)
+
+  pub match-some : mayMatchIn w (b .entries) x y ≡ true → matchOnce k i b ≡ matched b x y
+  unfolding matchOnce matched
+  match-some e = pick-true _ _ _ (sym may-is ∙ e) ∙ rw (p, q, best-is b k 0, best-is b k 1)
 
 module _ (b : State) (x y : ℕ) where
   pub match-buy : entryAt b x .number < entryAt b y .number → {u : ℕ} → u ≡ min (entryAt b x .units) (entryAt b y .units) → matched b x y ≡ wholeFill b x y (entryAt b x .level) u
@@ -158,3 +187,9 @@ fit-series s i b f d = fit-done d (each-kept shrinks-kept (matchIn s) (matchIn-k
 -- .. and of one
 pub fit-matches : (k i : ℕ) (b : State) {c : State} {sp sq : List ℤ} {n m : ℕ} → Fit b → Done sp sq n m c (each (matchOnce k) i b) → Fit c
 fit-matches k i b f d = fit-done d (each-kept shrinks-kept (matchOnce k) (matchOnce-kept shrinks-kept k) i b (f .orderRows)) f
+
+-- .. which leave its bounds
+pub same-bounds : (k i : ℕ) (b : State) {c : State} {w : Bounds} {sp sq : List ℤ} {n m : ℕ} → Fit b → w ≡ boundsAt b k → Done sp sq n m c (each (matchOnce k) i b) → w ≡ boundsAt c k
+same-bounds k i b {c} f e d =
+    let h : Shrinks b c = rw (d .state) (each-kept shrinks-kept (matchOnce k) (matchOnce-kept shrinks-kept k) i b (f .orderRows)) in
+    e ∙ sym (bounds-same h k)

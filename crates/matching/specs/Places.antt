@@ -1,4 +1,5 @@
--- The passes by legs only as one walk over places, 32 to a strategy, and the search for the next place at which one does something.
+-- The passes by legs only as one walk over places, 32 to a strategy, and the search for the next place at which one would do something but for its
+-- bounds.
 use mathlib.Core.Path.{_≡_, refl, sym, _∙_, ap}
 use mathlib.Core.Bool.{Bool, true, false, not}
 use mathlib.Core.Logic.{⊎-elim}
@@ -33,11 +34,12 @@ use Rattle.passes.specs.Passes.{stopsAt, legs-still}
 use Rattle.matching.specs.Searches.{Searched, searched-past, searched-here, searched-all}
 use Rattle.matching.specs.Matching.{passesLegs, legs-not, legs-yes, in-yes, in-not}
 
--- whether strategy t gets passes by legs only, and the pass of its entry e does something
+-- whether strategy t gets passes by legs only, and the pass of its entry e would do something but for its bounds
 unfoldable pub actsIn : Entry → Strategy → List LegOrder → ℕ → ℕ → Bool
 actsIn e t os opened s = both (passesLegs t s opened) (not (stopsAt (turnAt e 0 (netReady os (e .side) t))))
 
--- whether place p, which is slot p % 32 of strategy p / 32, holds a day order of that strategy whose pass does something
+-- whether place p, which is slot p % 32 of strategy p / 32, holds a day order of that strategy whose pass would do something
+-- but for its bounds
 unfoldable pub acts : List Strategy → List Entry → List LegOrder → ℕ → ℕ → ℕ → Bool
 acts ss es os opened s p =
     let e : Entry = getD es (p % 32) noEntry in
@@ -176,8 +178,9 @@ each-skips : (f : ℕ → State → Moved) (b : State) (i j : ℕ) → ((p : ℕ
 unfolding each
 each-skips f b i zero h = rw zero-add
 each-skips f b i (suc j) h =
-    let e = each-skips f b i j (λ p l m. h p l (omega arith)) in
-    rw (suc-add, e) (then-still (each f i b) (f (j + i)) (h (j + i) (omega arith) (omega arith)))
+    ap (λ (n : ℕ). each f n b) (suc-add j i)
+    ∙ ap (λ (x : Moved). and-then x (f (j + i))) (each-skips f b i j (λ p l m. h p l (omega arith)))
+    ∙ then-still (each f i b) (f (j + i)) (h (j + i) (omega arith) (omega arith))
 
 visit-skips : {f : ℕ → State → Moved} {k i j : ℕ} {b₀ b : State} {sp sq : List ℤ} {n m : ℕ} → Visited f k b₀ sp sq n m b i → i ≤ j → j ≤ k
     → ((p : ℕ) → i ≤ p → p < j → f p b ≡ still b) → Visited f k b₀ sp sq n m b j

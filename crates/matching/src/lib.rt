@@ -9,15 +9,18 @@ ghost use Rattle.rules.specs.Valid.{FitEntry, FitOrder};
 ghost use Rattle.records.specs.Space.{Room};
 ghost use Rattle.records.specs.Done.{Done};
 ghost use Rattle.ranges.specs.Fit.{FitLegs, Fit, Priced};
-ghost use Rattle.matching.specs.Matching.{openWith, passesLegs, aheadOf, bestEntry, meet, matched};
+ghost use Rattle.matching.specs.Matching.{openWith, passesLegs, aheadOf, bestEntry, meet, mayMatchIn, matched};
 ghost use Rattle.matching.specs.Places.{actsIn, nextPass};
 use fills::whole_fill;
+use national::bounds;
+use national::may_meet;
 use nets::net_ready;
 use passes::legs_idle;
 use passes::pass;
 use records::After;
 use records::least;
 use rules::Allocation;
+use rules::Bounds;
 use rules::Entry;
 use rules::LegOrder;
 use rules::State;
@@ -60,7 +63,7 @@ fn day_order(k: usize, e: Entry) -> bool
     false
 }
 
-// Whether strategy t gets passes by legs only, and the pass of its entry e does something.
+// Whether strategy t gets passes by legs only, and the pass of its entry e would do something but for its bounds.
 fn acts_in(e: Entry, t: Strategy, os: [LegOrder; State::LEG_ORDERS], opened: u32, s: u8) -> bool
     requires { ⌜ All FitOrder os × All Priced os × FitLegs t ⌝ }
     ensures { λ r. ⌜ r ≡ actsIn e t os opened s ⌝ }
@@ -72,7 +75,8 @@ fn acts_in(e: Entry, t: Strategy, os: [LegOrder; State::LEG_ORDERS], opened: u32
     false
 }
 
-// The first place, from one on, of a day order whose pass by legs only does something; 512 where there is none.
+// The first place, from one on, of a day order whose pass by legs only would do something but for its bounds; 512 where there
+// is none.
 pub fn next_pass(
     ss: [Strategy; State::STRATEGIES],
     es: [Entry; State::ROWS],
@@ -105,7 +109,7 @@ pub fn next_pass(
     best
 }
 
-// The passes by legs only of a series, by strategy, then number. The first that does something is at place `from`.
+// The passes by legs only of a series, by strategy, then number. The first that may do something is at place `from`.
 pub fn leg_passes(b: State, s: u8, from: usize, space: &mut [i32], n: usize) -> After
     requires { ⌜ Fit b × (from ≡ nextPass (b .strategies) (b .entries) (b .orders) (b .opened) s 0) ⌝ }
     requires { ⌜ Room (now space) n (legPasses s b .records) ⌝ }
@@ -126,7 +130,7 @@ pub fn leg_passes(b: State, s: u8, from: usize, space: &mut [i32], n: usize) -> 
     After { state: c, count: m }
 }
 
-// The same, from whichever does something first.
+// The same, from whichever may do something first.
 pub fn all_leg_passes(b: State, s: u8, space: &mut [i32], n: usize) -> After
     requires { ⌜ Fit b ⌝ }
     requires { ⌜ Room (now space) n (legPasses s b .records) ⌝ }
@@ -189,6 +193,21 @@ fn crossed(es: [Entry; State::ROWS], x: usize, y: usize) -> bool
     false
 }
 
+// Whether the best buy and the best sell meet, and both may fill at the lower number's limit.
+fn may_match(w: Bounds, es: [Entry; State::ROWS], x: usize, y: usize) -> bool
+    ensures { λ r. ⌜ r ≡ mayMatchIn w es x y ⌝ }
+{
+    if crossed(es, x, y) {
+        let e = es[x];
+        let f = es[y];
+        if e.number < f.number {
+            return may_meet(w, e.level);
+        }
+        return may_meet(w, f.level);
+    }
+    false
+}
+
 // The best buy with the best sell, at the lower number's limit, its order active.
 fn match_once(b: State, x: usize, y: usize, space: &mut [i32], n: usize) -> After
     requires { ⌜ (x < tableRows) × (y < tableRows) × Fit b ⌝ }
@@ -205,20 +224,23 @@ fn match_once(b: State, x: usize, y: usize, space: &mut [i32], n: usize) -> Afte
     whole_fill(b, y, x, f.level, p, space, n)
 }
 
-// While they meet.
+// While they meet and may. No match changes what bounds them.
 fn match_all(b: State, k: usize, space: &mut [i32], n: usize) -> After
-    requires { ⌜ Fit b ⌝ }
+    requires { ⌜ (k < strategySlots) × Fit b ⌝ }
     requires { ⌜ Room (now space) n (matchAll k b .records) ⌝ }
     ensures { λ t. ⌜ Done (now (space .entry)) (now (space .exit)) n (t .count) (t .state) (matchAll k b) ⌝ }
 {
     let mut c = b;
+    let s = c.strategies[k];
+    let qs = c.national;
+    let w = bounds(qs, c.range, s);
     let mut m = n;
     let mut i: usize = 0;
     while i < State::ROWS {
         let es = c.entries;
         let x = best_slot(es, k, 0);
         let y = best_slot(es, k, 1);
-        if crossed(es, x, y) {
+        if may_match(w, es, x, y) {
             let t = match_once(c, x, y, space, m);
             c = t.state;
             m = t.count;

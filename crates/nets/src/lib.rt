@@ -173,7 +173,7 @@ fn weighed(w: u8, legs: [Leg; 6], ps: [u32; 6], count: usize) -> u32
 }
 
 // The net of the buy legs less the sell legs, as a level; 0 where it is unknown.
-fn net_of(s: Strategy, ps: [u32; 6]) -> u32
+pub fn net_of(s: Strategy, ps: [u32; 6]) -> u32
     requires { ⌜ FitLegs s × AtMost 99999 ps ⌝ }
     ensures { λ r. ⌜ r ≡ netOf s ps ⌝ }
 {

@@ -1,24 +1,29 @@
-// Passes: an active entry is filled at the best opposite limits of its strategy, by its legs, or by both.
+// Passes: an active entry is filled at the best opposite limits of its strategy, by its legs, or by both, within what the
+// national prices and the execution range allow.
 ghost use mathlib.Core.Path.{_≡_};
 ghost use Prim.Native.Nat.{_+_, _-_, _<_};
 ghost use Rattle.base.specs.All.{All};
 ghost use Rattle.rules.specs.Sizes.{tableRows};
 ghost use Rattle.rules.specs.Valid.{FitOrder};
-ghost use Rattle.rules.specs.Passes.{legsFirst, turnAt, meetLimit, pass};
+ghost use Rattle.rules.specs.Passes.{legsFirst, turnAt, allowed, meetLimit, pass};
 ghost use Rattle.records.specs.Space.{Room};
 ghost use Rattle.records.specs.Done.{Done, RoomIn, DoneIn};
 ghost use Rattle.ranges.specs.Fit.{FitLegs, Priced, Fit};
 ghost use Rattle.fills.specs.Gives.{HasRows, putEntries};
-ghost use Rattle.passes.specs.Passes.{stopsAt, oppositeIn, netIn};
+ghost use Rattle.passes.specs.Passes.{stopsAt, oppositeIn, netIn, pricesIn, turnIn};
 use fills::AfterFills;
 use fills::cut_entry;
 use fills::give_in_turn;
 use fills::give_shared;
 use legging::leg_fill;
+use national::bounds;
+use national::may_meet;
+use national::may_take;
 use nets::net_ready;
 use quotas::best_opposite;
 use records::After;
 use rules::Allocation;
+use rules::Bounds;
 use rules::Entry;
 use rules::LegOrder;
 use rules::State;
@@ -26,6 +31,12 @@ use rules::Strategy;
 use rules::Turn;
 use sides::better;
 use sides::meets;
+
+// The best opposite limit and the ready leg net (0: none), between which an entry chooses.
+pub struct Prices {
+    pub limit: u32,
+    pub net: u32,
+}
 
 // Whether the legs go before the best opposite limit: they have a net, and it is strictly better or no limit stands.
 fn legs_first(side: u8, net: u32, limit: u32) -> bool
@@ -84,24 +95,63 @@ fn ready_net(legs: bool, os: [LegOrder; State::LEG_ORDERS], side: u8, s: Strateg
     0
 }
 
-// What entry e of strategy s does next among these entries and leg orders.
-fn turn_of(
+// The prices that entry e, of strategy s, finds among these entries and leg orders.
+fn prices_for(
     way: Allocation,
     legs: bool,
     e: Entry,
     es: [Entry; State::ROWS],
     os: [LegOrder; State::LEG_ORDERS],
     s: Strategy,
+) -> Prices
+    requires { ⌜ All FitOrder os × All Priced os × FitLegs s ⌝ }
+    ensures { λ p. ⌜ p ≡ pricesIn way legs e es os s ⌝ }
+{
+    let x = opposite(way, es, e);
+    let net = ready_net(legs, os, e.side, s);
+    Prices { limit: x, net: net }
+}
+
+// A turn of an entry of that side, at that ready leg net, unless the bounds forbid one of its parties the fill: then it stops.
+fn allowed(w: Bounds, side: u8, net: u32, t: Turn) -> Turn
+    ensures { λ r. ⌜ r ≡ allowed w side net t ⌝ }
+{
+    match t {
+        Turn::Stop => Turn::Stop,
+        Turn::ByLegs => {
+            if may_take(w, side, net) {
+                return Turn::ByLegs;
+            }
+            Turn::Stop
+        }
+        Turn::AtLimit(x) => {
+            if may_meet(w, x) {
+                return Turn::AtLimit(x);
+            }
+            Turn::Stop
+        }
+    }
+}
+
+// What entry e of strategy s, with those bounds, does next among these entries and leg orders.
+fn turn_of(
+    way: Allocation,
+    legs: bool,
+    w: Bounds,
+    e: Entry,
+    es: [Entry; State::ROWS],
+    os: [LegOrder; State::LEG_ORDERS],
+    s: Strategy,
 ) -> Turn
     requires { ⌜ All FitOrder os × All Priced os × FitLegs s ⌝ }
-    ensures { λ t. ⌜ t ≡ turnAt e (oppositeIn way es e) (netIn legs os (e .side) s) ⌝ }
+    ensures { λ t. ⌜ t ≡ turnIn w e (pricesIn way legs e es os s) ⌝ }
 {
     if e.units == 0 {
         return Turn::Stop;
     }
-    let x = opposite(way, es, e);
-    let net = ready_net(legs, os, e.side, s);
-    turn_at(e, x, net)
+    let p = prices_for(way, legs, e, es, os, s);
+    let t = turn_at(e, p.limit, p.net);
+    allowed(w, e.side, p.net, t)
 }
 
 // The holders of a limit are met by entry a, of strategy s.
@@ -135,7 +185,7 @@ fn stops(t: Turn) -> bool
     }
 }
 
-// Whether a pass by legs only of entry e does nothing at the ready leg net that it meets (0: none).
+// Whether a pass by legs only of entry e does nothing at the ready leg net that it meets (0: none), whatever its bounds.
 pub fn legs_idle(e: Entry, net: u32) -> bool
     ensures { λ r. ⌜ r ≡ stopsAt (turnAt e 0 net) ⌝ }
 {
@@ -143,7 +193,7 @@ pub fn legs_idle(e: Entry, net: u32) -> bool
     stops(t)
 }
 
-// Whether a pass of entry e, of strategy s, does nothing among these entries and leg orders.
+// Whether a pass of entry e, of strategy s, does nothing among these entries and leg orders, whatever its bounds.
 pub fn idle(
     way: Allocation,
     legs: bool,
@@ -155,11 +205,13 @@ pub fn idle(
     requires { ⌜ All FitOrder os × All Priced os × FitLegs s ⌝ }
     ensures { λ r. ⌜ r ≡ stopsAt (turnAt e (oppositeIn way es e) (netIn legs os (e .side) s)) ⌝ }
 {
-    let t = turn_of(way, legs, e, es, os, s);
+    let p = prices_for(way, legs, e, es, os, s);
+    let t = turn_at(e, p.limit, p.net);
     stops(t)
 }
 
-// A pass of entry a: turn after turn, each chosen anew, until one stops. There are no more than it has units.
+// A pass of entry a: turn after turn, each chosen anew, until one stops. There are no more than it has units. No turn changes
+// what bounds them.
 pub fn pass(way: Allocation, legs: bool, b: State, a: usize, space: &mut [i32], n: usize) -> After
     requires { ⌜ (a < tableRows) × Fit b ⌝ }
     requires { ⌜ Room (now space) n (pass way legs a b .records) ⌝ }
@@ -168,15 +220,17 @@ pub fn pass(way: Allocation, legs: bool, b: State, a: usize, space: &mut [i32], 
     let mut c = b;
     let e = c.entries[a];
     let units = e.units;
+    let k = e.strategy as usize;
+    let s = c.strategies[k];
+    let qs = c.national;
+    let w = bounds(qs, c.range, s);
     let mut m = n;
     let mut i: u32 = 0;
     while i < units {
         let f = c.entries[a];
-        let k = f.strategy as usize;
-        let s = c.strategies[k];
         let es = c.entries;
         let os = c.orders;
-        let t = turn_of(way, legs, f, es, os, s);
+        let t = turn_of(way, legs, w, f, es, os, s);
         match t {
             Turn::Stop => {
                 i = units;

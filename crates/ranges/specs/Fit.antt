@@ -10,10 +10,11 @@ use Rattle.rules.specs.declared.Leg.{Leg}
 use Rattle.rules.specs.declared.Strategy.{Strategy}
 use Rattle.rules.specs.declared.Entry.{Entry}
 use Rattle.rules.specs.declared.LegOrder.{LegOrder}
+use Rattle.rules.specs.declared.Quote.{Quote}
 use Rattle.rules.specs.declared.State.{State}
-use Rattle.rules.specs.State.{noLeg, noStrategy, noEntry, noOrder, legAt}
+use Rattle.rules.specs.State.{noLeg, noStrategy, noEntry, noOrder, noQuote, legAt}
 use Rattle.rules.specs.Moves.{Moved}
-use Rattle.rules.specs.Valid.{FitLeg, FitEntry, FitOrder, Sound}
+use Rattle.rules.specs.Valid.{FitLeg, FitEntry, FitOrder, FitQuote, Sound}
 use Rattle.rules.proofs.Tables.{all-of}
 use Rattle.rules.proofs.Shrinks.{SameOrder, SameStrategy, Shrinks}
 use Rattle.rules.proofs.Entering.{fit-no-leg, fit-none, fit-no-order, entry-fits, order-fits}
@@ -37,11 +38,17 @@ pub record Fit (b : State) : Type 0 where
   pub strategyRows : length (b .strategies) ≡ 16
   pub entryRows : length (b .entries) ≡ 32
   pub orderRows : length (b .orders) ≡ 32
+  pub quotes : All FitQuote (b .national)
+  pub quoteRows : length (b .national) ≡ 32
+  pub range : b .range ≤ 9999
 
 -- what stands past a table's end fits
 
 no-legs : FitLegs noStrategy
 no-legs = record { count = omega arith; legs = all-nil; used = λ i h. absurd (omega arith) }
+
+no-quote : FitQuote noQuote
+no-quote = record { bid = omega arith; offer = omega arith }
 
 pub priced-none : Priced noOrder
 priced-none = record { price = λ h. absurd (omega arith) }
@@ -59,6 +66,9 @@ fit-entry a i = all-at noEntry fit-none a i
 pub fit-order : {os : List LegOrder} → All FitOrder os → (i : ℕ) → FitOrder (getD os i noOrder)
 fit-order a i = all-at noOrder fit-no-order a i
 
+pub fit-quote : {qs : List Quote} → All FitQuote qs → (s : ℕ) → FitQuote (getD qs s noQuote)
+fit-quote a s = all-at noQuote no-quote a s
+
 pub priced-at : {os : List LegOrder} → All Priced os → (i : ℕ) → Priced (getD os i noOrder)
 priced-at a i = all-at noOrder priced-none a i
 
@@ -75,6 +85,9 @@ fit-sound s = record {
   strategyRows = s .strategyRows;
   entryRows = s .entryRows;
   orderRows = s .orderRows;
+  quotes = s .national;
+  quoteRows = s .quoteRows;
+  range = s .range;
 }
 
 -- a strategy that kept all but its auction
@@ -98,6 +111,9 @@ fit-shrinks {b} {c} s f = record {
   strategyRows = s .strategyRows ∙ f .strategyRows;
   entryRows = s .entryRows ∙ f .entryRows;
   orderRows = s .orderRows ∙ f .orderRows;
+  quotes = rw (s .national) (f .quotes);
+  quoteRows = rw (s .national) (f .quoteRows);
+  range = rw (s .range) (f .range);
 }
 
 -- the state that a function left

@@ -7,7 +7,8 @@ ghost use Rattle.base.specs.Pick.{pick};
 ghost use Rattle.events.specs.declared.Event.the-variants as E;
 ghost use Rattle.rules.specs.Sizes.{strategySlots};
 ghost use Rattle.rules.specs.Auctions.{running};
-ghost use Rattle.rules.specs.Refusals.{firstCause, causes, undefined, notOpen, isOrderOf, isLegOrderOf, notFound, isStarter, unanswerable, ordersFull, sweepsFull, legOrdersFull, replaces, removesNone, noRoom, numbersOut, sweepNumbersOut};
+ghost use Rattle.rules.specs.Refusals.{firstCause, causes, undefined, notOpen, isOrderOf, isLegOrderOf, notFound, isStarter, unanswerable, ordersFull, sweepsFull, legOrdersFull, replaces, removesNone, noRoom, numbersOut, sweepNumbersOut, bidAboveOffer};
+ghost use Rattle.rules.specs.declared.State.{State};
 ghost use Rattle.rules.specs.Fits.{FitOrderGiven, FitSweepGiven, FitLegOrderGiven};
 use entries::count_of;
 use entries::old_sweep;
@@ -272,6 +273,29 @@ pub fn clock_refusal(b: State, e: events::Clock) -> u32
 {
     if e.time < b.clock {
         return 11;
+    }
+    0
+}
+
+// Whether a national bid is above a national offer, and neither is missing.
+fn bid_above_offer(e: events::National) -> bool
+    ensures { λ r. ⌜ r ≡ bidAboveOffer e ⌝ }
+{
+    if e.bid == 0 {
+        return false;
+    }
+    if e.offer == 0 {
+        return false;
+    }
+    e.offer < e.bid
+}
+
+// The refusal of national prices, whatever the book holds.
+pub fn national_refusal(e: events::National) -> u32
+    ensures { λ r. ⌜ ((b : State) → r ≡ firstCause (causes b (E.National e))) ⌝ }
+{
+    if bid_above_offer(e) {
+        return 14;
     }
     0
 }

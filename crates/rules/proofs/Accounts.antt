@@ -26,7 +26,7 @@ use Rattle.rules.proofs.Shrinks.{shrinks-trans, cut-shrinks, cutLeg-shr
 use Rattle.rules.proofs.Gives.{Opposed, opposed, cut-at, cut-other, cutLeg-at, cutLeg-other}
 use Rattle.rules.proofs.Control.{Proper, proper-apart, Trading, trading-apart, Standing, meets-standing, meets-price, meets-self}
 use Rattle.rules.proofs.Tables.{tally, tally-append, tally-join, positive}
-use Rattle.rules.proofs.Laws.{Law, ofUnits, ofContracts, noEntries, noOrders, ofSeries, ofCash, ofRatio, ofLimit, ofPrice, size, come, gone, Good, Steady, Acct, ratioFor, ratioAt, acct-nothing, pick-none, when-no, when-same, pick-plus, pick-sub, pick-times, sum-pick, sum-times, sum-at, leg-side, leg-other, even, even-cash, measure-by, byKind}
+use Rattle.rules.proofs.Laws.{Law, ofUnits, ofContracts, noEntries, noOrders, ofSeries, ofCash, ofRatio, ofLimit, ofParty, ofPrice, own-party, size, come, gone, Good, Steady, Acct, ratioFor, ratioAt, acct-nothing, pick-none, when-no, when-same, pick-plus, pick-sub, pick-times, sum-pick, sum-times, sum-at, leg-side, leg-other, even, even-cash, measure-by, byKind}
 
 -- CUTS of an entry and of a leg order
 -- past the end of a table nothing is live
@@ -209,6 +209,14 @@ module _ (b : State) (a h level q : ℕ) (st : Steady b) (p : Proper b a h level
         own-limit n side limit a g alive (p .limit),
         own-limit n side limit h g its-alive (p .itsLimit),
       )
+  met-law (ofParty n k side) g =
+      omega (
+        arith,
+        wholes (come (ofParty n k side)) (λ x y l. refl),
+        none (gone (ofParty n k side)) (λ x. refl) (λ x y l. refl),
+        own-party (e .number) n k side (e .strategy) (e .side) (g .entry a alive),
+        own-party (f .number) n k side (f .strategy) (f .side) (g .entry h its-alive),
+      )
   met-law (ofPrice n side price) g = omega (arith, none (come (ofPrice n side price)) (λ x. refl) (λ x y l. refl), none (gone (ofPrice n side price)) (λ x. refl) (λ x y l. refl))
 
   pub acct-whole : Acct b (wholeFill b a h level q)
@@ -276,6 +284,7 @@ module _ (b : State) (a h : ℕ) (st : Steady b) (t : Trading b a h) where
       omega (arith, rw (← (standing₂ .onSide)) at flip)
   deal-law (ofRatio n x r) g = refl
   deal-law (ofLimit n side limit) g = refl
+  deal-law (ofParty n k side) g = refl
   deal-law (ofPrice n side price) g =
       omega (arith, own-price n side price a g (t .live) (meets-price o₁ o₂ (t .meets)), own-price n side price h g (standing₂ .live) (meets-self (o₂ .side) (o₂ .price)))
 
@@ -301,6 +310,7 @@ single-law s (ofSeries x) g = simp (s .noFill)
 single-law s ofCash g = simp (s .noFill)
 single-law s (ofRatio n x y) g = simp (s .noFill)
 single-law s (ofLimit n side limit) g = simp (s .noFill)
+single-law s (ofParty n k side) g = simp (s .noFill)
 single-law s (ofPrice n side price) g = simp (s .noFill)
 
 -- CANCELS

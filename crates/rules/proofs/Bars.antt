@@ -26,10 +26,10 @@ use Rattle.rules.specs.Moves.{Moved, and-then, each}
 use Rattle.rules.specs.Records.{kindNumber}
 use Rattle.rules.specs.Nets.{prices, netOf, unitsOf}
 use Rattle.rules.specs.Fills.{legRecordAt, partyRecords, orderRow, orderRows, orderRecordsAt, takesAt, legQuotas, wholeFill, takeLegs, legFill, cancelEntry}
-use Rattle.rules.specs.Passes.{giveAt, give, giveInTurn, giveGroup, giveShared, meetLimit, turnOf, takeTurn, turn, pass}
+use Rattle.rules.specs.Passes.{giveAt, give, giveInTurn, giveGroup, giveShared, meetLimit, opposite, turnOf, takeTurn, turn, pass}
 use Rattle.rules.specs.Auctions.{starterSlot, cancelLapsed, close, endUnfilled, starterPass, later, laterPass}
 use Rattle.rules.specs.Valid.{Sound, Starter}
-use Rattle.rules.specs.Sentences.{Unpriced, UnpricedOf, WithoutLegs, LegsMeetNone, AheadNumbered, NonePassed, StarterSentence, LaterSentence}
+use Rattle.rules.specs.Sentences.{Unpriced, UnpricedOf, WithoutLegs, LegsMeetNone, BarredHere, AheadNumbered, NonePassed, StarterSentence, LaterSentence}
 use Rattle.rules.proofs.Shrinks.{Shrinks, shrinks-refl, shrinks-trans}
 use Rattle.rules.proofs.Control.{turn-kept, shrinks-kept}
 use Rattle.rules.proofs.Ends.{pass-why}
@@ -46,15 +46,15 @@ starter-is b s k i h =
     same-slot s _ i (p .live) (h .live) (p .number ∙ sym (h .number))
 
 pub starter-sentence : (b : State) → Sound b → (k : ℕ) → StarterSentence b k (starterPass k b)
-unfolding starterPass
+unfolding starterPass opposite
 starter-sentence b s k = record {
   barred = λ e. rw e (pass-without Shared (starterSlot b k) b);
   passesNone = λ i h. rw (starter-is b s k i h) (shared-pass (not (strategyAt b k .answered)) i b s);
   free = λ e i h. rw (e, starter-is b s k i h) (why i);
 }
   where
-    why : (i : ℕ) → (entryAt (pass Shared true i b .state) i .units ≡ 0) ⊎ LegsMeetNone (pass Shared true i b .state) i
-    why i = ⊎-elim inl (λ n. inr (n .legs)) (pass-why Shared true i b)
+    why : (i : ℕ) → (entryAt (pass Shared true i b .state) i .units ≡ 0) ⊎ (LegsMeetNone (pass Shared true i b .state) i ⊎ BarredHere (pass Shared true i b .state) i true)
+    why i = ⊎-elim inl (λ r. inr (⊎-elim (λ n. inl (n .legs)) inr r)) (pass-why Shared true i b)
 
 -- THE PASS OF ANOTHER
 pub later-sentence : (b : State) → Sound b → (k n i : ℕ) → LaterSentence b i (laterPass k n i b)

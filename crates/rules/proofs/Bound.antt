@@ -17,6 +17,7 @@ use Rattle.rules.specs.declared.Allocation.the-variants.{LegsOnly, Share
 use Rattle.rules.specs.State.{noEntry, noOrder, entryAt, orderAt, strategyAt, withEntries, withOrders, withOpened, withClock, withLast}
 use Rattle.rules.specs.Moves.{Moved, and-then, each}
 use Rattle.rules.specs.Fills.{wholeFill, cancelEntry}
+use Rattle.rules.specs.National.{boundsAt, mayMeet}
 use Rattle.rules.specs.Auctions.{liveIn, isNumber, starterSlot, cancelLapsed, endUnfilled, starterPass, later, laterPass, endAuction, endDue, endHolding, dayOrder, legPass, legPassesIn, legPasses, bestSlot, matchOnce, matchAll, matchIn}
 use Rattle.rules.specs.Events.{live, liveOrder, behind, enter, enterOrder, restOrCancel, waits, trades, arrive, onOrder, oldSweep, enterSweep, onSweep, bestOrder, tradeOnce, tradeAll, ifRests, onLegOrder, cancelEntryOf, cancelOrderOf, cancelNumber, onClock, shut, reopen, onSeries, closeRunning, lowestLive, cancelLowest, restart, onDayEnd}
 use Rattle.rules.proofs.Tables.{positive}
@@ -161,15 +162,15 @@ unfolding endHolding
 endHolding-pays s k b six = if-pays _ (λ _. if-pays _ (λ _. endUnfilled-pays k b six) (λ _. pays-nothing 1 b)) (λ _. pays-nothing 1 b)
 
 -- THE MATCH OF THE RESTING ORDERS: each ends one of the two
-matchBy-pays : (k : ℕ) (b : State) → Six b → (x y : ℕ) → Crossed b k x y → (t : Bool)
+matchBy-pays : (k : ℕ) (b : State) → Six b → (x y : ℕ) → Crossed b k x y → (t : Bool) → mayMeet (boundsAt b k) (entryAt b (pick t x y) .level) ≡ true
     → Pays 0 b (wholeFill b (pick t x y) (pick t y x) (entryAt b (pick t x y) .level) (min (entryAt b (pick t x y) .units) (entryAt b (pick t y x) .units)))
 unfolding pick
-matchBy-pays k b six x y c true = whole-ends b six x y _ _ (buy-proper b k x y c) (omega arith)
-matchBy-pays k b six x y c false = whole-ends b six y x _ _ (sell-proper b k x y c) (omega arith)
+matchBy-pays k b six x y c true g = whole-ends b six x y _ _ (buy-proper b k x y c g) (omega arith)
+matchBy-pays k b six x y c false g = whole-ends b six y x _ _ (sell-proper b k x y c g) (omega arith)
 
 matchOnce-pays : (k i : ℕ) (b : State) → Six b → Pays 0 b (matchOnce k i b)
 unfolding matchOnce
-matchOnce-pays k i b six = if-pays _ (λ e. matchBy-pays k b six (bestSlot b k 0) (bestSlot b k 1) (crossed-best b k e) _) (λ _. pays-nothing 0 b)
+matchOnce-pays k i b six = if-pays _ (λ e. let m = pick-yes _ e in matchBy-pays k b six (bestSlot b k 0) (bestSlot b k 1) (crossed-best b k (m .0)) _ (m .1)) (λ _. pays-nothing 0 b)
 
 matchIn-pays : (s k : ℕ) (b : State) → Six b → Pays 0 b (matchIn s k b)
 unfolding matchIn matchAll

@@ -1,8 +1,8 @@
--- When an event is accepted: the causes of refusals 4 to 13 in another form, both ways.
+-- When an event is accepted: the causes of refusals 4 to 14 in another form, both ways.
 use mathlib.Core.Path.{_≡_, refl, sym, _∙_, ap}
 use mathlib.Core.Bool.{Bool, true, false, not}
 use mathlib.Core.Logic.{_⊎_, inl, inr, ⊎-elim}
-use Prim.Native.Nat.{ℕ, _≤_, _<_}
+use Prim.Native.Nat.{ℕ, _<_}
 use native.Mathlib.Omega.{arith}
 use borrow.Author.Tests.{eqb-true, eqb-false, eq-eqb, ne-eqb, lt-leb, leb-false, le-ltb, lt-ltb, ltb-true, ltb-false, not-true, not-false}
 use lib.Dec.{eqb, ltb}
@@ -14,14 +14,16 @@ use Rattle.events.specs.declared.Order.{Order as GivenOrder}
 use Rattle.events.specs.declared.Sweep.{Sweep as GivenSweep}
 use Rattle.events.specs.declared.LegOrder.{LegOrder as GivenLegOrder}
 use Rattle.events.specs.declared.Clock.{Clock as GivenClock}
+use Rattle.events.specs.declared.National.{National as GivenNational}
+use Rattle.events.specs.declared.Range.{Range as GivenRange}
 use Rattle.rules.specs.declared.State.{State}
 use Rattle.rules.specs.State.{entryAt, strategyAt}
 use Rattle.rules.specs.Auctions.{running}
 use Rattle.rules.specs.Events.{oldSweep}
 use Rattle.rules.specs.Given.{sweepGiven}
-use Rattle.rules.specs.Refusals.{firstCause, causes, isSweepAt, undefined, unanswerable, notOpen, replaces, removesNone, ordersFull, sweepsFull, legOrdersFull, noRoom, numbersOut, sweepNumbersOut}
+use Rattle.rules.specs.Refusals.{firstCause, causes, isSweepAt, undefined, unanswerable, notOpen, replaces, removesNone, ordersFull, sweepsFull, legOrdersFull, noRoom, numbersOut, sweepNumbersOut, bidAboveOffer}
 use Rattle.rules.specs.Valid.{Valid}
-use Rattle.rules.specs.Sentences.{Runs, Any, SweepOf, OrderMay, SweepMay, LegOrderMay, ClockMay}
+use Rattle.rules.specs.Sentences.{Runs, Any, SweepOf, OrderMay, SweepMay, LegOrderMay, ClockMay, NationalMay}
 use Rattle.rules.proofs.Validity.{clear, then-no}
 use Rattle.rules.proofs.Clocks.{runs}
 use Rattle.rules.proofs.Sweeps.{old-low, old-is}
@@ -75,6 +77,34 @@ module _ (b : State) (e : GivenClock) where
   pub clock-accepted : ClockMay b (e .time) → firstCause (causes b (E.Clock e)) ≡ 0
   unfolding causes firstCause
   clock-accepted m = pick-false _ _ _ (le-ltb _ _ m)
+
+-- NATIONAL PRICES
+module _ (b : State) (e : GivenNational) where
+  pub national-may : firstCause (causes b (E.National e)) ≡ 0 → NationalMay e
+  unfolding causes bidAboveOffer
+  national-may c = by (eqb (e .bid) 0) refl (eqb (e .offer) 0) refl
+    where
+      refused : bidAboveOffer e ≡ false
+      refused = clear 14 (bidAboveOffer e) _ (omega arith) c .0
+
+      by : (s : Bool) → eqb (e .bid) 0 ≡ s → (t : Bool) → eqb (e .offer) 0 ≡ t → NationalMay e
+      by true p t q = inl (eqb-true _ _ p)
+      by false p true q = inr (inl (eqb-true _ _ q))
+      by false p false q = inr (inr (ltb-false _ _ (sym (pick-true _ _ _ (ap not p) ∙ pick-true _ _ _ (ap not q)) ∙ refused)))
+
+  pub national-accepted : NationalMay e → firstCause (causes b (E.National e)) ≡ 0
+  unfolding causes firstCause bidAboveOffer
+  national-accepted m =
+      let P : Bool → Type 0 = λ (t : Bool). t ≡ false in
+      pick-false _ _ _ (⊎-elim
+      (λ z. pick-false _ _ _ (ap not (eq-eqb _ _ z)))
+      (λ r. pick-by P (not (eqb (e .bid) 0)) (λ _. ⊎-elim (λ z. pick-false _ _ _ (ap not (eq-eqb _ _ z))) (λ l. pick-by P (not (eqb (e .offer) 0)) (λ _. le-ltb _ _ l) (λ _. refl)) r) (λ _. refl))
+      m)
+
+-- THE EXECUTION RANGE is never refused
+pub range-accepted : (b : State) (e : GivenRange) → firstCause (causes b (E.Range e)) ≡ 0
+unfolding causes firstCause
+range-accepted b e = refl
 
 -- A SWEEP
 module _ (b : State) (v : Valid b) (e : GivenSweep) where

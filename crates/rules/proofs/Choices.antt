@@ -27,17 +27,17 @@ use Rattle.rules.specs.Sentences.{TurnSentence, AtThatLimit}
 use Rattle.rules.proofs.Validity.{then-no}
 
 -- the three turns are apart
-abbrev kindOf : Turn → ℕ
+abbrev pub kindOf : Turn → ℕ
 kindOf Stop = 0
 kindOf ByLegs = 1
 kindOf (AtLimit level) = 2
 
-abbrev levelOf : Turn → ℕ
+abbrev pub levelOf : Turn → ℕ
 levelOf Stop = 0
 levelOf ByLegs = 0
 levelOf (AtLimit level) = level
 
-apart : {t u : Turn} → t ≡ u → kindOf t ≡ kindOf u
+pub apart : {t u : Turn} → t ≡ u → kindOf t ≡ kindOf u
 apart e = ap kindOf e
 
 module _ (e : Entry) (x net : ℕ) where
@@ -94,7 +94,7 @@ module _ (e : Entry) (x net : ℕ) where
       (λ l. pick-by S (eqb x 0) (λ _. stopped) (λ z. pick-by S (meets (e .side) (e .level) x) (λ m. limit l z m) (λ _. stopped))))
 
 -- AT THE OPPOSITE LIMIT
-party-at : (e : Entry) (s : Strategy) (q level : ℕ) (ps : List ℕ) → All (AtThatLimit level) (partyRecords e s q level ps)
+pub party-at : (e : Entry) (s : Strategy) (q level : ℕ) (ps : List ℕ) → All (AtThatLimit level) (partyRecords e s q level ps)
 unfolding partyRecords kindNumber
 party-at e s q level ps =
     all-append (all-cons (λ k. refl) all-nil) (all-join (legRecordAt e (s .legs) q ps) (s .count) (λ i l. all-cons (λ k. absurd (omega arith)) all-nil))

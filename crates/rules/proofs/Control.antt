@@ -24,14 +24,15 @@ use Rattle.rules.specs.Moves.{Moved, still, and-then, each}
 use Rattle.rules.specs.Sides.{other, meets}
 use Rattle.rules.specs.Nets.{stands, prices, netOf, unitsStep, unitsOf}
 use Rattle.rules.specs.Quotas.{inTurn, share}
+use Rattle.rules.specs.National.{boundsAt, mayTake, mayMeet}
 use Rattle.rules.specs.Fills.{wholeFill, legFill, legTrade, cancelEntry, cancelOrder}
-use Rattle.rules.specs.Passes.{opposes, holding, sizes, giveAt, give, giveInTurn, giveGroup, giveShared, meetLimit, ready, readyNet, opposite, legsFirst, turnAt, turnOf, takeTurn, turn, pass}
+use Rattle.rules.specs.Passes.{opposes, holding, sizes, giveAt, give, giveInTurn, giveGroup, giveShared, meetLimit, ready, readyNet, opposite, legsFirst, turnAt, allowed, turnOf, takeTurn, turn, pass}
 use Rattle.rules.specs.Auctions.{liveIn, begin, close, answer, cancelLapsed, endUnfilled, starterPass, laterPass, endAuction, endDue, endHolding, legPass, legPassesIn, legPasses, ahead, bestStep, bestSlot, crossed, matchOnce, matchAll, matchIn}
 use Rattle.rules.specs.Events.{enter, enterOrder, restOrCancel, waits, trades, arrive, onOrder, meetsOrder, aheadOrder, bestOrderStep, bestOrder, tradeOnce, tradeAll, ifRests, onLegOrder, cancelEntryOf, cancelOrderOf, cancelNumber, onClock, shut, reopen, closeRunning, lowestLive, cancelLowest}
 use Rattle.rules.proofs.Tables.{positive}
 use Rattle.rules.proofs.Shrinks.{Shrinks, shrinks-refl, then-shrinks, whole-shrinks, legs-shrinks, trade-shrinks, cancel-shrinks, cancelOrder-shrinks, begin-shrinks, close-shrinks, answer-shrinks}
 use Rattle.rules.proofs.Quotas.{Divides, inTurn-divides, share-divides}
-use Rattle.rules.proofs.Gives.{whole-none, opposed, opposed-apart, other-apart, Holder, Quoted, quoted-holder, inTurn-quoted, share-quoted, Given, given, given-each}
+use Rattle.rules.proofs.Gives.{Lawful, lawful-shrinks, whole-none, opposed, opposed-apart, other-apart, Holder, Quoted, quoted-holder, inTurn-quoted, share-quoted, Given, given, given-each}
 
 -- A WHOLE FILL is proper: two that oppose each other, units that both have, a price that meets both limits.
 pub record Proper (b : State) (a h level q : ℕ) : Type 0 where
@@ -41,6 +42,7 @@ pub record Proper (b : State) (a h level q : ℕ) : Type 0 where
   pub some : 0 < q
   pub limit : meets (entryAt b a .side) (entryAt b a .level) level ≡ true
   pub itsLimit : meets (entryAt b h .side) (entryAt b h .level) level ≡ true
+  pub range : mayMeet (boundsAt b (entryAt b a .strategy)) level ≡ true
 
 -- the prices that entry a meets on the legs
 abbrev pub pricesFor : State → ℕ → List ℕ
@@ -52,6 +54,7 @@ pub record Legged (b : State) (a : ℕ) : Type 0 where
   pub ready : 0 < unitsOf (b .orders) (entryAt b a .side) (strategyOf b (entryAt b a)) (pricesFor b a) 1
   pub net : 0 < netOf (strategyOf b (entryAt b a)) (pricesFor b a)
   pub meets : meets (entryAt b a .side) (entryAt b a .level) (netOf (strategyOf b (entryAt b a)) (pricesFor b a)) ≡ true
+  pub range : mayTake (boundsAt b (entryAt b a .strategy)) (entryAt b a .side) (netOf (strategyOf b (entryAt b a)) (pricesFor b a)) ≡ true
 
 -- A LEG TRADE is proper: the order lives, and meets a live one of its series and the other side.
 pub record Trading (b : State) (a h : ℕ) : Type 0 where
@@ -71,13 +74,15 @@ pub record Kept (K : State → Moved → Type 0) : Type 0 where
   pub closes : (b : State) (k : ℕ) → K b (close k b)
   pub answers : (b : State) (k side : ℕ) → K b (still (answer k side b))
 
+-- what a turn says of the active entry
+pub record Limited (b : State) (a level : ℕ) : Type 0 where
+  pub live : 0 < entryAt b a .units
+  pub lawful : Lawful b a level
+
 -- WHAT THE TESTS SAY
 pub meets-self : (side x : ℕ) → meets side x x ≡ true
 unfolding meets
 meets-self side x = pick-all (λ (t : Bool). t ≡ true) (eqb side 0) (le-leb x x (omega arith)) (le-leb x x (omega arith))
-
-still-meets : (b c : State) → Shrinks b c → (a level : ℕ) → meets (entryAt b a .side) (entryAt b a .level) level ≡ true → meets (entryAt c a .side) (entryAt c a .level) level ≡ true
-still-meets b c s a level m = rw (s .entry a .side, s .entry a .level) m
 
 -- the parties of a proper fill are two
 pub proper-apart : {b : State} {a h level q : ℕ} → Proper b a h level q → h ≢ a
@@ -135,17 +140,18 @@ given-proper b a level g qs h k l some c v =
       mine = omega (arith, left, sum-part (slot qs) 32 k l, h .sum);
       its = omega (arith, its, d .units, h .within k l);
       some = some;
-      limit = rw (v .active) (h .limit);
+      limit = rw (v .active) (h .lawful .limit);
       itsLimit = rw (same, d .limit) (meets-self (entryAt b k .side) level);
+      range = lawful-shrinks (v .shrinks) (h .lawful) .range;
     }
 
 -- the state after a group's fills
-pub inTurn-given : (a level g : ℕ) (b : State) → meets (entryAt b a .side) (entryAt b a .level) level ≡ true
+pub inTurn-given : (a level g : ℕ) (b : State) → Lawful b a level
     → Given b a (inTurn (entryAt b a .units) (sizes (b .entries) (entryAt b a) level g)) 32 (giveInTurn a level g b .state)
 unfolding giveInTurn
 inTurn-given a level g b m = given b a level g _ (inTurn-quoted b a level g m)
 
-pub group-given : (a level g : ℕ) (b : State) → meets (entryAt b a .side) (entryAt b a .level) level ≡ true
+pub group-given : (a level g : ℕ) (b : State) → Lawful b a level
     → Given b a (share (entryAt b a .units) (sizes (b .entries) (entryAt b a) level g)) 32 (giveGroup a level g b .state)
 unfolding giveGroup
 group-given a level g b m = given b a level g _ (share-quoted b a level g m)
@@ -154,11 +160,11 @@ group-given a level g b m = given b a level g _ (share-quoted b a level g m)
 given-left : {quotas : ℕ → List ℕ → List ℕ} → Divides quotas → {b c : State} {a : ℕ} {xs : List ℕ} → Given b a (quotas (entryAt b a .units) xs) 32 c → entryAt c a .units ≡ entryAt b a .units - sumN (slot xs) 32
 given-left d {b} {c} {a} {xs} v = omega (arith, ap (λ (x : Entry). x .units) (v .active), d .sum (entryAt b a .units) xs)
 
-pub inTurn-left : (a level g : ℕ) (b : State) → meets (entryAt b a .side) (entryAt b a .level) level ≡ true
+pub inTurn-left : (a level g : ℕ) (b : State) → Lawful b a level
     → entryAt (giveInTurn a level g b .state) a .units ≡ entryAt b a .units - sumN (slot (sizes (b .entries) (entryAt b a) level g)) 32
 inTurn-left a level g b m = given-left inTurn-divides (inTurn-given a level g b m)
 
-pub group-left : (a level g : ℕ) (b : State) → meets (entryAt b a .side) (entryAt b a .level) level ≡ true
+pub group-left : (a level g : ℕ) (b : State) → Lawful b a level
     → entryAt (giveGroup a level g b .state) a .units ≡ entryAt b a .units - sumN (slot (sizes (b .entries) (entryAt b a) level g)) 32
 group-left a level g b m = given-left share-divides (group-given a level g b m)
 
@@ -188,23 +194,20 @@ unfolding unitsOf
 legged-some b a l = units-some (b .orders) (entryAt b a .side) (strategyOf b (entryAt b a)) (pricesFor b a) 1 (entryAt b a .units) (l .live) _ (l .ready)
 
 -- TURNS
--- what a turn says of the active entry
-pub record Limited (b : State) (a level : ℕ) : Type 0 where
-  pub live : 0 < entryAt b a .units
-  pub meets : meets (entryAt b a .side) (entryAt b a .level) level ≡ true
 
 abbrev pub Fits : State → ℕ → Turn → Type 0
 Fits b a Stop = Unit {0}
 Fits b a ByLegs = Legged b a
 Fits b a (AtLimit level) = Limited b a level
 
-legged : (legs : Bool) (a : ℕ) (b : State) → 0 < entryAt b a .units → 0 < readyNet legs a b → meets (entryAt b a .side) (entryAt b a .level) (readyNet legs a b) ≡ true → Legged b a
+legged : (legs : Bool) (a : ℕ) (b : State) → 0 < entryAt b a .units → 0 < readyNet legs a b → meets (entryAt b a .side) (entryAt b a .level) (readyNet legs a b) ≡ true →
+    mayTake (boundsAt b (entryAt b a .strategy)) (entryAt b a .side) (readyNet legs a b) ≡ true → Legged b a
 unfolding readyNet ready
 legged legs a b live =
-    let P : ℕ → Type 0 = λ (n : ℕ). 0 < n → meets (entryAt b a .side) (entryAt b a .level) n ≡ true → Legged b a in
+    let P : ℕ → Type 0 = λ (n : ℕ). 0 < n → meets (entryAt b a .side) (entryAt b a .level) n ≡ true → mayTake (boundsAt b (entryAt b a .strategy)) (entryAt b a .side) n ≡ true → Legged b a in
     pick-by P legs
     (λ e. pick-by P (ready a b)
-    (λ r h m. record { live = live; ready = positive _ (not-true _ r); net = h; meets = m })
+    (λ r h m g. record { live = live; ready = positive _ (not-true _ r); net = h; meets = m; range = g })
     (λ r h. absurd (omega arith)))
     (λ e h. absurd (omega arith))
 
@@ -213,19 +216,19 @@ unfolding legsFirst
 first-net side net x h = positive net (pick-no (eqb net 0) h .0)
 
 pub turn-fits : (way : Allocation) (legs : Bool) (a : ℕ) (b : State) → Fits b a (turnOf way legs a b)
-unfolding turnOf turnAt
+unfolding turnOf turnAt allowed
 turn-fits way legs a b =
     let e : Entry = entryAt b a in
     let x : ℕ = opposite way a b in
     let net : ℕ = readyNet legs a b in
-    let P : Turn → Type 0 = Fits b a in
+    let P : Turn → Type 0 = λ (t : Turn). Fits b a (allowed (boundsAt b (e .strategy)) (e .side) net t) in
     pick-by P (eqb (e .units) 0)
     (λ z. tt)
     (λ live. pick-by P (legsFirst (e .side) net x)
-    (λ f. pick-by P (meets (e .side) (e .level) net) (λ m. legged legs a b (positive (e .units) live) (first-net (e .side) net x f) m) (λ m. tt))
+    (λ f. pick-by P (meets (e .side) (e .level) net) (λ m. pick-by (Fits b a) _ (λ g. legged legs a b (positive (e .units) live) (first-net (e .side) net x f) m g) (λ g. tt)) (λ m. tt))
     (λ f. pick-by P (eqb x 0)
     (λ z. tt)
-    (λ z. pick-by P (meets (e .side) (e .level) x) (λ m. record { live = positive (e .units) live; meets = m }) (λ m. tt))))
+    (λ z. pick-by P (meets (e .side) (e .level) x) (λ m. pick-by (Fits b a) _ (λ g. record { live = positive (e .units) live; lawful = record { limit = m; range = g } }) (λ g. tt)) (λ m. tt))))
 
 -- THE BEST
 -- the best entry of a side is live, in the strategy and of the side
@@ -320,21 +323,28 @@ other-sell x y p q = p ∙ sym (pick-false _ _ _ (ne-eqb y 0 (λ z. omega arith)
 
 -- either of the two may be the active one, at its own limit
 module _ (b : State) (k x y : ℕ) (c : Crossed b k x y) where
-  at-limit : (a h : ℕ) → 0 < entryAt b a .units → opposes (entryAt b a) (entryAt b h) ≡ true → 0 < entryAt b h .units → meets (entryAt b h .side) (entryAt b h .level) (entryAt b a .level) ≡ true →
+  at-limit : (a h : ℕ) → mayMeet (boundsAt b (entryAt b a .strategy)) (entryAt b a .level) ≡ true → 0 < entryAt b a .units → opposes (entryAt b a) (entryAt b h) ≡ true → 0 < entryAt b h .units → meets (entryAt b h .side) (entryAt b h .level) (entryAt b a .level) ≡ true →
       Proper b a h (entryAt b a .level) (min (entryAt b a .units) (entryAt b h .units))
-  at-limit a h mine o its m = record { opposed = o; mine = omega arith; its = omega arith; some = omega arith; limit = meets-self _ _; itsLimit = m }
+  at-limit a h range mine o its m = record { range = range; opposed = o; mine = omega arith; its = omega arith; some = omega arith; limit = meets-self _ _; itsLimit = m }
 
-  pub buy-proper : Proper b x y (entryAt b x .level) (min (entryAt b x .units) (entryAt b y .units))
-  buy-proper =
-      at-limit x y (c .buy .live)
+  -- at the limit of each the other may fill
+  pub buy-limit : meets (entryAt b y .side) (entryAt b y .level) (entryAt b x .level) ≡ true
+  buy-limit = meets-sell _ _ _ (c .sell .onSide) (c .levels)
+
+  pub sell-limit : meets (entryAt b x .side) (entryAt b x .level) (entryAt b y .level) ≡ true
+  sell-limit = meets-buy _ _ _ (c .buy .onSide) (c .levels)
+
+  pub buy-proper : mayMeet (boundsAt b k) (entryAt b x .level) ≡ true → Proper b x y (entryAt b x .level) (min (entryAt b x .units) (entryAt b y .units))
+  buy-proper g =
+      at-limit x y (rw (c .buy .strategy) g) (c .buy .live)
       (opposes-is (entryAt b x) (entryAt b y) (c .sell .live) (c .sell .strategy ∙ sym (c .buy .strategy)) (other-buy _ _ (c .buy .onSide) (c .sell .onSide)))
-      (c .sell .live) (meets-sell _ _ _ (c .sell .onSide) (c .levels))
+      (c .sell .live) buy-limit
 
-  pub sell-proper : Proper b y x (entryAt b y .level) (min (entryAt b y .units) (entryAt b x .units))
-  sell-proper =
-      at-limit y x (c .sell .live)
+  pub sell-proper : mayMeet (boundsAt b k) (entryAt b y .level) ≡ true → Proper b y x (entryAt b y .level) (min (entryAt b y .units) (entryAt b x .units))
+  sell-proper g =
+      at-limit y x (rw (c .sell .strategy) g) (c .sell .live)
       (opposes-is (entryAt b y) (entryAt b x) (c .buy .live) (c .buy .strategy ∙ sym (c .sell .strategy)) (other-sell _ _ (c .buy .onSide) (c .sell .onSide)))
-      (c .buy .live) (meets-buy _ _ _ (c .buy .onSide) (c .levels))
+      (c .buy .live) sell-limit
 
 -- THE RULES
 module _ {K : State → Moved → Type 0} (κ : Kept K) where
@@ -365,25 +375,25 @@ module _ {K : State → Moved → Type 0} (κ : Kept K) where
   unfolding give
   give-kept a level g qs b h = giveEach-kept b a level g qs h 32 (omega arith)
 
-  pub giveInTurn-kept : (a level g : ℕ) (b : State) → meets (entryAt b a .side) (entryAt b a .level) level ≡ true → K b (giveInTurn a level g b)
+  pub giveInTurn-kept : (a level g : ℕ) (b : State) → Lawful b a level → K b (giveInTurn a level g b)
   unfolding giveInTurn
   giveInTurn-kept a level g b m = give-kept a level g _ b (inTurn-quoted b a level g m)
 
-  pub giveGroup-kept : (a level g : ℕ) (b : State) → meets (entryAt b a .side) (entryAt b a .level) level ≡ true → K b (giveGroup a level g b)
+  pub giveGroup-kept : (a level g : ℕ) (b : State) → Lawful b a level → K b (giveGroup a level g b)
   unfolding giveGroup
   giveGroup-kept a level g b m = give-kept a level g _ b (share-quoted b a level g m)
 
-  pub giveShared-kept : (a level : ℕ) (b : State) → meets (entryAt b a .side) (entryAt b a .level) level ≡ true → K b (giveShared a level b)
+  pub giveShared-kept : (a level : ℕ) (b : State) → Lawful b a level → K b (giveShared a level b)
   unfolding giveShared
   giveShared-kept a level b m =
       let c : State = giveInTurn a level 0 b .state in
       let d : State = giveGroup a level 1 c .state in
-      let m₁ = still-meets b c (inTurn-given a level 0 b m .shrinks) a level m in
-      let m₂ = still-meets c d (group-given a level 1 c m₁ .shrinks) a level m₁ in
+      let m₁ : Lawful c a level = lawful-shrinks (inTurn-given a level 0 b m .shrinks) m in
+      let m₂ : Lawful d a level = lawful-shrinks (group-given a level 1 c m₁ .shrinks) m₁ in
       κ .both b (giveInTurn a level 0 b) _ (giveInTurn-kept a level 0 b m)
       (κ .both c (giveGroup a level 1 c) (giveGroup a level 2) (giveGroup-kept a level 1 c m₁) (giveGroup-kept a level 2 d m₂))
 
-  pub meetLimit-kept : (way : Allocation) (a level : ℕ) (b : State) → meets (entryAt b a .side) (entryAt b a .level) level ≡ true → K b (meetLimit way a level b)
+  pub meetLimit-kept : (way : Allocation) (a level : ℕ) (b : State) → Lawful b a level → K b (meetLimit way a level b)
   unfolding meetLimit
   meetLimit-kept LegsOnly a level b m = κ .nothing b
   meetLimit-kept Shared a level b m = giveShared-kept a level b m
@@ -394,7 +404,7 @@ module _ {K : State → Moved → Type 0} (κ : Kept K) where
   unfolding takeTurn
   take-kept way a Stop b f = κ .nothing b
   take-kept way a ByLegs b f = κ .legs b a f
-  take-kept way a (AtLimit level) b f = meetLimit-kept way a level b (f .meets)
+  take-kept way a (AtLimit level) b f = meetLimit-kept way a level b (f .lawful)
 
   pub turn-kept : (way : Allocation) (legs : Bool) (a i : ℕ) (b : State) → K b (turn way legs a i b)
   turn-kept way legs a i b = take-kept way a (turnOf way legs a b) b (turn-fits way legs a b)
@@ -448,16 +458,16 @@ module _ {K : State → Moved → Type 0} (κ : Kept K) where
   endHolding-kept s k b = pick-all (K b) _ (pick-all (K b) _ (endUnfilled-kept k b) (κ .nothing b)) (κ .nothing b)
 
   -- the match of the resting orders
-  matchBy-kept : (k : ℕ) (b : State) (x y : ℕ) → Crossed b k x y → (t : Bool)
+  matchBy-kept : (k : ℕ) (b : State) (x y : ℕ) → Crossed b k x y → (t : Bool) → mayMeet (boundsAt b k) (entryAt b (pick t x y) .level) ≡ true
       → K b (wholeFill b (pick t x y) (pick t y x) (entryAt b (pick t x y) .level) (min (entryAt b (pick t x y) .units) (entryAt b (pick t y x) .units)))
   unfolding pick
-  matchBy-kept k b x y c true = κ .whole b x y _ _ (buy-proper b k x y c)
-  matchBy-kept k b x y c false = κ .whole b y x _ _ (sell-proper b k x y c)
+  matchBy-kept k b x y c true g = κ .whole b x y _ _ (buy-proper b k x y c g)
+  matchBy-kept k b x y c false g = κ .whole b y x _ _ (sell-proper b k x y c g)
 
   pub matchOnce-kept : (k i : ℕ) (b : State) → K b (matchOnce k i b)
   unfolding matchOnce
   matchOnce-kept k i b =
-      pick-by (K b) _ (λ e. matchBy-kept k b (bestSlot b k 0) (bestSlot b k 1) (crossed-best b k e) _) (λ e. κ .nothing b)
+      pick-by (K b) _ (λ e. let m = pick-yes _ e in matchBy-kept k b (bestSlot b k 0) (bestSlot b k 1) (crossed-best b k (m .0)) _ (m .1)) (λ e. κ .nothing b)
 
   pub matchAll-kept : (k : ℕ) (b : State) → K b (matchAll k b)
   unfolding matchAll

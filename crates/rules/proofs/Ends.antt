@@ -14,6 +14,7 @@ use Rattle.rules.specs.declared.Entry.{Entry}
 use Rattle.rules.specs.declared.State.{State}
 use Rattle.rules.specs.declared.Allocation.{Allocation}
 use Rattle.rules.specs.declared.Allocation.the-variants.{LegsOnly, Shared, Numbered}
+use Rattle.rules.specs.declared.Bounds.{Bounds}
 use Rattle.rules.specs.declared.Turn.{Turn}
 use Rattle.rules.specs.declared.Turn.the-variants.{Stop, ByLegs, AtLimit}
 use Rattle.rules.specs.State.{entryAt, strategyOf, withOrders}
@@ -21,7 +22,9 @@ use Rattle.rules.specs.Moves.{Moved, and-then, each}
 use Rattle.rules.specs.Sides.{meets, better}
 use Rattle.rules.specs.Nets.{prices, unitsOf}
 use Rattle.rules.specs.Fills.{cut, wholeFill, takeLegs, legFill}
-use Rattle.rules.specs.Passes.{opposes, groupOf, within, holding, sizeAt, sizes, giveAt, give, giveInTurn, giveGroup, giveShared, meetLimit, ready, readyNet, opposite, legsFirst, turnAt, turnOf, takeTurn, turn, pass}
+use Rattle.rules.specs.National.{boundsAt}
+use Rattle.rules.specs.Sentences.{BarredTurn, at-legs, at-limit, Barred}
+use Rattle.rules.specs.Passes.{opposes, groupOf, within, holding, sizeAt, sizes, giveAt, give, giveInTurn, giveGroup, giveShared, meetLimit, ready, readyNet, opposite, legsFirst, turnAt, allowed, turnOf, takeTurn, turn, pass}
 use Rattle.rules.proofs.Tables.{positive}
 use Rattle.rules.proofs.Shrinks.{cut-shrinks}
 use Rattle.rules.proofs.Turns.{each-ends, units-some, Holder, opposite-holder}
@@ -175,14 +178,16 @@ legs-fall a b some e =
 
 -- A TURN THAT DOES NOT STOP FILLS AT LEAST ONE UNIT
 pub turn-fills : (way : Allocation) (legs : Bool) (a i : ℕ) (b : State) → (turnOf way legs a b ≡ Stop → ⊥) → entryAt (turn way legs a i b .state) a .units < entryAt b a .units
-unfolding turnOf turnAt legsFirst takeTurn
+unfolding turnOf turnAt legsFirst takeTurn allowed
 turn-fills way legs a i b =
-    let P : Turn → Type 0 = λ (t : Turn). (t ≡ Stop → ⊥) → unitsAt a (takeTurn way a t b .state) < unitsAt a b in
-    let stop : P Stop = λ go. absurd (go refl) in
+    let e : Entry = entryAt b a in
+    let Q : Turn → Type 0 = λ (t : Turn). (t ≡ Stop → ⊥) → unitsAt a (takeTurn way a t b .state) < unitsAt a b in
+    let P : Turn → Type 0 = λ (t : Turn). Q (allowed (boundsAt b (e .strategy)) (e .side) (readyNet legs a b) t) in
+    let stop : Q Stop = λ go. absurd (go refl) in
     pick-by P _ (λ _. stop) (λ u.
     pick-by P _
-    (λ f. pick-all P _ (λ _. legs-fall a b (positive (unitsAt a b) u) (is-ready legs a b (eqb-false _ _ (pick-no (eqb (readyNet legs a b) 0) f .0)))) stop)
-    (λ _. pick-by P _ (λ _. stop) (λ x. pick-all P _ (λ _. limit-falls way a b (positive (unitsAt a b) u) (eqb-false _ _ x)) stop)))
+    (λ f. pick-all P _ (pick-all Q _ (λ _. legs-fall a b (positive (unitsAt a b) u) (is-ready legs a b (eqb-false _ _ (pick-no (eqb (readyNet legs a b) 0) f .0)))) stop) stop)
+    (λ _. pick-by P _ (λ _. stop) (λ x. pick-all P _ (pick-all Q _ (λ _. limit-falls way a b (positive (unitsAt a b) u) (eqb-false _ _ x)) stop) stop)))
 
 -- A PASS ENDS ONLY WHERE A TURN STOPS
 stopped : Turn → Bool
@@ -273,10 +278,19 @@ module _ (e : Entry) (x net : ℕ) where
       meets-no : {p : ℕ} → (p ≡ 0) ⊎ (meets (e .side) (e .level) p ≡ false) → eqb p 0 ≡ false → meets (e .side) (e .level) p ≡ true → ⊥
       meets-no {p} o z m = ⊎-elim (λ q. eqb-false p 0 z q) (λ f. clash m f) o
 
--- WHY A PASS ENDS: "while units of it remain", and "neither meets its limit"
+-- where a turn within the range stops, so did the choice, or the range stopped it
+pub stop-barred : (w : Bounds) (side net : ℕ) (t : Turn) → allowed w side net t ≡ Stop → (t ≡ Stop) ⊎ BarredTurn w side net t
+unfolding allowed
+stop-barred w side net Stop = λ e. inl refl
+stop-barred w side net ByLegs =
+    pick-by (λ (u : Turn). u ≡ Stop → (ByLegs ≡ Stop) ⊎ BarredTurn w side net ByLegs) _ (λ _ e. inl e) (λ f _. inr (at-legs refl f))
+stop-barred w side net (AtLimit x) =
+    pick-by (λ (u : Turn). u ≡ Stop → (AtLimit x ≡ Stop) ⊎ BarredTurn w side net (AtLimit x)) _ (λ _ e. inl e) (λ f _. inr (at-limit x refl f))
+
+-- WHY A PASS ENDS: "while units of it remain", "neither meets its limit", or the fill that it came to is barred
 abbrev pub Ended : Allocation → Bool → ℕ → State → Type 0
-Ended way legs a c = (entryAt c a .units ≡ 0) ⊎ Neither (entryAt c a) (opposite way a c) (readyNet legs a c)
+Ended way legs a c = (entryAt c a .units ≡ 0) ⊎ (Neither (entryAt c a) (opposite way a c) (readyNet legs a c) ⊎ Barred c a (opposite way a c) legs)
 
 pub pass-why : (way : Allocation) (legs : Bool) (a : ℕ) (b : State) → Ended way legs a (pass way legs a b .state)
 unfolding turnOf
-pass-why way legs a b = stop-why _ _ _ (pass-ends way legs a b)
+pass-why way legs a b = ⊎-elim (λ s. ⊎-elim (λ z. inl z) (λ n. inr (inl n)) (stop-why _ _ _ s)) (λ s. inr (inr s)) (stop-barred _ _ _ _ (pass-ends way legs a b))

@@ -19,12 +19,14 @@ use Rattle.rules.specs.declared.Leg.{Leg}
 use Rattle.rules.specs.declared.Strategy.{Strategy}
 use Rattle.rules.specs.declared.Entry.{Entry}
 use Rattle.rules.specs.declared.LegOrder.{LegOrder}
+use Rattle.rules.specs.declared.Quote.{Quote}
 use Rattle.rules.specs.declared.State.{State}
-use Rattle.rules.specs.State.{noLeg, noEntry, noOrder, noStrategy, freeStrategy, fresh, entryAt, orderAt, strategyAt, withEntries, withOrders, withStrategies, withOpened, withClock, withLast}
+use Rattle.rules.specs.Sizes.{seriesCount}
+use Rattle.rules.specs.State.{noLeg, noEntry, noOrder, noQuote, noStrategy, freeStrategy, fresh, entryAt, orderAt, strategyAt, withEntries, withOrders, withStrategies, withOpened, withClock, withLast, withNational, withRange}
 use Rattle.rules.specs.Strategies.{held, added, define}
 use Rattle.rules.specs.Events.{live, liveOrder, keep, enter, enterOrder, freeSlot}
 use Rattle.rules.specs.Refusals.{isOrder, isSweep, isLegOrder, isOrderAt, isSweepAt, isLegOrderAt}
-use Rattle.rules.specs.Valid.{FitLeg, FitStrategy, FitEntry, FitOrder, LiveEntry, LiveOrder, Sound}
+use Rattle.rules.specs.Valid.{FitLeg, FitStrategy, FitEntry, FitOrder, FitQuote, LiveEntry, LiveOrder, Sound}
 use Rattle.rules.proofs.Tables.{all-of, tally, sum-tally, tally-plus, Stands, keep-all, keep-length, behind-length, behind-all, behind-slot, behind-other, behind-tally, behind-stands, behind-live, behind-ordered, positive}
 use Rattle.rules.proofs.Shrinks.{SameEntry, SameOrder, SameStrategy, Shrinks}
 
@@ -142,6 +144,9 @@ sound-fresh timer h k = record {
   clock = omega arith;
   timer = (h, k);
   last = omega arith;
+  national = all-replicate noQuote (record { bid = omega arith; offer = omega arith }) seriesCount;
+  quoteRows = length-replicate seriesCount noQuote;
+  range = omega arith;
   undefined = λ i _. all-at {P = λ (s : Strategy). (s .count ≡ 0) × (s .series ≡ 0) × (s .starter ≡ 0)} noStrategy (refl, refl, refl) (all-replicate freeStrategy (refl, refl, refl) 16) i;
   legs = λ i l. absurd (omega arith);
   live = λ i l. absurd (dead i l);
@@ -215,6 +220,9 @@ module _ (b : State) (e : Entry) (s : Sound b) (n : Entering b e) where
     clock = s .clock;
     timer = s .timer;
     last = n .fit .number;
+    national = s .national;
+    quoteRows = s .quoteRows;
+    range = s .range;
     undefined = s .undefined;
     legs = s .legs;
     live = behind-live live noEntry (λ (y : Entry). y .units) refl e (b .entries) (LiveEntry (enter e b)) (record { given = (omega (arith, n .number), le-refl _); level = n .level; strategy = n .strategy })
@@ -286,6 +294,9 @@ module _ (b : State) (o : LegOrder) (s : Sound b) (n : EnteringOrder b o) where
     clock = s .clock;
     timer = s .timer;
     last = n .fit .number;
+    national = s .national;
+    quoteRows = s .quoteRows;
+    range = s .range;
     undefined = s .undefined;
     legs = s .legs;
     live = λ i h. live-more (omega (arith, n .number)) (le-refl _) (s .live i h);
@@ -319,6 +330,9 @@ sound-define b t s f two room =
       clock = s .clock;
       timer = s .timer;
       last = s .last;
+      national = s .national;
+      quoteRows = s .quoteRows;
+      range = s .range;
       undefined = λ k h. rw (getD-set-other (b .strategies) (b .defined) k t noStrategy (λ q. omega arith)) (s .undefined k (omega arith));
       legs = λ k h. ⊎-elim
           (λ q. rw (q, getD-set-same (b .strategies) (b .defined) t noStrategy (omega (arith, s .strategyRows))) two)
@@ -352,6 +366,9 @@ sound-set b t o s h k = record {
   clock = h;
   timer = s .timer;
   last = s .last;
+  national = s .national;
+  quoteRows = s .quoteRows;
+  range = s .range;
   undefined = s .undefined;
   legs = s .legs;
   live = λ i l. live-more (le-refl _) (le-refl _) (s .live i l);
@@ -362,6 +379,44 @@ sound-set b t o s h k = record {
   complexOrders = s .complexOrders;
   sweeps = s .sweeps;
 }
+
+-- The national prices and the range.
+
+sound-bounds : (b : State) (qs : List Quote) (r : ℕ) → Sound b → All FitQuote qs → length qs ≡ seriesCount → r ≤ 9999 → Sound (withRange (withNational b qs) r)
+unfolding withRange withNational
+sound-bounds b qs r s f n h = record {
+  strategies = s .strategies;
+  entries = s .entries;
+  orders = s .orders;
+  strategyRows = s .strategyRows;
+  entryRows = s .entryRows;
+  orderRows = s .orderRows;
+  defined = s .defined;
+  opened = s .opened;
+  clock = s .clock;
+  timer = s .timer;
+  last = s .last;
+  national = f;
+  quoteRows = n;
+  range = h;
+  undefined = s .undefined;
+  legs = s .legs;
+  live = λ i l. live-more (le-refl _) (le-refl _) (s .live i l);
+  liveOrder = λ i l. order-more (le-refl _) (s .liveOrder i l);
+  rising = s .rising;
+  risingOrders = s .risingOrders;
+  apart = s .apart;
+  complexOrders = s .complexOrders;
+  sweeps = s .sweeps;
+}
+
+pub sound-national : (b : State) (qs : List Quote) → Sound b → All FitQuote qs → length qs ≡ seriesCount → Sound (withNational b qs)
+unfolding withRange withNational
+sound-national b qs s f n = sound-bounds b qs (b .range) s f n (s .range)
+
+pub sound-range : (b : State) (r : ℕ) → Sound b → r ≤ 9999 → Sound (withRange b r)
+unfolding withRange withNational
+sound-range b r s h = sound-bounds b (b .national) r s (s .national) (s .quoteRows) h
 
 pub sound-clock : (b : State) (t : ℕ) → Sound b → t ≤ 86_400_000 → Sound (withClock b t)
 unfolding withClock withOpened
@@ -460,6 +515,9 @@ sound-shrinks {b} {c} h a s = record {
   clock = omega (arith, h .clock, s .clock);
   timer = (omega (arith, h .timer, s .timer .0), omega (arith, h .timer, s .timer .1));
   last = omega (arith, h .last, s .last);
+  national = rw (h .national) (s .national);
+  quoteRows = rw (h .national) (s .quoteRows);
+  range = rw (h .range) (s .range);
   undefined = λ k l.
       let u = s .undefined k (omega (arith, h .defined)) in
       (h .strategy k .count ∙ u .0, h .strategy k .series ∙ u .1, a .undefined k l);

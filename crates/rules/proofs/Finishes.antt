@@ -7,14 +7,15 @@ use native.Mathlib.Omega.{arith}
 use borrow.Author.Tests.{eqb-true, eq-eqb, ne-eqb, ltb-true, ltb-false, lt-ltb, leb-false, not-true, not-false}
 use lib.Dec.{eqb, ltb, leb}
 use lib.ListN.{length, List·getD-eq-default}
-use Rattle.base.specs.Pick.{pick, pick-true, pick-false, pick-by, pick-all, pick-yes, pick-no}
+use Rattle.base.specs.Pick.{pick, both, pick-true, pick-false, pick-by, pick-all, pick-yes, pick-no}
 use Rattle.base.specs.Walks.{sumN, sum-le, sum-mono, clash, lt-or-le, sum-zero, sum-one}
 use Rattle.rules.specs.declared.State.{State}
 use Rattle.rules.specs.State.{noOrder, entryAt, orderAt}
 use Rattle.rules.specs.Sides.{other, better}
 use Rattle.rules.specs.Moves.{Moved, still, each}
 use Rattle.rules.specs.Fills.{cut, cutLeg, wholeFill, legTrade}
-use Rattle.rules.specs.Auctions.{bestSlot, crossed, matchOnce, matchAll}
+use Rattle.rules.specs.National.{boundsAt, mayMeet}
+use Rattle.rules.specs.Auctions.{bestSlot, crossed, lowerOf, mayMatch, matchOnce, matchAll}
 use Rattle.rules.specs.Events.{bestOrder, tradeOnce, tradeAll}
 use Rattle.rules.proofs.Tables.{positive}
 use Rattle.rules.proofs.Shrinks.{Shrinks, shrinks-refl, cut-shrinks, cutLeg-shrinks, whole-shrinks, trade-shrinks, then-shrinks}
@@ -124,7 +125,7 @@ whole-finishes b a h level la lh sa sh =
 
 -- the two that cross are live
 abbrev meet : ℕ → State → Bool
-meet k b = crossed b (bestSlot b k 0) (bestSlot b k 1)
+meet k b = mayMatch b k (bestSlot b k 0) (bestSlot b k 1)
 
 pub record Crossing (b : State) (k : ℕ) : Type 0 where
   pub buy : Resting b k 0 (bestSlot b k 0)
@@ -135,7 +136,7 @@ pub record Crossing (b : State) (k : ℕ) : Type 0 where
 crossing : (k : ℕ) (b : State) → meet k b ≡ true → Crossing b k
 unfolding crossed
 crossing k b e =
-    let x = pick-yes (ltb (bestSlot b k 0) 32) e in
+    let x = pick-yes (ltb (bestSlot b k 0) 32) (pick-yes _ e .0) in
     let y = pick-yes (ltb (bestSlot b k 1) 32) (x .1) in
     let l : bestSlot b k 0 < 32 = ltb-true _ _ (x .0) in
     let m : bestSlot b k 1 < 32 = ltb-true _ _ (y .0) in
@@ -157,8 +158,8 @@ match-falls k i b e =
     (pick-all Slot _ (c .buySlot) (c .sellSlot)) (pick-all Slot _ (c .sellSlot) (c .buySlot)))
     (λ f. absurd (clash e f))
 
--- ".. while they meet": after the matches of a strategy its best buy and best sell do not
-pub match-ends : (k : ℕ) (b : State) → crossed (matchAll k b .state) (bestSlot (matchAll k b .state) k 0) (bestSlot (matchAll k b .state) k 1) ≡ false
+-- ".. while they meet" and may fill: after the matches of a strategy its best buy and best sell do not
+pub match-ends : (k : ℕ) (b : State) → mayMatch (matchAll k b .state) k (bestSlot (matchAll k b .state) k 0) (bestSlot (matchAll k b .state) k 1) ≡ false
 unfolding matchAll
 match-ends k b =
     not-true _ (each-ends (matchOnce k) (λ (c : State). not (meet k c)) entries
@@ -172,21 +173,38 @@ pub match-shrinks : (k : ℕ) (b : State) → Shrinks b (matchAll k b .state)
 unfolding matchAll
 match-shrinks k b = each-shrinks (matchOnce k) (once-shrinks k) 32 b
 
--- so that every buy left in the strategy is below every sell
-pub match-apart : (k : ℕ) (b : State) → length (b .entries) ≡ 32 → (i j : ℕ) → Resting (matchAll k b .state) k 0 i → Resting (matchAll k b .state) k 1 j
-    → entryAt (matchAll k b .state) i .level < entryAt (matchAll k b .state) j .level
-unfolding crossed better other pick
-match-apart k b n i j p q =
-    let c : State = matchAll k b .state in
-    let m : length (c .entries) ≡ 32 = match-shrinks k b .entryRows ∙ n in
-    let x = best-any c m k 0 i p in
-    let y = best-any c m k 1 j q in
-    let z : leb (entryAt c (bestSlot c k 1) .level) (entryAt c (bestSlot c k 0) .level) ≡ false =
-    sym (pick-true _ _ _ (lt-ltb _ _ (x .0)) ∙ pick-true _ _ _ (lt-ltb _ _ (y .0))) ∙ match-ends k b in
-    let u : entryAt c i .level ≤ entryAt c (bestSlot c k 0) .level = ltb-false _ _ (x .1) in
-    let v : entryAt c (bestSlot c k 1) .level ≤ entryAt c j .level = ltb-false _ _ (y .1) in
-    let w : entryAt c (bestSlot c k 0) .level < entryAt c (bestSlot c k 1) .level = leb-false _ _ z in
-    omega arith
+-- the match of strategy k stopped at a fill that a party may not take: the best buy and the best sell meet
+pub record Stopped (b : State) (k : ℕ) : Type 0 where
+  pub crossed : crossed b (bestSlot b k 0) (bestSlot b k 1) ≡ true
+  pub barred : mayMeet (boundsAt b k) (entryAt b (lowerOf b (bestSlot b k 0) (bestSlot b k 1)) .level) ≡ false
+
+-- else every buy left in the strategy is below every sell
+module _ (k : ℕ) (b : State) (n : length (b .entries) ≡ 32) where
+  apart : crossed (matchAll k b .state) (bestSlot (matchAll k b .state) k 0) (bestSlot (matchAll k b .state) k 1) ≡ false
+      → (i j : ℕ) → Resting (matchAll k b .state) k 0 i → Resting (matchAll k b .state) k 1 j → entryAt (matchAll k b .state) i .level < entryAt (matchAll k b .state) j .level
+  unfolding crossed better other pick
+  apart e i j p q =
+      let c : State = matchAll k b .state in
+      let m : length (c .entries) ≡ 32 = match-shrinks k b .entryRows ∙ n in
+      let x = best-any c m k 0 i p in
+      let y = best-any c m k 1 j q in
+      let z : leb (entryAt c (bestSlot c k 1) .level) (entryAt c (bestSlot c k 0) .level) ≡ false =
+      sym (pick-true _ _ _ (lt-ltb _ _ (x .0)) ∙ pick-true _ _ _ (lt-ltb _ _ (y .0))) ∙ e in
+      let u : entryAt c i .level ≤ entryAt c (bestSlot c k 0) .level = ltb-false _ _ (x .1) in
+      let v : entryAt c (bestSlot c k 1) .level ≤ entryAt c j .level = ltb-false _ _ (y .1) in
+      let w : entryAt c (bestSlot c k 0) .level < entryAt c (bestSlot c k 1) .level = leb-false _ _ z in
+      omega arith
+
+  pub match-apart : Stopped (matchAll k b .state) k
+      ⊎ ((i j : ℕ) → Resting (matchAll k b .state) k 0 i → Resting (matchAll k b .state) k 1 j → entryAt (matchAll k b .state) i .level < entryAt (matchAll k b .state) j .level)
+  match-apart = ⊎-elim (λ e. inl (record { crossed = e; barred = second _ e (match-ends k b) })) (λ e. inr (apart e)) (either-way _)
+    where
+      either-way : (t : Bool) → (t ≡ true) ⊎ (t ≡ false)
+      either-way true = inl refl
+      either-way false = inr refl
+
+      second : (t : Bool) {u : Bool} → t ≡ true → both t u ≡ false → u ≡ false
+      second t {u} e f = sym (pick-true t u false e) ∙ f
 
 -- A LEG TRADE finishes one of the two
 pub cutLeg-takes : (b : State) (i q : ℕ) → orderAt (cutLeg b i q) i .contracts ≤ orderAt b i .contracts - q

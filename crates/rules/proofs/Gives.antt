@@ -20,6 +20,8 @@ use Rattle.rules.specs.Moves.{Moved, still, and-then, each}
 use Rattle.rules.specs.Sides.{other, meets}
 use Rattle.rules.specs.Fills.{cutEntry, cut, wholeFill, cutOrder, cutLeg}
 use Rattle.rules.specs.Quotas.{inTurn, share}
+use Rattle.rules.specs.Nets.{netOf}
+use Rattle.rules.specs.National.{nationalNet, boundsOf, boundsAt, mayMeet}
 use Rattle.rules.specs.Passes.{opposes, within, holding, sizeAt, sizes, giveAt, give}
 use Rattle.rules.proofs.Tables.{positive}
 use Rattle.rules.proofs.Shrinks.{Shrinks, shrinks-refl, shrinks-trans, whole-shrinks, set-own}
@@ -134,18 +136,34 @@ holder e level g f =
     (λ l h. absurd (omega arith)))
     (λ o h. absurd (omega arith))
 
+-- WHAT A TURN SAYS of the level at which entry a fills: within its limit, and within the range
+pub record Lawful (b : State) (a level : ℕ) : Type 0 where
+  pub limit : meets (entryAt b a .side) (entryAt b a .level) level ≡ true
+  pub range : mayMeet (boundsAt b (entryAt b a .strategy)) level ≡ true
+
+-- what bounds the fills of a strategy is the same after a move
+pub bounds-same : {b c : State} → Shrinks b c → (k : ℕ) → boundsAt c k ≡ boundsAt b k
+unfolding boundsOf nationalNet netOf
+bounds-same h k = rw (h .strategy k .legs, h .strategy k .count, h .national, h .range)
+
+pub lawful-shrinks : {b c : State} {a level : ℕ} → Shrinks b c → Lawful b a level → Lawful c a level
+lawful-shrinks {b} {c} {a} {level} h l = record {
+  limit = rw (h .entry a .side, h .entry a .level) (l .limit);
+  range = rw (h .entry a .strategy, bounds-same h (entryAt b a .strategy)) (l .range);
+}
+
 -- QUOTAS FOR A GROUP: each within what its slot holds, all within the active entry's units, at a price that meets its limit
 pub record Quoted (b : State) (a level g : ℕ) (qs : List ℕ) : Type 0 where
   pub within : (i : ℕ) → i < 32 → slot qs i ≤ holding (entryAt b a) level g (entryAt b i)
   pub sum : sumN (slot qs) 32 ≤ entryAt b a .units
-  pub limit : meets (entryAt b a .side) (entryAt b a .level) level ≡ true
+  pub lawful : Lawful b a level
 
 pub sizes-at : (es : List Entry) (e : Entry) (level g i : ℕ) → i < 32 → slot (sizes es e level g) i ≡ holding e level g (getD es i noEntry)
 unfolding sizes
 sizes-at es e level g i h = table-slot (sizeAt es e level g) 0 32 i h
 
 -- by number and shared alike the quotas are so
-module _ (b : State) (a level g : ℕ) (m : meets (entryAt b a .side) (entryAt b a .level) level ≡ true) where
+module _ (b : State) (a level g : ℕ) (m : Lawful b a level) where
   quoted : {quotas : ℕ → List ℕ → List ℕ} → Divides quotas → Quoted b a level g (quotas (entryAt b a .units) (sizes (b .entries) (entryAt b a) level g))
   quoted d =
       let r : ℕ = entryAt b a .units in
@@ -153,7 +171,7 @@ module _ (b : State) (a level g : ℕ) (m : meets (entryAt b a .side) (entryAt b
       record {
         within = λ i l. rw (sizes-at (b .entries) (entryAt b a) level g i l) at (d .under r xs i);
         sum = omega (arith, d .sum r xs);
-        limit = m;
+        lawful = m;
       }
 
   pub inTurn-quoted : Quoted b a level g (inTurn (entryAt b a .units) (sizes (b .entries) (entryAt b a) level g))

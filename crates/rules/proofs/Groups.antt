@@ -22,14 +22,15 @@ use Rattle.rules.specs.Moves.{and-then, each}
 use Rattle.rules.specs.Sides.{other, meets, better, bestPrice}
 use Rattle.rules.specs.Quotas.{inTurnAt, inTurn, share}
 use Rattle.rules.specs.Fills.{takeLegs, legFill}
-use Rattle.rules.specs.Passes.{opposes, limitWith, limitStep, bestOpposite, groupOf, within, holding, sizes, giveInTurn, giveGroup, giveShared, meetLimit, opposite, turnAt, turnOf, takeTurn, turn, pass}
+use Rattle.rules.specs.National.{boundsAt}
+use Rattle.rules.specs.Passes.{opposes, limitWith, limitStep, bestOpposite, groupOf, within, holding, sizes, giveInTurn, giveGroup, giveShared, meetLimit, readyNet, opposite, turnAt, allowed, turnOf, takeTurn, turn, pass}
 use Rattle.rules.specs.Valid.{Sound}
 use Rattle.rules.specs.Sentences.{Customer, SweepOrMaker, Dealer, Beside, BetterLimit, AheadShared, better-limit, customer-before-maker, customer-before-dealer, maker-before-dealer, customers-by-number, AheadNumbered, NonePassed, got, SharedFairly}
 use Rattle.rules.proofs.Turns.{sum-less}
 use Rattle.rules.proofs.Shrinks.{SameEntry, Shrinks, shrinks-refl, shrinks-trans}
 use Rattle.rules.proofs.Sharing.{share-fair, share-earlier}
 use Rattle.rules.proofs.Quotas.{Divides, inTurn-divides, share-divides}
-use Rattle.rules.proofs.Gives.{cut-other, opposed, opposed-apart, holder, sizes-at, Quoted, inTurn-quoted, share-quoted, Given}
+use Rattle.rules.proofs.Gives.{Lawful, lawful-shrinks, cut-other, opposed, opposed-apart, holder, sizes-at, Quoted, inTurn-quoted, share-quoted, Given}
 use Rattle.rules.proofs.Firsts.{live-slot, by-number, better-turn, better-past, better-alike}
 use Rattle.rules.proofs.Tables.{positive}
 use Rattle.rules.proofs.Control.{sum-part, opposes-is, turn-kept, each-kept, shrinks-kept, inTurn-given, group-given}
@@ -85,7 +86,7 @@ holding-in e f level g =
     let none : P 0 = λ h. absurd (omega arith) in
     pick-all P _ (pick-all P _ (pick-by P (within g f) (λ w _. w) (λ _. none)) none) none
 
-module _ {quotas : ℕ → List ℕ → List ℕ} (d : Divides quotas) (b : State) (rows : length (b .entries) ≡ 32) (a level g : ℕ) (m : meets (entryAt b a .side) (entryAt b a .level) level ≡ true) (c : State)
+module _ {quotas : ℕ → List ℕ → List ℕ} (d : Divides quotas) (b : State) (rows : length (b .entries) ≡ 32) (a level g : ℕ) (m : Lawful b a level) (c : State)
     (q : Quoted b a level g (quotas (entryAt b a .units) (sizes (b .entries) (entryAt b a) level g)))
     (v : Given b a (quotas (entryAt b a .units) (sizes (b .entries) (entryAt b a) level g)) 32 c) where
   abbrev held : List ℕ
@@ -125,7 +126,7 @@ record Step (b : State) (a level g : ℕ) (c : State) : Type 0 where
   met : (j : ℕ) → (j ≡ a → ⊥) → entryAt c j .units < entryAt b j .units → Met b a level g j
   emptied : (i : ℕ) → 0 < entryAt c a .units → opposes (entryAt b a) (entryAt b i) ≡ true → entryAt b i .level ≡ level → within g (entryAt b i) ≡ true → entryAt c i .units ≡ 0
 
-module _ (a level g : ℕ) (b : State) (rows : length (b .entries) ≡ 32) (m : meets (entryAt b a .side) (entryAt b a .level) level ≡ true) where
+module _ (a level g : ℕ) (b : State) (rows : length (b .entries) ≡ 32) (m : Lawful b a level) where
   turn-step : Step b a level g (giveInTurn a level g b .state)
   turn-step =
       let v = inTurn-given a level g b m in
@@ -169,9 +170,6 @@ group-same : {e f : Entry} → SameEntry e f → groupOf f ≡ groupOf e
 unfolding groupOf
 group-same h = rw (h .life, h .class)
 
-still-meets : {b c : State} (a level : ℕ) → Shrinks b c → meets (entryAt b a .side) (entryAt b a .level) level ≡ true → meets (entryAt c a .side) (entryAt c a .level) level ≡ true
-still-meets a level s m = rw (s .entry a .side, s .entry a .level) m
-
 -- who stands beside a holder opposes the active one too, if it lives
 also-opposes : {x z : State} (a i j : ℕ) → Shrinks x z → opposes (entryAt z a) (entryAt z j) ≡ true → Together (entryAt x i) (entryAt x j) → 0 < entryAt x i .units → opposes (entryAt x a) (entryAt x i) ≡ true
 also-opposes {x} {z} a i j s o t l =
@@ -199,7 +197,7 @@ beside-same s i j t = record {
   limit = s .entry j .level ∙ t .limit ∙ sym (s .entry i .level);
 }
 
-module _ (a level : ℕ) (b : State) (rows : length (b .entries) ≡ 32) (m : meets (entryAt b a .side) (entryAt b a .level) level ≡ true) where
+module _ (a level : ℕ) (b : State) (rows : length (b .entries) ≡ 32) (m : Lawful b a level) where
   abbrev one : State
   one = giveInTurn a level 0 b .state
 
@@ -213,13 +211,13 @@ module _ (a level : ℕ) (b : State) (rows : length (b .entries) ≡ 32) (m : me
   step-one = turn-step a level 0 b rows m
 
   step-two : Step one a level 1 two
-  step-two = group-step a level 1 one (step-one .shrinks .entryRows ∙ rows) (still-meets a level (step-one .shrinks) m)
+  step-two = group-step a level 1 one (step-one .shrinks .entryRows ∙ rows) (lawful-shrinks (step-one .shrinks) m)
 
   from-two : Shrinks b two
   from-two = shrinks-trans (step-one .shrinks) (step-two .shrinks)
 
   step-three : Step two a level 2 three
-  step-three = group-step a level 2 two (from-two .entryRows ∙ rows) (still-meets a level from-two m)
+  step-three = group-step a level 2 two (from-two .entryRows ∙ rows) (lawful-shrinks from-two m)
 
   shared-shrinks : Shrinks b three
   shared-shrinks = shrinks-trans from-two (step-three .shrinks)
@@ -377,7 +375,7 @@ best-met a b r i j t h o l =
     (λ (u : entryAt b i .units ≤ 0). omega arith)
     (lt-or-le 0 (entryAt b i .units))
 
-module _ (a : ℕ) (b : State) (r : Ready b) (m : meets (entryAt b a .side) (entryAt b a .level) (bestOpposite (b .entries) (entryAt b a)) ≡ true) where
+module _ (a : ℕ) (b : State) (r : Ready b) (m : Lawful b a (bestOpposite (b .entries) (entryAt b a))) where
   abbrev level : ℕ
   level = bestOpposite (b .entries) (entryAt b a)
 
@@ -472,15 +470,17 @@ beside-less s i j t = record {
 abbrev AtBest : Allocation → State → ℕ → Turn → Type 0
 AtBest way b a Stop = Unit {0}
 AtBest way b a ByLegs = Unit {0}
-AtBest way b a (AtLimit x) = (x ≡ opposite way a b) × (meets (entryAt b a .side) (entryAt b a .level) x ≡ true)
+AtBest way b a (AtLimit x) = (x ≡ opposite way a b) × Lawful b a x
 
 turn-best : (way : Allocation) (legs : Bool) (a : ℕ) (b : State) → AtBest way b a (turnOf way legs a b)
-unfolding turnOf turnAt
+unfolding turnOf turnAt allowed
 turn-best way legs a b =
     let e : Entry = entryAt b a in
     let x : ℕ = opposite way a b in
-    let P : Turn → Type 0 = AtBest way b a in
-    pick-all P _ tt (pick-all P _ (pick-all P _ tt tt) (pick-all P _ tt (pick-by P (meets (e .side) (e .level) x) (λ m. (refl, m)) (λ _. tt))))
+    let Q : Turn → Type 0 = AtBest way b a in
+    let P : Turn → Type 0 = λ (t : Turn). Q (allowed (boundsAt b (e .strategy)) (e .side) (readyNet legs a b) t) in
+    pick-all P _ tt (pick-all P _ (pick-all P _ (pick-all Q _ tt tt) tt) (pick-all P _ tt
+    (pick-by P (meets (e .side) (e .level) x) (λ m. pick-by Q _ (λ g. (refl, record { limit = m; range = g })) (λ _. tt)) (λ _. tt))))
 
 module _ (A : Entry → Entry → Type 0) (static : Static A) (a : ℕ) where
   pub none-refl : (b : State) → NonePassed A a b b
@@ -497,7 +497,7 @@ module _ (A : Entry → Entry → Type 0) (static : Static A) (a : ℕ) where
       y i j n (beside-less s i j t) (static (entryAt b i) (entryAt c i) (entryAt b j) (entryAt c j) (s .entry i) (s .entry j) h) (omega arith))
       (lt-or-le (entryAt c j .units) (entryAt b j .units))
 
-  module _ (way : Allocation) (at-best : (b : State) → Ready b → meets (entryAt b a .side) (entryAt b a .level) (opposite way a b) ≡ true → NonePassed A a b (meetLimit way a (opposite way a b) b .state)) where
+  module _ (way : Allocation) (at-best : (b : State) → Ready b → Lawful b a (opposite way a b) → NonePassed A a b (meetLimit way a (opposite way a b) b .state)) where
     take-none : (t : Turn) (b : State) → Ready b → AtBest way b a t → NonePassed A a b (takeTurn way a t b .state)
     unfolding takeTurn
     take-none Stop b r f = none-refl b
@@ -533,7 +533,7 @@ numbered-pass legs a b v = turns-none AheadNumbered numbered-static a Numbered (
 together-turn : {e f : Entry} → Together e f → Together f e
 together-turn t = record { strategy = sym (t .strategy); side = sym (t .side); limit = sym (t .limit) }
 
-module _ (a level g : ℕ) (b : State) (rows : length (b .entries) ≡ 32) (m : meets (entryAt b a .side) (entryAt b a .level) level ≡ true) where
+module _ (a level g : ℕ) (b : State) (rows : length (b .entries) ≡ 32) (m : Lawful b a level) where
   abbrev after : State
   after = giveGroup a level g b .state
 
@@ -605,7 +605,7 @@ step-leaves {x} {y} a level g j low s n d = ⊎-elim
     (λ (l : entryAt x j .units ≤ entryAt y j .units). omega (arith, s .shrinks .entry j .units))
     (lt-or-le (entryAt y j .units) (entryAt x j .units))
 
-module _ (a level : ℕ) (b : State) (rows : length (b .entries) ≡ 32) (m : meets (entryAt b a .side) (entryAt b a .level) level ≡ true) where
+module _ (a level : ℕ) (b : State) (rows : length (b .entries) ≡ 32) (m : Lawful b a level) where
   abbrev c1 : State
   c1 = one a level b rows m
 
@@ -647,11 +647,11 @@ module _ (a level : ℕ) (b : State) (rows : length (b .entries) ≡ 32) (m : me
     in-two : (k : ℕ) → groupOf (entryAt b k) ≡ 2 → within 2 (entryAt c2 k) ≡ true
     in-two k g = group-in (entryAt c2 k) 2 (omega arith) (group-same (s12 .entry k) ∙ g)
 
-    m1 : meets (entryAt c1 a .side) (entryAt c1 a .level) level ≡ true
-    m1 = still-meets a level (s1 .shrinks) m
+    m1 : Lawful c1 a level
+    m1 = lawful-shrinks (s1 .shrinks) m
 
-    m2 : meets (entryAt c2 a .side) (entryAt c2 a .level) level ≡ true
-    m2 = still-meets a level s12 m
+    m2 : Lawful c2 a level
+    m2 = lawful-shrinks s12 m
 
     fair-one : groupOf (entryAt b i) ≡ 1 → groupOf (entryAt b j) ≡ 1 → got b c3 i * entryAt b j .units < got b c3 j * entryAt b i .units + entryAt b i .units + entryAt b j .units
     fair-one gi gj =
@@ -682,7 +682,7 @@ module _ (a level : ℕ) (b : State) (rows : length (b .entries) ≡ 32) (m : me
         omega (arith, ui, uj)
 
 -- at one limit the second and the third group are shared
-pub shared-fairly : (a level : ℕ) (b : State) → Sound b → meets (entryAt b a .side) (entryAt b a .level) level ≡ true → SharedFairly a b (giveShared a level b .state)
+pub shared-fairly : (a level : ℕ) (b : State) → Sound b → Lawful b a level → SharedFairly a b (giveShared a level b .state)
 unfolding giveShared and-then
 shared-fairly a level b v m = record {
   bySize = λ i j ni nj t l g li lj. ⊎-elim

@@ -9,7 +9,7 @@ use native.Mathlib.Omega.{arith}
 use borrow.Author.Tests.{eqb-true, eq-eqb, ne-eqb}
 use lib.Dec.{eqb}
 use lib.ListN.{length}
-use Rattle.base.specs.Pick.{pick, pick-all, pick-by, pick-true, pick-false}
+use Rattle.base.specs.Pick.{pick, both, pick-all, pick-by, pick-true, pick-false}
 use Rattle.base.specs.Walks.{sumN, below, sum-zero, sum-same}
 use Rattle.rules.specs.declared.Leg.{Leg}
 use Rattle.rules.specs.declared.Strategy.{Strategy}
@@ -77,7 +77,7 @@ unfoldable pub ratioFor : Strategy → ℕ → ℕ
 ratioFor st s = sumN (ratioAt st s) (st .count)
 
 -- the units of a number, the contracts of a number, no record of an entry or of a leg order of a number, a series bought and sold, cash,
--- the leg fills of a number in a series, the limit of a number, the price of a number
+-- the leg fills of a number in a series, the limit of a number, the strategy and side of a number, the price of a number
 pub data Law : Type 0 where
   ofUnits : ℕ → Law
   ofContracts : ℕ → Law
@@ -87,6 +87,7 @@ pub data Law : Type 0 where
   ofCash : Law
   ofRatio : (n s x : ℕ) → Law
   ofLimit : (n side limit : ℕ) → Law
+  ofParty : (n strategy side : ℕ) → Law
   ofPrice : (n side price : ℕ) → Law
 
 -- what a law measures: by its number where it is of units or of contracts, nothing else
@@ -99,6 +100,7 @@ measure (ofSeries s) u c = 0
 measure ofCash u c = 0
 measure (ofRatio n s x) u c = 0
 measure (ofLimit n side limit) u c = 0
+measure (ofParty n k side) u c = 0
 measure (ofPrice n side price) u c = 0
 
 -- what holds of the quantities of every number, and of nothing, holds of what a law measures
@@ -112,6 +114,7 @@ measure-by R z (ofSeries s) h k = z
 measure-by R z ofCash h k = z
 measure-by R z (ofRatio n s x) h k = z
 measure-by R z (ofLimit n side limit) h k = z
+measure-by R z (ofParty n x side) h k = z
 measure-by R z (ofPrice n side price) h k = z
 
 abbrev pub size : Law → State → ℕ
@@ -126,6 +129,7 @@ come (ofSeries s) r = onLegs (r .kind) (ifSame (r .place) s (ifSame (r .side) 0 
 come ofCash r = onFill (r .kind) (ifSame (r .side) 0 (r .quantity * r .level) + ifSame (r .side) 1 (r .quantity * 10_000_000))
 come (ofRatio n s x) r = onPart (r .kind) (ifSame (r .number) n (ifSame (r .place) s (r .quantity)))
 come (ofLimit n side limit) r = onWhole (r .kind) (ifSame (r .number) n (pick (meets side limit (r .level)) 0 1))
+come (ofParty n k side) r = onWhole (r .kind) (ifSame (r .number) n (pick (both (eqb (r .place) k) (eqb (r .side) side)) 0 1))
 come (ofPrice n side price) r = onTraded (r .kind) (ifSame (r .number) n (pick (meets side (10_000_000 + price) (r .level)) 0 1))
 
 abbrev pub gone : Law → Record → ℕ
@@ -137,6 +141,7 @@ gone (ofSeries s) r = onLegs (r .kind) (ifSame (r .place) s (ifSame (r .side) 1 
 gone ofCash r = onFill (r .kind) (ifSame (r .side) 0 (r .quantity * 10_000_000) + ifSame (r .side) 1 (r .quantity * r .level))
 gone (ofRatio n s x) r = onWhole (r .kind) (ifSame (r .number) n (x * r .quantity))
 gone (ofLimit n side limit) r = 0
+gone (ofParty n k side) r = 0
 gone (ofPrice n side price) r = 0
 
 -- what a law asks of an entry and of a leg order that live
@@ -149,6 +154,7 @@ FitsEntry (ofSeries s) b e = Unit {0}
 FitsEntry ofCash b e = Unit {0}
 FitsEntry (ofRatio n s x) b e = e .number ≡ n → ratioFor (strategyAt b (e .strategy)) s ≡ x
 FitsEntry (ofLimit n side limit) b e = e .number ≡ n → (e .side ≡ side) × (e .level ≡ limit)
+FitsEntry (ofParty n k side) b e = e .number ≡ n → (e .strategy ≡ k) × (e .side ≡ side)
 FitsEntry (ofPrice n side price) b e = Unit {0}
 
 abbrev pub FitsOrder : Law → LegOrder → Type 0
@@ -160,6 +166,7 @@ FitsOrder (ofSeries s) o = Unit {0}
 FitsOrder ofCash o = Unit {0}
 FitsOrder (ofRatio n s x) o = Unit {0}
 FitsOrder (ofLimit n side limit) o = Unit {0}
+FitsOrder (ofParty n k side) o = Unit {0}
 FitsOrder (ofPrice n side price) o = o .number ≡ n → (o .side ≡ side) × (o .price ≡ price)
 
 pub record Good (l : Law) (b : State) : Type 0 where
@@ -207,6 +214,7 @@ fits-same (ofRatio n s x) {b} {c} h {e} {f} k g = λ i.
     ∙ ratio-same (strategyAt b (e .strategy)) (strategyAt c (e .strategy)) (h .strategy (e .strategy) .legs) (h .strategy (e .strategy) .count) s
     ∙ g (sym (k .number) ∙ i)
 fits-same (ofLimit n side limit) h k g = λ i. let r = g (sym (k .number) ∙ i) in (k .side ∙ r .0, k .level ∙ r .1)
+fits-same (ofParty n x side) h k g = λ i. let r = g (sym (k .number) ∙ i) in (k .strategy ∙ r .0, k .side ∙ r .1)
 fits-same (ofPrice n side price) h k g = tt
 
 fits-same-order : (l : Law) {o p : LegOrder} → SameOrder o p → FitsOrder l o → FitsOrder l p
@@ -218,6 +226,7 @@ fits-same-order (ofSeries s) k g = tt
 fits-same-order ofCash k g = tt
 fits-same-order (ofRatio n s x) k g = tt
 fits-same-order (ofLimit n side limit) k g = tt
+fits-same-order (ofParty n x side) k g = tt
 fits-same-order (ofPrice n side price) k g = λ i. let r = g (sym (k .number) ∙ i) in (k .side ∙ r .0, k .price ∙ r .1)
 
 pub good-shrinks : (l : Law) {b c : State} → Shrinks b c → Good l b → Good l c
@@ -327,3 +336,10 @@ even x c h = ⊎-elim (λ (e : x ≡ 0). rw (e, other-buy) (omega arith)) (λ (e
 pub even-cash : (x u v : ℕ) → x ≤ 1 → ifSame x 0 u + ifSame x 1 v + (ifSame (other x) 0 u + ifSame (other x) 1 v) ≡ ifSame x 0 v + ifSame x 1 u + (ifSame (other x) 0 v + ifSame (other x) 1 u)
 unfolding pick
 even-cash x u v h = ⊎-elim (λ (e : x ≡ 0). rw (e, other-buy) (omega arith)) (λ (e : x ≡ 1). rw (e, other-sell) (omega arith)) (side-is x h)
+
+-- a whole fill of a number that shows its strategy and side
+pub own-party : (m n k side place on : ℕ) → (m ≡ n → (place ≡ k) × (on ≡ side)) → ifSame m n (pick (both (eqb place k) (eqb on side)) 0 1) ≡ 0
+own-party m n k side place on h =
+    pick-by (λ (x : ℕ). x ≡ 0) (eqb m n)
+    (λ e. let p = h (eqb-true m n e) in pick-true _ _ _ (pick-true _ _ _ (eq-eqb place k (p .0)) ∙ eq-eqb on side (p .1)))
+    (λ _. refl)

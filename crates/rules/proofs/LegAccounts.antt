@@ -19,7 +19,7 @@ use Rattle.rules.specs.declared.State.{State}
 use Rattle.rules.specs.declared.Record.{Record}
 use Rattle.rules.specs.State.{noLeg, noOrder, entryAt, orderAt, strategyOf, legAt, withOrders}
 use Rattle.rules.specs.Moves.{Moved}
-use Rattle.rules.specs.Sides.{other, legSide, meets}
+use Rattle.rules.specs.Sides.{other, legSide}
 use Rattle.rules.specs.Nets.{stands, lot, lotAt, lots, known, weight, weightAt, weighed, netOf, legUnits, unitsStep, unitsOf}
 use Rattle.rules.specs.Fills.{wholeRecord, legRecord, partyRecords, cutOrder, cut, legQuotas, orderRecord, orderRow, orderRows, cutAt, cutOrders, takesAt, orderRecordsAt, cutByLegs, takeLegs, legFill}
 use Rattle.rules.specs.Totals.{ifSame}
@@ -27,7 +27,7 @@ use Rattle.rules.proofs.Shrinks.{takeLegs-shrinks}
 use Rattle.rules.proofs.Quotas.{inTurn-under, inTurn-sum}
 use Rattle.rules.proofs.Control.{Standing, standing, meets-self, Legged, pricesFor, unitsFor, legged-mine}
 use Rattle.rules.proofs.Tables.{tally, tally-append, tally-join, positive}
-use Rattle.rules.proofs.Laws.{Law, ofUnits, ofContracts, noEntries, noOrders, ofSeries, ofCash, ofRatio, ofLimit, ofPrice, size, come, gone, Good, Steady, Acct, ratioFor, pick-none, when-no, when-same, pick-plus, pick-sub, sum-pick, side-is, leg-side, even}
+use Rattle.rules.proofs.Laws.{Law, ofUnits, ofContracts, noEntries, noOrders, ofSeries, ofCash, ofRatio, ofLimit, ofParty, ofPrice, own-party, size, come, gone, Good, Steady, Acct, ratioFor, pick-none, when-no, when-same, pick-plus, pick-sub, sum-pick, side-is, leg-side, even}
 use Rattle.rules.proofs.Accounts.{cut-units, partAt, party-tally, parts-none, parts-ratio, not-worse}
 
 -- WHAT A LEG ORDER HOLDS for a leg at a price: all its contracts, where it stands in the leg's series on the other side at that price
@@ -447,6 +447,13 @@ module _ (b : State) (a : ℕ) (st : Steady b) (legged : Legged b a) where
         wholly (come (ofLimit n side limit)) (λ p l. refl) (λ o x p. refl),
         wholly (gone (ofLimit n side limit)) (λ p l. refl) (λ o x p. refl),
         not-worse (e .number) n side limit (netOf s ps) (λ k. rw (← (g .entry a (legged .live) k .0), ← (g .entry a (legged .live) k .1)) (legged .meets)),
+      )
+  taken-law (ofParty n k side) g =
+      omega (
+        arith,
+        wholly (come (ofParty n k side)) (λ p l. refl) (λ o x p. refl),
+        wholly (gone (ofParty n k side)) (λ p l. refl) (λ o x p. refl),
+        own-party (e .number) n k side (e .strategy) (e .side) (g .entry a (legged .live)),
       )
   taken-law (ofPrice n side price) g =
       omega (arith, ones (come (ofPrice n side price)) (λ p l. refl), not-worse-orders n side price g, wholly (gone (ofPrice n side price)) (λ p l. refl) (λ o x p. refl))

@@ -2,9 +2,9 @@
 -- only."
 use mathlib.Core.Path.{_≡_, refl, sym, _∙_, ap}
 use mathlib.Core.Bool.{Bool, true, false, not}
-use mathlib.Core.Logic.{_⊎_, inl, inr, ⊎-elim}
+use mathlib.Core.Logic.{inl, inr, ⊎-elim}
 use mathlib.Core.List.{List, _++_, append-nil}
-use Prim.Native.Nat.{ℕ, zero, suc, _+_, _≤_, _<_, min}
+use Prim.Native.Nat.{ℕ, zero, suc, _≤_, _<_, min}
 use native.Mathlib.Omega.{arith}
 use borrow.Author.Tests.{eqb-true, eq-eqb, ne-eqb, ltb-true, not-false}
 use lib.ListN.{length}
@@ -24,7 +24,7 @@ use Rattle.rules.specs.State.{noOrder, entryAt, orderAt, strategyAt, wit
 use Rattle.rules.specs.Moves.{Moved, still, and-then, each}
 use Rattle.rules.specs.Strategies.{shutSet, allOpen, holds}
 use Rattle.rules.specs.Fills.{cutLeg, legTrade}
-use Rattle.rules.specs.Passes.{meetLimit, takeTurn, turn, pass}
+use Rattle.rules.specs.Passes.{opposite, meetLimit, takeTurn, turn, pass}
 use Rattle.rules.specs.Auctions.{liveIn, running, dayOrder, legPass, legPassesIn, legPasses}
 use Rattle.rules.specs.Events.{liveOrder, enterOrder, freeOrderSlot, bestOrder, tradeOnce, tradeAll, ifRests, onLegOrder}
 use Rattle.rules.specs.Given.{legOrderGiven}
@@ -131,7 +131,7 @@ gets-quiet {b} {c} s i q e g =
 module _ (s i : ℕ) where
   -- the state after its own pass, in a state c in which it gets one
   own-pass : (c : State) → length (c .orders) ≡ 32 → GetsPass c s i → HadPass c (legPass (entryAt c i .strategy) i c .state) i
-  unfolding legPass dayOrder
+  unfolding legPass dayOrder opposite
   own-pass c m g =
       let k : ℕ = entryAt c i .strategy in
       let d : State = pass LegsOnly true i c .state in
@@ -141,7 +141,7 @@ module _ (s i : ℕ) where
         moment = d;
         since = h;
         until = shrinks-refl d;
-        done = ⊎-elim inl (λ n. inr (rw (h .entry i .side, h .entry i .level) at (n .legs))) (pass-why LegsOnly true i c);
+        done = ⊎-elim inl (λ r. inr (⊎-elim (λ n. inl (n .legs)) inr r)) (pass-why LegsOnly true i c);
       })
 
   -- a pass that was had is had from an earlier state to a later one
@@ -150,7 +150,7 @@ module _ (s i : ℕ) where
     moment = p .moment;
     since = shrinks-trans h (p .since);
     until = shrinks-trans (p .until) k;
-    done = rw (h .entry i .side, h .entry i .level) at (p .done);
+    done = p .done;
   }
 
   -- the passes of other slots leave its entry

@@ -6,7 +6,7 @@ use native.Mathlib.Nat.{mul-add}
 use native.Mathlib.Omega.{arith}
 use borrow.Author.Tests.{ltb-true, ltb-false, lt-ltb, le-ltb}
 use lib.Dec.{ltb, le→leb}
-use lib.IntN.{ℤ, pos, negsuc, negℤ, subℕ, _+ℤ_, _*ℤ_}
+use lib.IntN.{ℤ, pos, negsuc, negℤ, subℕ, _+ℤ_, _-ℤ_, _*ℤ_}
 use lib.Signed.{_≤ℤ_}
 use Rattle.rules.specs.Records.{cents}
 
@@ -33,7 +33,7 @@ sub-same a b c d e =
 pub sub-pos : (m : ℕ) → pos m ≡ subℕ m 0
 sub-pos m = ap pos (let q : m ≡ m - 0 = omega arith in q) ∙ sym (sub-ge m 0 (omega arith))
 
-sub-neg : (m : ℕ) → negℤ (pos m) ≡ subℕ 0 m
+pub sub-neg : (m : ℕ) → negℤ (pos m) ≡ subℕ 0 m
 sub-neg zero = refl
 sub-neg (suc m) = ap negsuc (let q : m ≡ suc m - 1 = omega arith in q) ∙ sym (sub-lt 0 (suc m) (omega arith))
 
@@ -76,3 +76,26 @@ cents-le x y h = rw (cents-is x, cents-is y) (sub-le x y 10_000_000 h)
 -- a price's level
 pub cents-price : (p : ℕ) → cents (10_000_000 + p) ≡ pos p
 cents-price p = cents-is (10_000_000 + p) ∙ sub-same (10_000_000 + p) 10_000_000 p 0 (omega arith) ∙ sym (sub-pos p)
+
+-- a level and so many cents more
+pub cents-plus : (x r : ℕ) → cents x +ℤ pos r ≡ cents (x + r)
+cents-plus x r =
+    ap (λ (z : ℤ). z +ℤ pos r) (cents-is x) ∙ ap (λ (z : ℤ). subℕ x 10_000_000 +ℤ z) (sub-pos r) ∙ sub-plus x 10_000_000 r 0
+    ∙ sub-same (x + r) (10_000_000 + 0) (x + r) 10_000_000 (omega arith) ∙ sym (cents-is (x + r))
+
+-- .. or less
+pub cents-less : (x r y : ℕ) → x ≤ y + r → (cents x -ℤ pos r) ≤ℤ cents y
+cents-less x r y h =
+    let left : cents x -ℤ pos r ≡ subℕ x (10_000_000 + r) =
+    ap (λ (z : ℤ). z +ℤ negℤ (pos r)) (cents-is x) ∙ ap (λ (z : ℤ). subℕ x 10_000_000 +ℤ z) (sub-neg r) ∙ sub-plus x 10_000_000 0 r
+    ∙ sub-same (x + 0) (10_000_000 + r) x (10_000_000 + r) (omega arith) in
+    let right : cents y ≡ subℕ (y + r) (10_000_000 + r) = cents-is y ∙ sub-same y 10_000_000 (y + r) (10_000_000 + r) (omega arith) in
+    rw (left, right) (sub-le x (y + r) (10_000_000 + r) h)
+
+pub cents-below : (x r y : ℕ) → y + r ≤ x → cents y ≤ℤ (cents x -ℤ pos r)
+cents-below x r y h =
+    let right : cents x -ℤ pos r ≡ subℕ x (10_000_000 + r) =
+    ap (λ (z : ℤ). z +ℤ negℤ (pos r)) (cents-is x) ∙ ap (λ (z : ℤ). subℕ x 10_000_000 +ℤ z) (sub-neg r) ∙ sub-plus x 10_000_000 0 r
+    ∙ sub-same (x + 0) (10_000_000 + r) x (10_000_000 + r) (omega arith) in
+    let left : cents y ≡ subℕ (y + r) (10_000_000 + r) = cents-is y ∙ sub-same y 10_000_000 (y + r) (10_000_000 + r) (omega arith) in
+    rw (left, right) (sub-le (y + r) x (10_000_000 + r) h)

@@ -34,6 +34,10 @@ pub mod Levels
 pub mod Paper
 pub mod Ratios
 pub mod Origins
+pub mod InRange
+pub mod Known
+pub mod NetsSaid
+pub mod Barred
 pub mod Totals
 pub mod Sample
 pub mod WholeFills
@@ -51,6 +55,8 @@ pub mod Openings
 pub mod Matching
 pub mod LastRecords
 pub mod Definitions
+pub mod Nationals
 pub mod Sentences
 pub mod Causes
 pub mod Choices
+pub mod TurnLevels

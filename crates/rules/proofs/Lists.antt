@@ -1,8 +1,8 @@
 -- One event, accepted or refused, and then a list of them: what entered and came is what went and is there at the end.
 use mathlib.Core.Path.{_≡_, refl, sym, _∙_, ap, subst}
 use mathlib.Core.Bool.{Bool, true, false}
-use mathlib.Core.List.{List, [], _∷_, _++_, map}
-use Prim.Native.Nat.{ℕ, _+_, _-_, _≤_}
+use mathlib.Core.List.{List, [], _∷_, _++_, map, List·Memᴰ, Memᴰ·append-left, Memᴰ·append-right}
+use Prim.Native.Nat.{ℕ, _+_, _≤_}
 use native.Mathlib.Omega.{arith}
 use borrow.Author.Tests.{eqb-true, eqb-false, eq-eqb, ne-eqb}
 use lib.Dec.{eqb, ltb}
@@ -15,7 +15,6 @@ use Rattle.events.specs.declared.Reading.{Reading}
 use Rattle.events.specs.declared.Reading.the-variants as R
 use Rattle.events.specs.declared.Sweep.{Sweep as GivenSweep}
 use Rattle.frames.specs.Frames.{readOf}
-use Rattle.rules.specs.declared.LegOrder.{LegOrder}
 use Rattle.rules.specs.declared.State.{State}
 use Rattle.rules.specs.declared.Record.{Record}
 use Rattle.rules.specs.Moves.{still}
@@ -123,6 +122,8 @@ enters-row b (E.Cancel e) = pick-all (λ (w : Brought). w ≡ nothing) _ refl re
 enters-row b (E.Series e) = pick-all (λ (w : Brought). w ≡ nothing) _ refl refl
 enters-row b (E.Clock e) = pick-all (λ (w : Brought). w ≡ nothing) _ refl refl
 enters-row b (E.DayEnd e) = pick-all (λ (w : Brought). w ≡ nothing) _ refl refl
+enters-row b (E.National e) = pick-all (λ (w : Brought). w ≡ nothing) _ refl refl
+enters-row b (E.Range e) = pick-all (λ (w : Brought). w ≡ nothing) _ refl refl
 
 brought-refused : (b : State) (x : Sent) (n : ℕ) → (n ≡ 0 → ⊥) → outcome b x ≡ refused n b → brought (logOf x (outcome b x)) ≡ nothing
 unfolding brought refused
@@ -204,6 +205,39 @@ pub run-append : (b : State) (xs ys : List Sent) → run b (xs ++ ys) ≡ run b 
 unfolding run after
 run-append b [] ys = refl
 run-append b (x ∷ xs) ys = ap (λ (l : List Logged). logOf x (outcome b x) ∷ l) (run-append (next b x) xs ys)
+
+-- the records of one of its events
+pub records-of : (b : State) (xs : List Sent) (y : Sent) (ys : List Sent) (r : Record) → List·Memᴰ r (outcome (after b xs) y .moved .records) → List·Memᴰ r (recordsOf b (xs ++ (y ∷ ys)))
+unfolding recordsOf after
+records-of b [] y ys r m = Memᴰ·append-left (recordsOf (next b y) ys) m
+records-of b (x ∷ xs) y ys r m = Memᴰ·append-right (outcome b x .moved .records) (records-of (next b x) xs y ys r m)
+
+-- a log in two parts is that of a list in two parts
+pub record Divided (b : State) (xs : List Sent) (before : List Logged) (x : Logged) : Type 0 where
+  pub prefix : List Sent
+  pub event : Sent
+  pub suffix : List Sent
+  pub is : xs ≡ prefix ++ (event ∷ suffix)
+  pub earlier : before ≡ run b prefix
+  pub here : x ≡ logOf event (outcome (after b prefix) event)
+
+pub run-divided : (b : State) (xs : List Sent) (before : List Logged) (x : Logged) (behind : List Logged) → run b xs ≡ before ++ (x ∷ behind) → Divided b xs before x
+unfolding run after
+run-divided b [] [] x behind e = absurd (let z : _≡_ {A = ℕ} 0 1 = cc in omega arith)
+run-divided b [] (y ∷ before) x behind e = absurd (let z : _≡_ {A = ℕ} 0 1 = cc in omega arith)
+run-divided b (s ∷ xs) [] x behind e = record { prefix = []; event = s; suffix = xs; is = refl; earlier = refl; here = (let z : logOf s (outcome b s) ≡ x = cc in sym z) }
+run-divided b (s ∷ xs) (y ∷ before) x behind e =
+    let p : logOf s (outcome b s) ≡ y = cc in
+    let q : run (next b s) xs ≡ before ++ (x ∷ behind) = cc in
+    let d : Divided (next b s) xs before x = run-divided (next b s) xs before x behind q in
+    record {
+      prefix = s ∷ d .prefix;
+      event = d .event;
+      suffix = d .suffix;
+      is = ap (λ (ys : List Sent). s ∷ ys) (d .is);
+      earlier = ap (λ (l : Logged). l ∷ before) (sym p) ∙ ap (λ (ls : List Logged). logOf s (outcome b s) ∷ ls) (d .earlier);
+      here = d .here;
+    }
 
 pub after-valid : (b : State) (xs : List Sent) → Valid b → Valid (after b xs)
 unfolding after

@@ -2,7 +2,7 @@
 -- the lower number's limit, its order active; when all have matched, the legs-only passes. No change of state does nothing."
 use mathlib.Core.Path.{_≡_, refl, sym, _∙_, ap}
 use mathlib.Core.Bool.{Bool, true, false}
-use mathlib.Core.Logic.{_⊎_, ⊎-elim}
+use mathlib.Core.Logic.{_⊎_, inl, inr, ⊎-elim}
 use mathlib.Core.List.{List, [], _++_, append-nil, append-assoc}
 use Prim.Native.Nat.{ℕ, zero, suc, _+_, _-_, _^_, _≤_, _<_, min}
 use native.Mathlib.Omega.{arith}
@@ -23,16 +23,16 @@ use Rattle.rules.specs.State.{entryAt, strategyAt, withOpened}
 use Rattle.rules.specs.Moves.{Moved, still, and-then, each}
 use Rattle.rules.specs.Sides.{meets}
 use Rattle.rules.specs.Fills.{cutEntry, partyRecords, wholeFill}
-use Rattle.rules.specs.Auctions.{bestSlot, crossed, matchOnce, matchAll, matchIn, legPasses}
+use Rattle.rules.specs.Auctions.{bestSlot, crossed, mayMatch, matchOnce, matchAll, matchIn, legPasses}
 use Rattle.rules.specs.Events.{shut, reopen, onSeries}
 use Rattle.rules.specs.Step.{accept}
 use Rattle.rules.specs.Valid.{Sound}
-use Rattle.rules.specs.Sentences.{AcceptedEvent, Open, Beside, AheadNumbered, NonePassed, matchRecords, Matches, no-match, and-match, OpenSentence, SeriesSentence}
+use Rattle.rules.specs.Sentences.{AcceptedEvent, Open, Beside, AheadNumbered, NonePassed, matchRecords, Matches, no-match, and-match, MatchBarred, OpenSentence, SeriesSentence}
 use Rattle.rules.proofs.Shrinks.{SameEntry, Shrinks, shrinks-trans}
 use Rattle.rules.proofs.Entering.{sound-opened}
-use Rattle.rules.proofs.Control.{reopen-kept, shrinks-kept, Crossed, crossed-best, buy-proper, sell-proper}
+use Rattle.rules.proofs.Control.{reopen-kept, shrinks-kept, Crossed, crossed-best, buy-limit, sell-limit}
 use Rattle.rules.proofs.Firsts.{Resting, BestEntry, best-first, live-slot}
-use Rattle.rules.proofs.Finishes.{match-apart, match-shrinks}
+use Rattle.rules.proofs.Finishes.{Stopped, match-apart, match-shrinks}
 use Rattle.rules.proofs.Gives.{whole-other, whole-orders}
 use Rattle.rules.proofs.Only.{Only, matchOnce-only, matchAll-only}
 use Rattle.rules.proofs.Settled.{same-or, only-sound, shut-same}
@@ -89,11 +89,11 @@ module _ (k n : ℕ) (b : State) (v : Sound b) where
   abbrev size : ℕ
   size = min (entryAt b active .units) (entryAt b holder .units)
 
-  match-is : crossed b x y ≡ true → matchOnce k n b ≡ wholeFill b active holder (entryAt b active .level) size
+  match-is : mayMatch b k x y ≡ true → matchOnce k n b ≡ wholeFill b active holder (entryAt b active .level) size
   unfolding matchOnce
   match-is e = pick-true _ _ _ e
 
-  match-not : crossed b x y ≡ false → matchOnce k n b ≡ still b
+  match-not : mayMatch b k x y ≡ false → matchOnce k n b ≡ still b
   unfolding matchOnce
   match-not e = pick-false _ _ _ e
 
@@ -106,24 +106,24 @@ module _ (k n : ℕ) (b : State) (v : Sound b) where
   best-seller e = ⊎-elim (λ z. absurd (omega (arith, z .past, ltb-true y 32 (pick-yes (ltb y 32) (pick-yes (ltb x 32) e .1) .0)))) (λ z. z) (best-first v k 1)
 
   -- only the two change
-  match-others : crossed b x y ≡ true → (j : ℕ) → (j ≡ x → ⊥) → (j ≡ y → ⊥) → entryAt (matchOnce k n b .state) j ≡ entryAt b j
+  match-others : mayMatch b k x y ≡ true → (j : ℕ) → (j ≡ x → ⊥) → (j ≡ y → ⊥) → entryAt (matchOnce k n b .state) j ≡ entryAt b j
   match-others e j p q =
       let D : ℕ → Type 0 = λ (z : ℕ). j ≡ z → ⊥ in
       rw (match-is e) (whole-other b active holder (entryAt b active .level) size j (pick-all D first p q) (pick-all D first q p))
 
   match-best : NonePassed AheadNumbered 32 b (matchOnce k n b .state)
-  match-best i j _ t w fell = by (crossed b x y) refl
+  match-best i j _ t w fell = by (mayMatch b k x y) refl
     where
       less : Shrinks b (matchOnce k n b .state)
       less = matchOnce-only k n b .shrinks
 
-      by : (c : Bool) → crossed b x y ≡ c → entryAt (matchOnce k n b .state) i .units ≡ 0
+      by : (c : Bool) → mayMatch b k x y ≡ c → entryAt (matchOnce k n b .state) i .units ≡ 0
       by false e = absurd (omega (arith, ap (λ (m : Moved). entryAt (m .state) j .units) (match-not e)))
       by true e =
           let z : entryAt b i .units ≡ 0 = same-or (entryAt b i .units ≡ 0) j x
-          (λ q. best-none b v k 0 x i (best-buyer e) (rw q at t) (rw q at w))
+          (λ q. best-none b v k 0 x i (best-buyer (pick-yes _ e .0)) (rw q at t) (rw q at w))
           (λ p. same-or (entryAt b i .units ≡ 0) j y
-          (λ q. best-none b v k 1 y i (best-seller e) (rw q at t) (rw q at w))
+          (λ q. best-none b v k 1 y i (best-seller (pick-yes _ e .0)) (rw q at t) (rw q at w))
           (λ q. absurd (omega (arith, ap (λ (a : Entry). a .units) (match-others e j p q))))) in
           omega (arith, less .entry i .units)
 
@@ -148,7 +148,7 @@ module _ (k n : ℕ) (b : State) (v : Sound b) where
         number = ltb-true _ _ f;
         strategy = c .sell .strategy ∙ sym (c .buy .strategy);
         sides = λ q. omega (arith, c .buy .onSide, c .sell .onSide);
-        limit = buy-proper b k x y c .itsLimit;
+        limit = buy-limit b k x y c;
         mine = c .buy .live;
         its = c .sell .live;
       }
@@ -159,10 +159,36 @@ module _ (k n : ℕ) (b : State) (v : Sound b) where
             number = omega (arith, ltb-false (entryAt b x .number) (entryAt b y .number) f);
             strategy = c .buy .strategy ∙ sym (c .sell .strategy);
             sides = λ q. omega (arith, c .buy .onSide, c .sell .onSide);
-            limit = sell-proper b k x y c .itsLimit;
+            limit = sell-limit b k x y c;
             mine = c .sell .live;
             its = c .buy .live;
           }
+
+  -- what stopped the match at b, where it stopped: the two meet, and one of them may not fill
+  barred-at : (from to : State) → Shrinks from b → Shrinks b to → Stopped b k → MatchBarred from k to
+  barred-at from to since until e =
+      let w : Active active holder = lower-active (e .crossed) in
+      let Best : ℕ → Type 0 = λ (z : ℕ). (j : ℕ) → Beside (entryAt b j) (entryAt b z) → AheadNumbered (entryAt b j) (entryAt b z) → entryAt b j .units ≡ 0 in
+      let buys : Best x = λ j. best-none b v k 0 x j (best-buyer (e .crossed)) in
+      let sells : Best y = λ j. best-none b v k 1 y j (best-seller (e .crossed)) in
+      let In : ℕ → Type 0 = λ (z : ℕ). entryAt b z .strategy ≡ k in
+      let inBuy : In x = best-buyer (e .crossed) .rests .strategy in
+      let inSell : In y = best-seller (e .crossed) .rests .strategy in
+      record {
+        moment = b;
+        since = since;
+        until = until;
+        i = active;
+        h = holder;
+        live = (w .mine, w .its);
+        strategy = (pick-all In first inBuy inSell, pick-all In first inSell inBuy);
+        sides = w .sides;
+        number = w .number;
+        best = pick-all Best first buys sells;
+        itsBest = pick-all Best first sells buys;
+        meets = w .limit;
+        barred = e .barred;
+      }
 
 -- THE RECORDS
 whole-records : (b : State) (i h level q : ℕ) → 0 < q → wholeFill b i h level q .records ≡ matchRecords b i h level q
@@ -183,7 +209,7 @@ matched-same b c p i h level q =
     row k = rw (p .strategies)
 
 match-records : (b c : State) → Quiet b c → Sound c → (k n : ℕ) (rs : List Record) → Matches b rs → Matches b (rs ++ matchOnce k n c .records)
-match-records b c p v k n rs ms = by (crossed c (bestSlot c k 0) (bestSlot c k 1)) refl
+match-records b c p v k n rs ms = by (mayMatch c k (bestSlot c k 0) (bestSlot c k 1)) refl
   where
     i : ℕ
     i = active k n c v
@@ -191,10 +217,10 @@ match-records b c p v k n rs ms = by (crossed c (bestSlot c k 0) (bestSlot c k 1
     h : ℕ
     h = holder k n c v
 
-    by : (t : Bool) → crossed c (bestSlot c k 0) (bestSlot c k 1) ≡ t → Matches b (rs ++ matchOnce k n c .records)
+    by : (t : Bool) → mayMatch c k (bestSlot c k 0) (bestSlot c k 1) ≡ t → Matches b (rs ++ matchOnce k n c .records)
     by false e = rw (match-not k n c v e, append-nil rs) ms
     by true e =
-        let w : Active k n c v i h = lower-active k n c v e in
+        let w : Active k n c v i h = lower-active k n c v (pick-yes _ e .0) in
         let q : ℕ = size k n c v in
         let some : 0 < q = omega (arith, w .mine, w .its) in
         let si = p .shrinks .entry i in
@@ -246,9 +272,9 @@ module _ (b : State) where
       let same : P (still c) = rw (append-nil rs) p in
       pick-all P _ (pick-all P _ (all-matching k c rs p) same) same
 
-  strategies-matching : (s : ℕ) → Sound b → Matching b (each (matchIn s) 16 b .records) (each (matchIn s) 16 b .state)
-  strategies-matching s v =
-      each-matching (matchIn s) (in-matching s) 16 b [] (record {
+  strategies-matching : (s n : ℕ) → Sound b → Matching b (each (matchIn s) n b .records) (each (matchIn s) n b .state)
+  strategies-matching s n v =
+      each-matching (matchIn s) (in-matching s) n b [] (record {
         quiet = quiet-refl b;
         sound = v;
         best = none-refl AheadNumbered numbered-static 32 b;
@@ -267,10 +293,10 @@ in-quiet s k c =
 rests-before : {b c : State} (k s i : ℕ) → Shrinks b c → Resting c k s i → Resting b k s i
 rests-before k s i h r = let m = h .entry i in record { live = omega (arith, r .live, m .units); strategy = sym (m .strategy) ∙ r .strategy; side = sym (m .side) ∙ r .side }
 
-match-done : (s k : ℕ) (b : State) → Sound b → k < 16 → has (strategyAt b k .series) s ≡ true → Open b k → (i j : ℕ) →
-    Resting (each (matchIn s) 16 b .state) k 0 i → Resting (each (matchIn s) 16 b .state) k 1 j → entryAt b i .level < entryAt b j .level
+match-done : (s k : ℕ) (b : State) → Sound b → k < 16 → has (strategyAt b k .series) s ≡ true → Open b k → MatchBarred b k (each (matchIn s) 16 b .state) ⊎ ((i j : ℕ) →
+    Resting (each (matchIn s) 16 b .state) k 0 i → Resting (each (matchIn s) 16 b .state) k 1 j → entryAt b i .level < entryAt b j .level)
 unfolding matchIn
-match-done s k b v low h o i j p q =
+match-done s k b v low h o =
     let c : State = each (matchIn s) k b .state in
     let d : Split b c (matchIn s k c .state) (each (matchIn s) 16 b .state) = each-split (matchIn s) b (λ n x _. in-quiet s n x) 16 k low in
     let row : strategyAt c k ≡ strategyAt b k = rw (d .before .strategies) in
@@ -278,25 +304,27 @@ match-done s k b v low h o i j p q =
     pick-true _ _ _ (rw row h) ∙ pick-true _ _ _ (ap (λ (n : ℕ). eqb n 0) (shut-same k (d .before .shrinks)) ∙ all-open b k o) in
     let z : Shrinks (matchAll k c .state) (each (matchIn s) 16 b .state) = rw e at (d .behind .shrinks) in
     let w : Shrinks b (matchAll k c .state) = shrinks-trans (d .before .shrinks) (match-shrinks k c) in
-    let l = match-apart k c (d .before .shrinks .entryRows ∙ v .entryRows) i j (rests-before k 0 i z p) (rests-before k 1 j z q) in
-    omega (arith, w .entry i .level, w .entry j .level)
+    ⊎-elim
+    (λ x. inl (barred-at k 0 (matchAll k c .state) (only-sound (matchAll-only k c) (strategies-matching b s k v .sound)) b (each (matchIn s) 16 b .state) w z x))
+    (λ far. inr (λ i j p q. let l = far i j (rests-before k 0 i z p) (rests-before k 1 j z q) in omega (arith, w .entry i .level, w .entry j .level)))
+    (match-apart k c (d .before .shrinks .entryRows ∙ v .entryRows))
 
 -- OPENED
 pub open-sentence : (s : ℕ) (b : State) → Sound b → OpenSentence b s (each (matchIn s) 16 b) (legPasses s (each (matchIn s) 16 b .state) .state)
 open-sentence s b v =
     let d : State = each (matchIn s) 16 b .state in
-    let p : Matching b (each (matchIn s) 16 b .records) d = strategies-matching b s v in
+    let p : Matching b (each (matchIn s) 16 b .records) d = strategies-matching b s 16 v in
     let q : Passing s d (legPasses s d .state) = passing-all s d (p .sound .orderRows) in
     record {
       bestFirst = λ i j t w fell. p .best i j (λ z. omega (arith, live-slot b (v .entryRows) j (omega arith))) t w fell;
       records = p .records;
       orders = p .orders;
-      apart = λ k h o i j li lj si sj di dj.
+      apart = λ k h o.
           let m = quiet-trans (p .quiet) (q .quiet) .shrinks in
           let r : (x side : ℕ) → 0 < entryAt (legPasses s d .state) x .units → entryAt b x .strategy ≡ k → entryAt b x .side ≡ side → Resting d k side x =
           λ x side l e f. rests-before k side x (q .quiet .shrinks) (record { live = l; strategy = m .entry x .strategy ∙ e; side = m .entry x .side ∙ f }) in
-          ⊎-elim (λ (low : k < 16). match-done s k b v low h o i j (r i 0 li si di) (r j 1 lj sj dj))
-          (λ (low : 16 ≤ k). absurd (omega (arith, v .live i (omega (arith, m .entry i .units)) .strategy, v .defined)))
+          ⊎-elim (λ (low : k < 16). ⊎-elim inl (λ far. inr (λ i j li lj si sj di dj. far i j (r i 0 li si di) (r j 1 lj sj dj))) (match-done s k b v low h o))
+          (λ (low : 16 ≤ k). inr (λ i j li lj si sj di dj. absurd (omega (arith, v .live i (omega (arith, m .entry i .units)) .strategy, v .defined))))
           (lt-or-le k 16);
       passes = λ i g. passes-had s i d (p .sound) g;
       noOthers = q .only;

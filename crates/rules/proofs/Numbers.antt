@@ -18,14 +18,16 @@ use Rattle.frames.specs.Frames.{readOf}
 use Rattle.rules.specs.declared.Strategy.{Strategy}
 use Rattle.rules.specs.declared.Entry.{Entry}
 use Rattle.rules.specs.declared.LegOrder.{LegOrder}
+use Rattle.rules.specs.declared.Quote.{Quote}
 use Rattle.rules.specs.declared.State.{State}
-use Rattle.rules.specs.State.{noOrder, noStrategy, fresh, strategyAt, withEntries, withOrders, withStrategies, withOpened, withClock, withLast}
+use Rattle.rules.specs.State.{noOrder, noStrategy, fresh, strategyAt, withEntries, withOrders, withStrategies, withOpened, withClock, withLast, withNational, withRange}
 use Rattle.rules.specs.Moves.{Moved, and-then}
 use Rattle.rules.specs.Strategies.{held, added as strategyAdded, define}
 use Rattle.rules.specs.Fills.{cancelEntry}
 use Rattle.rules.specs.Auctions.{answer}
 use Rattle.rules.specs.Events.{live, liveOrder, enter, enterOrder, onOrder, oldSweep, enterSweep, onSweep, onLegOrder, cancelNumber, onClock, shut, reopen, onSeries}
-use Rattle.rules.specs.Given.{strategyGiven, orderGiven, sweepGiven, legOrderGiven}
+use Rattle.rules.specs.National.{onNational, onRange}
+use Rattle.rules.specs.Given.{strategyGiven, orderGiven, sweepGiven, legOrderGiven, quoteGiven}
 use Rattle.rules.specs.Refusals.{firstCause, causes, undefined}
 use Rattle.rules.specs.Step.{accept}
 use Rattle.rules.specs.Records.{cents}
@@ -35,7 +37,7 @@ use Rattle.rules.proofs.Shrinks.{SameStrategy, Shrinks, same-strategy, 
 use Rattle.rules.proofs.Tables.{behind-length, tally}
 use Rattle.rules.proofs.Control.{shrinks-kept, onOrder-kept, onLegOrder-kept, cancelNumber-kept, onClock-kept, shut-kept, reopen-kept}
 use Rattle.rules.proofs.Validity.{clear, known}
-use Rattle.rules.proofs.Laws.{Law, ofUnits, ofContracts, noEntries, noOrders, ofRatio, ofLimit, ofPrice, size, come, gone, when-no}
+use Rattle.rules.proofs.Laws.{Law, ofUnits, ofContracts, noEntries, noOrders, ofRatio, ofLimit, ofParty, ofPrice, size, come, gone, when-no}
 use Rattle.rules.proofs.Steps.{Row, entryRow, legRow, noRow, added, FitsRow, rowOf, sweep-units, size-fresh, good-fresh}
 use Rattle.rules.proofs.Lists.{done, Went, refusedAs, acceptedAs, went, rowIn, next, row-refused, row-accepted, refused-moved, accepted-moved, termsOf, brought-row, next-valid, recordsOf, enteredOf, Fitting, run-law, entered-append, fitting-append, after-valid}
 
@@ -110,6 +112,14 @@ unfolding onSweep enterSweep and-then pick
 kin-sweep b e true h = rw h (kin-shrinks b b (cancelEntry (oldSweep b e) b .state) noRow refl refl refl (cancel-shrinks b (oldSweep b e)))
 kin-sweep b e false h = rw h (kin-entered b (cancelEntry (oldSweep b e) b .state) e (cancel-shrinks b (oldSweep b e)))
 
+kin-national : (b : State) (s : ℕ) (q : Quote) → Kin b (onNational s q b) noRow
+unfolding onNational withNational
+kin-national b s q = record { last = refl; defined = refl; strategy = λ k. same-strategy (strategyAt b k) }
+
+kin-range : (b : State) (r : ℕ) → Kin b (onRange r b) noRow
+unfolding onRange withRange
+kin-range b r = record { last = refl; defined = refl; strategy = λ k. same-strategy (strategyAt b k) }
+
 -- an event that neither defines a strategy nor ends a day
 abbrev pub Plain : Event → Type 0
 Plain (E.Strategy e) = ⊥
@@ -120,6 +130,8 @@ Plain (E.Cancel e) = Unit {0}
 Plain (E.Series e) = Unit {0}
 Plain (E.Clock e) = Unit {0}
 Plain (E.DayEnd e) = ⊥
+Plain (E.National e) = Unit {0}
+Plain (E.Range e) = Unit {0}
 
 pub accept-kin : (b : State) (e : Event) → length (b .orders) ≡ 32 → Plain e → Kin b (accept b e .state) (rowOf b e)
 unfolding accept
@@ -131,6 +143,8 @@ accept-kin b (E.Cancel e) n p = kin-shrinks b b (cancelNumber (e .number) b .sta
 accept-kin b (E.Series e) n p = kin-series b (e .series) (e .state) n
 accept-kin b (E.Clock e) n p = kin-clock b (e .time) n
 accept-kin b (E.DayEnd e) n p = absurd p
+accept-kin b (E.National e) n p = kin-national b (e .series) (quoteGiven e)
+accept-kin b (E.Range e) n p = kin-range b (e .range)
 
 goes-define : (b : State) (t : Strategy) → Goes b (define t b) noRow
 unfolding define strategyAdded withStrategies
@@ -152,6 +166,8 @@ accept-goes b (E.Cancel e) n h = kin-goes (accept-kin b (E.Cancel e) n tt)
 accept-goes b (E.Series e) n h = kin-goes (accept-kin b (E.Series e) n tt)
 accept-goes b (E.Clock e) n h = kin-goes (accept-kin b (E.Clock e) n tt)
 accept-goes b (E.DayEnd e) n h = absurd (let z : _≡_ {A = ℕ} 0 1 = cc in omega arith)
+accept-goes b (E.National e) n h = kin-goes (accept-kin b (E.National e) n tt)
+accept-goes b (E.Range e) n h = kin-goes (accept-kin b (E.Range e) n tt)
 
 -- what enters is under the next number, and a complex order or sweep in a strategy that is defined
 abbrev pub Numbered : State → Row → Type 0
@@ -169,6 +185,8 @@ accept-numbered b (E.Cancel e) c = tt
 accept-numbered b (E.Series e) c = tt
 accept-numbered b (E.Clock e) c = tt
 accept-numbered b (E.DayEnd e) c = tt
+accept-numbered b (E.National e) c = tt
+accept-numbered b (E.Range e) c = tt
 
 pub ends-accepted : (b : State) (x : Sent) (e : Event) → readOf (x .frame) ≡ R.Event e → outcome b x ≡ done b e → endsDay (logOf x (outcome b x)) ≡ isDayEnd (R.Event e)
 unfolding endsDay
@@ -275,6 +293,7 @@ pub data About (n : ℕ) : Law → Type 0 where
   a-noOrders : About n (noOrders n)
   a-ratio : (s x : ℕ) → About n (ofRatio n s x)
   a-limit : (side limit : ℕ) → About n (ofLimit n side limit)
+  a-party : (k side : ℕ) → About n (ofParty n k side)
   a-price : (side price : ℕ) → About n (ofPrice n side price)
 
 other-row : {n : ℕ} {l : Law} → About n l → (b : State) (r : Row) → NotRow n r → (added l r ≡ 0) × FitsRow l b r
@@ -296,6 +315,9 @@ other-row {n} (a-ratio s x) b noRow h = (refl, tt)
 other-row {n} (a-limit side limit) b (entryRow e) h = (refl, λ z. absurd (h z))
 other-row {n} (a-limit side limit) b (legRow o) h = (refl, tt)
 other-row {n} (a-limit side limit) b noRow h = (refl, tt)
+other-row {n} (a-party k side) b (entryRow e) h = (refl, λ z. absurd (h z))
+other-row {n} (a-party k side) b (legRow o) h = (refl, tt)
+other-row {n} (a-party k side) b noRow h = (refl, tt)
 other-row {n} (a-price side price) b (entryRow e) h = (refl, tt)
 other-row {n} (a-price side price) b (legRow o) h = (refl, λ z. absurd (h z))
 other-row {n} (a-price side price) b noRow h = (refl, tt)

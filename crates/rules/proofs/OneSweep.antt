@@ -14,11 +14,12 @@ use Rattle.rules.specs.declared.Strategy.{Strategy}
 use Rattle.rules.specs.declared.Entry.{Entry}
 use Rattle.rules.specs.declared.LegOrder.{LegOrder}
 use Rattle.rules.specs.declared.State.{State}
-use Rattle.rules.specs.State.{noEntry, noOrder, fresh, entryAt, withEntries, withOrders, withStrategies, withOpened, withClock, withLast}
+use Rattle.rules.specs.State.{noEntry, noOrder, fresh, entryAt, withEntries, withOrders, withStrategies, withOpened, withClock, withLast, withNational, withRange}
 use Rattle.rules.specs.Moves.{Moved, and-then}
 use Rattle.rules.specs.Strategies.{added, define}
 use Rattle.rules.specs.Events.{live, liveOrder, enter, enterOrder, onSweep, onSeries, restart, onDayEnd}
-use Rattle.rules.specs.Given.{strategyGiven, orderGiven, sweepGiven, legOrderGiven}
+use Rattle.rules.specs.National.{onNational, onRange}
+use Rattle.rules.specs.Given.{strategyGiven, orderGiven, sweepGiven, legOrderGiven, quoteGiven}
 use Rattle.rules.specs.Step.{accept}
 use Rattle.rules.specs.Valid.{Valid}
 use Rattle.rules.specs.Sentences.{AcceptedEvent, SweepOf, Alike, OneSweep}
@@ -91,7 +92,7 @@ pub one-sweep-fresh : (timer : ℕ) → OneSweep (fresh timer)
 one-sweep-fresh timer i j l p = absurd (omega (arith, fresh-dead timer i))
 
 pub one-sweep-kept : (b : State) (e : Event) → AcceptedEvent b e → OneSweep b → OneSweep (accept b e .state)
-unfolding accept onDayEnd and-then restart withClock sweepGiven
+unfolding accept onDayEnd and-then restart withClock sweepGiven onNational withNational onRange withRange
 one-sweep-kept b (E.Strategy e) a o = one-same b (define (strategyGiven e) b) (define-entries (strategyGiven e) b) o
 one-sweep-kept b (E.Order e) a o =
     one-less (onOrder-kept shrinks-kept (orderGiven b e) b (enter-rows (orderGiven b e) b (a .valid .sound .orderRows))) (order-one b e (a .fit .life) o)
@@ -113,3 +114,5 @@ one-sweep-kept b (E.Cancel e) a o = one-less (cancelNumber-kept shrinks-kept (e 
 one-sweep-kept b (E.Series e) a o = series-one (e .series) (e .state) b (a .valid .sound .orderRows) o
 one-sweep-kept b (E.Clock e) a o = one-less (onClock-kept shrinks-kept (e .time) b (a .valid .sound .orderRows)) (one-same b (withClock b (e .time)) refl o)
 one-sweep-kept b (E.DayEnd e) a o = one-sweep-fresh (e .timer)
+one-sweep-kept b (E.National e) a o = one-same b (onNational (e .series) (quoteGiven e) b) refl o
+one-sweep-kept b (E.Range e) a o = one-same b (onRange (e .range) b) refl o

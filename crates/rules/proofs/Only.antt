@@ -230,7 +230,7 @@ module _ (k : ℕ) where
       let y : ℕ = bestSlot b k 1 in
       pick-by (λ (m : Moved). Only k b (m .state)) _
       (λ t.
-      let p = pick-yes (ltb x 32) t in
+      let p = pick-yes (ltb x 32) (pick-yes _ t .0) in
       let u : entryAt b x .strategy ≡ k = best-strategy b 0 (ltb-true _ _ (p .0)) in
       let v : entryAt b y .strategy ≡ k = best-strategy b 1 (ltb-true _ _ (pick-yes (ltb y 32) (p .1) .0)) in
       let P : ℕ → Type 0 = λ (z : ℕ). entryAt b z .strategy ≡ k in

@@ -3,7 +3,7 @@
 use mathlib.Core.Path.{_≡_, refl, sym, _∙_, ap}
 use mathlib.Core.Bool.{Bool, true, false}
 use mathlib.Core.Logic.{_⊎_, inl, inr, ⊎-elim}
-use mathlib.Core.List.{[], _∷_}
+use mathlib.Core.List.{[], _∷_, append-nil}
 use Prim.Native.Nat.{ℕ, _≤_, _<_}
 use native.Mathlib.Omega.{arith}
 use borrow.Author.Tests.{eqb-true, eqb-false, eq-eqb, ne-eqb, ltb-true, lt-ltb}
@@ -29,7 +29,7 @@ use Rattle.rules.specs.Events.{enter, freeSlot, restOrCancel, mayStart, 
 use Rattle.rules.specs.Given.{orderGiven}
 use Rattle.rules.specs.Step.{accept}
 use Rattle.rules.specs.Valid.{Sound}
-use Rattle.rules.specs.Sentences.{AcceptedEvent, Runs, Open, MeetsNone, LegsMeetNone, AheadShared, CancelsIt, StartsOne, a-buy, a-sell, Begins, PassesIt, OrderSentence}
+use Rattle.rules.specs.Sentences.{AcceptedEvent, Runs, Open, MeetsNone, LegsMeetNone, BarredHere, AheadShared, CancelsIt, StartsOne, a-buy, a-sell, Begins, PassesIt, OrderSentence}
 use Rattle.rules.proofs.Tables.{positive}
 use Rattle.rules.proofs.Shrinks.{Shrinks, shrinks-refl, cancel-shrinks}
 use Rattle.rules.proofs.Entering.{fit-entry-at}
@@ -146,7 +146,7 @@ begins-it b a l =
     put-orders : (b : State) (k n t : ℕ) (x : Bool) → putAuction b k n t x .orders ≡ b .orders
     put-orders b k n t x = refl
 
--- what a pass leaves: no opposite limit meets its own
+-- what a pass leaves: no opposite limit meets its own, or the fill that it came to is barred
 module _ (b : State) (v : Sound b) (a : ℕ) where
   abbrev c : State
   c = pass Shared true a b .state
@@ -157,9 +157,9 @@ module _ (b : State) (v : Sound b) (a : ℕ) where
   sound-c : Sound c
   sound-c = only-sound passed v
 
-  rests-apart : 0 < entryAt c a .units → MeetsNone c a × LegsMeetNone c a
+  rests-apart : 0 < entryAt c a .units → (MeetsNone c a × LegsMeetNone c a) ⊎ BarredHere c a true
   unfolding opposite
-  rests-apart left = ⊎-elim (λ u. absurd (omega arith)) (λ n. (meets-none a c sound-c (n .limit), n .legs)) (pass-why Shared true a b)
+  rests-apart left = ⊎-elim (λ u. absurd (omega arith)) (λ r. ⊎-elim (λ n. inl (meets-none a c sound-c (n .limit), n .legs)) inr r) (pass-why Shared true a b)
 
   passes-it : PassesIt b a (trades a b)
   unfolding trades and-then
@@ -172,6 +172,7 @@ module _ (b : State) (v : Sound b) (a : ℕ) where
         strategies = rest-strategies c a ∙ passed .strategies;
         cancelled = λ h. rw (rest-other c a (λ q. h (sym same ∙ q))) (cancel-dead c a);
         had = turn-within (shrinks-refl b) (shared-had true a b v) (rest-shrinks c a);
+        stays = λ e. rw (day e, append-nil (pass Shared true a b .records));
         rests = λ e. rw (day e) rests-apart;
       }
 

@@ -3,23 +3,25 @@ use mathlib.Core.Path.{_≡_, refl, sym, _∙_, ap, subst}
 use mathlib.Core.Bool.{Bool, true, false}
 use mathlib.Core.Logic.{_⊎_, inl, inr, ⊎-elim}
 use mathlib.Core.List.{List, [], _∷_, _++_, List·Memᴰ, List·Memᴰ·head, List·Memᴰ·tail, List·Memᴰ·not-nil, List·Memᴰ·cases-cons, Memᴰ·append-left}
-use Prim.Native.Nat.{ℕ, _+_, _-_, _≤_, _<_}
+use Prim.Native.Nat.{ℕ, _+_, _≤_, _<_}
 use native.Mathlib.Omega.{arith}
-use borrow.Author.Tests.{ltb-true, ltb-false, leb-false}
+use borrow.Author.Tests.{eq-eqb, ltb-true, ltb-false, leb-false}
+use lib.Dec.{eqb}
 use lib.ListN.{length, set}
 use lib.Seq.{getD-set-same}
-use Rattle.base.specs.Pick.{pick-true, pick-false}
-use Rattle.base.specs.Walks.{firstN, first-le, first-holds, lt-or-le}
+use Rattle.base.specs.Pick.{pick, pick-true, pick-false}
+use Rattle.base.specs.Walks.{all-every, firstN, first-le, first-holds, lt-or-le}
 use Rattle.events.specs.declared.Event.{Event}
 use Rattle.events.specs.declared.Event.the-variants as E
 use Rattle.events.specs.declared.Reading.the-variants as R
 use Rattle.events.specs.declared.Strategy.{Strategy as GivenStrategy}
 use Rattle.frames.specs.Frames.{readOf}
+use Rattle.rules.specs.declared.Leg.{Leg}
 use Rattle.rules.specs.declared.Strategy.{Strategy}
 use Rattle.rules.specs.declared.State.{State}
-use Rattle.rules.specs.State.{noStrategy, fresh, strategyAt, withStrategies}
+use Rattle.rules.specs.State.{noStrategy, fresh, strategyAt, legAt, withStrategies}
 use Rattle.rules.specs.Moves.{Moved}
-use Rattle.rules.specs.Strategies.{sameLegs, sameAt, numberOf, held, added, define}
+use Rattle.rules.specs.Strategies.{sameLeg, sameLegAt, sameLegs, sameAt, numberOf, held, added, define}
 use Rattle.rules.specs.Given.{legsGiven, strategyGiven}
 use Rattle.rules.specs.Refusals.{firstCause, causes, illFormed, strategiesFull}
 use Rattle.rules.specs.Step.{Outcome, valueOf, accept, refused}
@@ -28,7 +30,7 @@ use Rattle.rules.specs.Totals.{Sent, Logged, outcome, after, logOf, run,
 use Rattle.rules.proofs.Shrinks.{SameStrategy}
 use Rattle.rules.proofs.Strategies.{Definition}
 use Rattle.rules.proofs.Validity.{clear, given-definition, then-no}
-use Rattle.rules.proofs.Laws.{ratioFor, ratio-same}
+use Rattle.rules.proofs.Laws.{ratioFor}
 use Rattle.rules.proofs.Ratios.{given-ratios, Padded, given-padded, same-ratios}
 use Rattle.rules.proofs.Lists.{done, Went, refusedAs, acceptedAs, went, event-fits, next, refused-moved, next-valid, run-append}
 use Rattle.rules.proofs.Numbers.{Plain, accept-kin, ends-accepted, outcome-goes, Open}
@@ -129,6 +131,8 @@ defines b x (E.Cancel e) v p q h = inl (plain-same b x (E.Cancel e) v q tt)
 defines b x (E.Series e) v p q h = inl (plain-same b x (E.Series e) v q tt)
 defines b x (E.Clock e) v p q h = inl (plain-same b x (E.Clock e) v q tt)
 defines b x (E.DayEnd e) v p q h = absurd (let z : _≡_ {A = ℕ} 0 1 = cc in omega arith)
+defines b x (E.National e) v p q h = inl (plain-same b x (E.National e) v q tt)
+defines b x (E.Range e) v p q h = inl (plain-same b x (E.Range e) v q tt)
 
 pub outcome-defines : (b : State) (x : Sent) → Valid b → endsDay (logOf x (outcome b x)) ≡ false → (next b x .defined ≡ b .defined) ⊎ New b x
 outcome-defines b x v d = go (went b x)
@@ -195,50 +199,73 @@ lean-next b x v p d = record { padded = λ k l. go k l (outcome-defines b x v d)
         (λ (h : b .defined ≤ k). let q : k ≡ b .defined = omega arith in rw (q, n .strategy) (given-padded (n .event) (n .definition)))
         (lt-or-le k (b .defined))
 
--- a strategy that is defined keeps its ratios
-stays : (b : State) (x : Sent) (k s : ℕ) → Valid b → endsDay (logOf x (outcome b x)) ≡ false → k < b .defined → ratioFor (strategyAt (next b x) k) s ≡ ratioFor (strategyAt b k) s
-stays b x k s v d h =
-    let g : SameStrategy (strategyAt b k) (strategyAt (next b x) k) = outcome-goes b x v d .strategy k h in
-    ratio-same (strategyAt b k) (strategyAt (next b x) k) (g .legs) (g .count) s
-
-stays-all : (b : State) (xs : List Sent) (k s : ℕ) → Valid b → Open b xs → k < b .defined → ratioFor (strategyAt (after b xs) k) s ≡ ratioFor (strategyAt b k) s
+pub lean-after : (b : State) (xs : List Sent) → Valid b → Lean b → Open b xs → Lean (after b xs)
 unfolding after
-stays-all b [] k s v o h = refl
-stays-all b (x ∷ xs) k s v o h =
-    stays-all (next b x) xs k s (next-valid b x v) (o .1) (let g : b .defined ≤ next b x .defined = outcome-goes b x v (o .0) .defined in omega arith) ∙ stays b x k s v (o .0) h
+lean-after b [] v p o = p
+lean-after b (x ∷ xs) v p o = lean-after (next b x) xs (next-valid b x v) (lean-next b x v p (o .0)) (o .1)
 
-record After (b : State) (x : Sent) (e : GivenStrategy) (k s : ℕ) : Type 0 where
+-- LEGS
+-- a strategy has the legs that an accepted definition gives
+pub record HasLegs (t : Strategy) (e : GivenStrategy) : Type 0 where
+  pub same : sameLegs t (strategyGiven e) ≡ true
+  pub definition : Definition (legsGiven e) (e .count)
+
+leg-reflexive : (l : Leg) → sameLeg l l ≡ true
+unfolding sameLeg
+leg-reflexive l =
+    pick-true (eqb (l .series) (l .series)) (pick (eqb (l .side) (l .side)) (eqb (l .ratio) (l .ratio)) false) false (eq-eqb (l .series) (l .series) refl)
+    ∙ pick-true (eqb (l .side) (l .side)) (eqb (l .ratio) (l .ratio)) false (eq-eqb (l .side) (l .side) refl)
+    ∙ eq-eqb (l .ratio) (l .ratio) refl
+
+legs-reflexive : (t : Strategy) → sameLegs t t ≡ true
+unfolding sameLegs
+legs-reflexive t = all-every (sameLegAt t t) 6 (λ i l. leg-reflexive (legAt t i))
+
+has-same : {s t : Strategy} {e : GivenStrategy} → t .legs ≡ s .legs → HasLegs s e → HasLegs t e
+unfolding sameLegs
+has-same q h = record { same = rw q (h .same); definition = h .definition }
+
+has-before : {s t : Strategy} {e : GivenStrategy} → t .legs ≡ s .legs → HasLegs t e → HasLegs s e
+has-before q h = has-same (sym q) h
+
+-- one that is defined keeps its legs
+stays : (b : State) (x : Sent) (k : ℕ) → Valid b → endsDay (logOf x (outcome b x)) ≡ false → k < b .defined → strategyAt (next b x) k .legs ≡ strategyAt b k .legs
+stays b x k v d h = outcome-goes b x v d .strategy k h .legs
+
+stays-all : (b : State) (xs : List Sent) (k : ℕ) → Valid b → Open b xs → k < b .defined → strategyAt (after b xs) k .legs ≡ strategyAt b k .legs
+unfolding after
+stays-all b [] k v o h = refl
+stays-all b (x ∷ xs) k v o h =
+    stays-all (next b x) xs k (next-valid b x v) (o .1) (let g : b .defined ≤ next b x .defined = outcome-goes b x v (o .0) .defined in omega arith) ∙ stays b x k v (o .0) h
+
+record After (b : State) (x : Sent) (e : GivenStrategy) (k : ℕ) : Type 0 where
   pub known : k < next b x .defined
-  pub ratio : ratioFor (strategyAt (next b x) k) s ≡ ratioIn e s
+  pub legs : HasLegs (strategyAt (next b x) k) e
 
 -- an event that answered a number: at that event, where the number was defined before, and after it
-module _ (b : State) (x : Sent) (e : GivenStrategy) (k s : ℕ) (v : Valid b) (p : Lean b) (g : Gave b x e) (val : outcome b x .value ≡ k) where
-  held-ratio : k < b .defined → ratioFor (strategyAt b k) s ≡ ratioIn e s
-  held-ratio h =
+module _ (b : State) (x : Sent) (e : GivenStrategy) (k : ℕ) (v : Valid b) (g : Gave b x e) (val : outcome b x .value ≡ k) where
+  held-legs : k < b .defined → HasLegs (strategyAt b k) e
+  held-legs h =
       let q : numberOf b (strategyGiven e) ≡ k = sym (g .value) ∙ val in
-      let t : sameLegs (strategyAt b k) (strategyGiven e) ≡ true = rw q at (number-held (strategyGiven e) b (omega arith)) in
-      same-ratios (strategyAt b k) (strategyGiven e) (p .padded k h) (given-padded e (g .definition)) t s ∙ given-ratios e (g .definition) s
+      record { same = rw q at (number-held (strategyGiven e) b (omega arith)); definition = g .definition }
 
-  next-ratio : After b x e k s
-  next-ratio = go (held b (strategyGiven e)) refl
+  next-legs : After b x e k
+  next-legs = go (held b (strategyGiven e)) refl
     where
-      go : (t : Bool) → held b (strategyGiven e) ≡ t → After b x e k s
+      go : (t : Bool) → held b (strategyGiven e) ≡ t → After b x e k
       go true h =
           let c : next b x ≡ b = g .state ∙ define-held (strategyGiven e) b h in
           let l : k < b .defined = (let m : numberOf b (strategyGiven e) < b .defined = ltb-true _ _ h in omega (arith, g .value, val)) in
-          record {
-            known = omega (arith, ap (λ (d : State). d .defined) c);
-            ratio = ap (λ (d : State). ratioFor (strategyAt d k) s) c ∙ held-ratio l;
-          }
+          record { known = omega (arith, ap (λ (d : State). d .defined) c); legs = rw c (held-legs l) }
       go false h =
           let q : k ≡ b .defined = sym val ∙ g .value ∙ number-new (strategyGiven e) b h in
           let r : b .defined < 16 = g .room h in
+          let z : strategyAt (next b x) k ≡ strategyGiven e =
+          ap (λ (d : State). strategyAt d k) (g .state) ∙ ap (λ (j : ℕ). strategyAt (define (strategyGiven e) b) j) q
+          ∙ define-there (strategyGiven e) b h (omega (arith, v .sound .strategyRows)) in
           record {
             known = omega (arith, ap (λ (d : State). d .defined) (g .state), define-count (strategyGiven e) b h);
-            ratio = ap (λ (d : State). ratioFor (strategyAt d k) s) (g .state)
-                ∙ ap (λ (j : ℕ). ratioFor (strategyAt (define (strategyGiven e) b) j) s) q
-                ∙ ap (λ (t : Strategy). ratioFor t s) (define-there (strategyGiven e) b h (omega (arith, v .sound .strategyRows)))
-                ∙ given-ratios e (g .definition) s;
+            legs = record { same = rw z (legs-reflexive (strategyGiven e)); definition = g .definition };
           }
 
 -- the event that answered is the first of the list, or a later one
@@ -263,36 +290,42 @@ answered-split e k x log a = ⊎-elim here there (List·Memᴰ·cases-cons (a .s
 here-gave : (b : State) (x : Sent) (e : GivenStrategy) (k : ℕ) → Here e k (logOf x (outcome b x)) → Gave b x e
 here-gave b x e k h = gave b x e (h .reading) (h .answer)
 
--- where a strategy is defined, a later event that answers its number gives its ratios
-later-ratio : (b : State) (xs : List Sent) (e : GivenStrategy) (k s : ℕ) → Valid b → Lean b → OneDay (run b xs) → Answered e k (run b xs) → k < b .defined → ratioFor (strategyAt b k) s ≡ ratioIn e s
+-- where a strategy is defined, a later event that answers its number gives its legs
+later-legs : (b : State) (xs : List Sent) (e : GivenStrategy) (k : ℕ) → Valid b → OneDay (run b xs) → Answered e k (run b xs) → k < b .defined → HasLegs (strategyAt b k) e
 unfolding run
-later-ratio b [] e k s v p d a h = absurd (List·Memᴰ·not-nil (a .sent))
-later-ratio b (x ∷ []) e k s v p d a h =
+later-legs b [] e k v d a h = absurd (List·Memᴰ·not-nil (a .sent))
+later-legs b (x ∷ []) e k v d a h =
     ⊎-elim
-    (λ (i : Here e k (logOf x (outcome b x))). held-ratio b x e k s v p (here-gave b x e k i) (i .value) h)
+    (λ (i : Here e k (logOf x (outcome b x))). held-legs b x e k v (here-gave b x e k i) (i .value) h)
     (λ (i : Answered e k []). absurd (List·Memᴰ·not-nil (i .sent)))
     (answered-split e k (logOf x (outcome b x)) [] a)
-later-ratio b (x ∷ (y ∷ ys)) e k s v p d a h =
+later-legs b (x ∷ (y ∷ ys)) e k v d a h =
     ⊎-elim
-    (λ (i : Here e k (logOf x (outcome b x))). held-ratio b x e k s v p (here-gave b x e k i) (i .value) h)
+    (λ (i : Here e k (logOf x (outcome b x))). held-legs b x e k v (here-gave b x e k i) (i .value) h)
     (λ (i : Answered e k (run (next b x) (y ∷ ys))).
-    sym (stays b x k s v (d .0) h)
-    ∙ later-ratio (next b x) (y ∷ ys) e k s (next-valid b x v) (lean-next b x v p (d .0)) (d .1) i
-    (let g : b .defined ≤ next b x .defined = outcome-goes b x v (d .0) .defined in omega arith))
+    has-before (stays b x k v (d .0) h)
+    (later-legs (next b x) (y ∷ ys) e k (next-valid b x v) (d .1) i (let g : b .defined ≤ next b x .defined = outcome-goes b x v (d .0) .defined in omega arith)))
     (answered-split e k (logOf x (outcome b x)) (run (next b x) (y ∷ ys)) a)
 
 -- and so at every state of the day
-pub settled-ratio : (b : State) (ys zs : List Sent) (e : GivenStrategy) (k s : ℕ) → Valid b → Lean b → Open b ys → OneDay (run (after b ys) zs) → Answered e k (run b (ys ++ zs)) → k < after b ys .defined →
-    ratioFor (strategyAt (after b ys) k) s ≡ ratioIn e s
+pub settled-legs : (b : State) (ys zs : List Sent) (e : GivenStrategy) (k : ℕ) → Valid b → Open b ys → OneDay (run (after b ys) zs) → Answered e k (run b (ys ++ zs)) → k < after b ys .defined →
+    HasLegs (strategyAt (after b ys) k) e
 unfolding run after
-settled-ratio b [] zs e k s v p o d a h = later-ratio b zs e k s v p d a h
-settled-ratio b (x ∷ ys) zs e k s v p o d a h =
+settled-legs b [] zs e k v o d a h = later-legs b zs e k v d a h
+settled-legs b (x ∷ ys) zs e k v o d a h =
     ⊎-elim
     (λ (i : Here e k (logOf x (outcome b x))).
-    let f : After b x e k s = next-ratio b x e k s v p (here-gave b x e k i) (i .value) in
-    stays-all (next b x) ys k s (next-valid b x v) (o .1) (f .known) ∙ f .ratio)
-    (λ (i : Answered e k (run (next b x) (ys ++ zs))). settled-ratio (next b x) ys zs e k s (next-valid b x v) (lean-next b x v p (o .0)) (o .1) d i h)
+    let f : After b x e k = next-legs b x e k v (here-gave b x e k i) (i .value) in
+    has-same (stays-all (next b x) ys k (next-valid b x v) (o .1) (f .known)) (f .legs))
+    (λ (i : Answered e k (run (next b x) (ys ++ zs))). settled-legs (next b x) ys zs e k (next-valid b x v) (o .1) d i h)
     (answered-split e k (logOf x (outcome b x)) (run (next b x) (ys ++ zs)) a)
+
+-- their ratios too
+pub settled-ratio : (b : State) (ys zs : List Sent) (e : GivenStrategy) (k s : ℕ) → Valid b → Lean b → Open b ys → OneDay (run (after b ys) zs) → Answered e k (run b (ys ++ zs)) → k < after b ys .defined →
+    ratioFor (strategyAt (after b ys) k) s ≡ ratioIn e s
+settled-ratio b ys zs e k s v p o d a h =
+    let l : HasLegs (strategyAt (after b ys) k) e = settled-legs b ys zs e k v o d a h in
+    same-ratios (strategyAt (after b ys) k) (strategyGiven e) (lean-after b ys v p o .padded k h) (given-padded e (l .definition)) (l .same) s ∙ given-ratios e (l .definition) s
 
 -- from a fresh state on
 no-strategy : (timer : ℕ) → fresh timer .defined ≡ 0

@@ -61,7 +61,7 @@ module _ (legs : Bool) (a : ℕ) (b : State) (v : Sound b) where
         moment = c;
         since = o .shrinks;
         until = shrinks-refl c;
-        done = ⊎-elim inl (λ n. inr (meets-none a c (only-sound o v) (rw is at (n .limit)), by-legs c (n .legs))) (pass-why way legs a b);
+        done = ⊎-elim inl (λ r. inr (⊎-elim (λ n. inl (meets-none a c (only-sound o v) (rw is at (n .limit)), by-legs c (n .legs))) (λ n. inr (rw is at n)) r)) (pass-why way legs a b);
       }
 
   pub shared-had : HadTurn b (pass Shared legs a b .state) a legs

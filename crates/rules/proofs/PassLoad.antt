@@ -1,6 +1,6 @@
 -- A pass writes what it finishes pays for, 13 besides, and where it is shared 14 for each live entry of its strategy.
 use mathlib.Core.Path.{_≡_, refl, _∙_, ap}
-use mathlib.Core.Bool.{Bool, true}
+use mathlib.Core.Bool.{Bool}
 use mathlib.Core.Logic.{_⊎_, inl, inr, ⊎-elim}
 use mathlib.Core.List.{List}
 use Prim.Native.Nat.{ℕ, zero, suc, _+_, _-_, _*_, _≤_, _<_, min}
@@ -20,14 +20,13 @@ use Rattle.rules.specs.declared.Turn.{Turn}
 use Rattle.rules.specs.declared.Turn.the-variants.{Stop, ByLegs, AtLimit}
 use Rattle.rules.specs.State.{entryAt, strategyOf}
 use Rattle.rules.specs.Moves.{Moved, still, and-then, each}
-use Rattle.rules.specs.Sides.{meets}
 use Rattle.rules.specs.Nets.{prices, unitsOf}
 use Rattle.rules.specs.Quotas.{inTurnAt, inTurn, share}
 use Rattle.rules.specs.Fills.{legFill}
-use Rattle.rules.specs.Passes.{within, holding, sizes, giveAt, give, giveInTurn, giveGroup, giveShared, meetLimit, turnOf, takeTurn, turn, pass}
+use Rattle.rules.specs.Passes.{holding, sizes, giveAt, give, giveInTurn, giveGroup, giveShared, meetLimit, turnOf, takeTurn, turn, pass}
 use Rattle.rules.proofs.Shrinks.{SameEntry, SameStrategy, Shrinks, shrinks-refl, shrinks-trans, legs-shrinks}
 use Rattle.rules.proofs.Quotas.{sum-table, share-all}
-use Rattle.rules.proofs.Gives.{whole-none, opposed, Quoted, quoted-holder, inTurn-quoted, share-quoted, sizes-at, Given, given-each}
+use Rattle.rules.proofs.Gives.{Lawful, lawful-shrinks, whole-none, opposed, Quoted, quoted-holder, inTurn-quoted, share-quoted, sizes-at, Given, given-each}
 use Rattle.rules.proofs.Control.{given-proper, inTurn-given, group-given, group-left, Legged, Fits, turn-fits}
 use Rattle.rules.proofs.Turns.{units-most}
 use Rattle.rules.proofs.Load.{load, Pays, Six, six-shrinks, pays-nothing, pays-more, pays-both, whole-most, whole-ends}
@@ -107,7 +106,7 @@ inTurn-ends r xs k l =
     rw (table-slot (inTurnAt r xs) 0 32 k l, sum-table (inTurnAt r xs) 32 k (omega arith) ∙ inTurn-before r xs k)
     (λ some. ⊎-elim (λ (m : r - sumN (slot xs) k < slot xs k). inr (omega arith)) (λ (m : slot xs k ≤ r - sumN (slot xs) k). inl (omega arith)) (lt-or-le (r - sumN (slot xs) k) (slot xs k)))
 
-pub inTurn-pays : (a level g : ℕ) (b : State) → Six b → meets (entryAt b a .side) (entryAt b a .level) level ≡ true → Pays 0 b (giveInTurn a level g b)
+pub inTurn-pays : (a level g : ℕ) (b : State) → Six b → Lawful b a level → Pays 0 b (giveInTurn a level g b)
 unfolding giveInTurn
 inTurn-pays a level g b six m =
     let r : ℕ = entryAt b a .units in
@@ -132,9 +131,6 @@ enough-shrinks : (way : Allocation) (a M : ℕ) {b c : State} → Shrinks b c �
 enough-shrinks LegsOnly a M h e = tt
 enough-shrinks Numbered a M h e = tt
 enough-shrinks Shared a M {b} {c} h e = rw (h .entry a .strategy) (omega (arith, held-shrinks (entryAt b a .strategy) h))
-
-meets-shrinks : (a level : ℕ) {b c : State} → Shrinks b c → meets (entryAt b a .side) (entryAt b a .level) level ≡ true → meets (entryAt c a .side) (entryAt c a .level) level ≡ true
-meets-shrinks a level h m = rw (h .entry a .side, h .entry a .level) m
 
 -- the quotas are for live entries of the strategy, and no more than the units
 quota-held : (b : State) (a level g : ℕ) (qs : List ℕ) → Quoted b a level g qs → (k : ℕ) → k < 32 → 14 * min (slot qs k) 1 ≤ 14 * heldAt b (entryAt b a .strategy) k
@@ -204,11 +200,11 @@ module _ (side : ℕ) (s : Strategy) (a M : ℕ) where
     spent = omega (arith, ap (λ (os : List LegOrder). readyFor os side s) o, going-none (entryAt (m .state) a .units) M z);
   }
 
-  inTurn-turned : (level g : ℕ) (b : State) → Six b → meets (entryAt b a .side) (entryAt b a .level) level ≡ true → Turned side s a M b (giveInTurn a level g b)
+  inTurn-turned : (level g : ℕ) (b : State) → Six b → Lawful b a level → Turned side s a M b (giveInTurn a level g b)
   inTurn-turned level g b six m = turned-pays (inTurn-pays a level g b six m) (inTurn-given a level g b m .orders)
 
   -- a group that holds more than remains: what remains is given out, so the active entry ends
-  less-turned : (level g : ℕ) (b : State) → Six b → (m : meets (entryAt b a .side) (entryAt b a .level) level ≡ true) → Enough Shared a M b
+  less-turned : (level g : ℕ) (b : State) → Six b → (m : Lawful b a level) → Enough Shared a M b
       → entryAt b a .units < sumN (slot (sizes (b .entries) (entryAt b a) level g)) 32 → Turned side s a M b (giveGroup a level g b)
   unfolding giveGroup
   less-turned level g b six m enough less =
@@ -233,7 +229,7 @@ module _ (side : ℕ) (s : Strategy) (a M : ℕ) where
       fee k = 14 * min (slot qs k) 1
 
   -- one that does not: each of its holders ends
-  all-turned : (level g : ℕ) (b : State) → Six b → (m : meets (entryAt b a .side) (entryAt b a .level) level ≡ true)
+  all-turned : (level g : ℕ) (b : State) → Six b → (m : Lawful b a level)
       → sumN (slot (sizes (b .entries) (entryAt b a) level g)) 32 ≤ entryAt b a .units → Turned side s a M b (giveGroup a level g b)
   unfolding giveGroup
   all-turned level g b six m all =
@@ -243,19 +239,19 @@ module _ (side : ℕ) (s : Strategy) (a M : ℕ) where
       (λ some. inl (holding-all (entryAt b a) level g (entryAt b k) some))))
       (unfold giveGroup in group-given a level g b m .orders)
 
-  group-turned : (level g : ℕ) (b : State) → Six b → meets (entryAt b a .side) (entryAt b a .level) level ≡ true → Enough Shared a M b → Turned side s a M b (giveGroup a level g b)
+  group-turned : (level g : ℕ) (b : State) → Six b → Lawful b a level → Enough Shared a M b → Turned side s a M b (giveGroup a level g b)
   group-turned level g b six m enough =
       ⊎-elim (λ less. less-turned level g b six m enough less) (λ all. all-turned level g b six m all)
       (lt-or-le (entryAt b a .units) (sumN (slot (sizes (b .entries) (entryAt b a) level g)) 32))
 
-  shared-turned : (level : ℕ) (b : State) → Six b → meets (entryAt b a .side) (entryAt b a .level) level ≡ true → Enough Shared a M b → Turned side s a M b (giveShared a level b)
+  shared-turned : (level : ℕ) (b : State) → Six b → Lawful b a level → Enough Shared a M b → Turned side s a M b (giveShared a level b)
   unfolding giveShared
   shared-turned level b six m e =
       turned-then (inTurn-turned level 0 b six m)
-      (λ c h. turned-then (group-turned level 1 c (six-shrinks h six) (meets-shrinks a level h m) (enough-shrinks Shared a M h e))
-      (λ d k. let h₂ : Shrinks b d = shrinks-trans h k in group-turned level 2 d (six-shrinks h₂ six) (meets-shrinks a level h₂ m) (enough-shrinks Shared a M h₂ e)))
+      (λ c h. turned-then (group-turned level 1 c (six-shrinks h six) (lawful-shrinks h m) (enough-shrinks Shared a M h e))
+      (λ d k. let h₂ : Shrinks b d = shrinks-trans h k in group-turned level 2 d (six-shrinks h₂ six) (lawful-shrinks h₂ m) (enough-shrinks Shared a M h₂ e)))
 
-  limit-turned : (way : Allocation) (level : ℕ) (b : State) → Six b → meets (entryAt b a .side) (entryAt b a .level) level ≡ true → Enough way a M b → Turned side s a M b (meetLimit way a level b)
+  limit-turned : (way : Allocation) (level : ℕ) (b : State) → Six b → Lawful b a level → Enough way a M b → Turned side s a M b (meetLimit way a level b)
   unfolding meetLimit
   limit-turned LegsOnly level b six m e = turned-nothing b
   limit-turned Shared level b six m e = shared-turned level b six m e
@@ -296,7 +292,7 @@ module _ (b₀ : State) (six : Six b₀) (way : Allocation) (a M : ℕ) (enough 
   unfolding takeTurn
   take-turned Stop b h f = turned-nothing sd st a M b
   take-turned ByLegs b h f = legs-turned b h f
-  take-turned (AtLimit level) b h f = limit-turned sd st a M way level b (six-shrinks h six) (f .meets) (enough-shrinks way a M h enough)
+  take-turned (AtLimit level) b h f = limit-turned sd st a M way level b (six-shrinks h six) (f .lawful) (enough-shrinks way a M h enough)
 
   turns-turned : (legs : Bool) (n : ℕ) → Turned sd st a M b₀ (each (turn way legs a) n b₀)
   unfolding each

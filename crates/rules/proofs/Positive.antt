@@ -160,6 +160,8 @@ starts b (E.Cancel e) r = r
 starts b (E.Series e) r = λ x. record { used = r .used; rows = r .rows }
 starts b (E.Clock e) r = record { used = r .used; rows = r .rows }
 starts b (E.DayEnd e) r = r
+starts b (E.National e) r = tt
+starts b (E.Range e) r = tt
 
 perform-filled : (b : State) (r : Reading) → Ratios b → All Filled (perform b r .moved .records)
 unfolding perform refused

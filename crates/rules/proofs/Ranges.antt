@@ -130,6 +130,10 @@ event-fit K.Cancel n v t m = fit-at (layoutOf K.Cancel n) v 19 1 (omega arith) t
 event-fit K.Series n v t m = omega (arith, fit-at (layoutOf K.Series n) v 19 0 (omega arith) t .1)
 event-fit K.Clock n v t m = fit-at (layoutOf K.Clock n) v 19 0 (omega arith) t .1
 event-fit K.DayEnd n v t m = fit-at (layoutOf K.DayEnd n) v 19 0 (omega arith) t
+event-fit K.National n v t m =
+    let at = fit-at (layoutOf K.National n) v 19 in
+    (omega (arith, at 0 (omega arith) t .1), at 1 (omega arith) t .1, at 2 (omega arith) t .1)
+event-fit K.Range n v t m = fit-at (layoutOf K.Range n) v 19 0 (omega arith) t .1
 event-fit K.Unknown n v t m = tt
 
 -- a strategy's count is read from the byte that its length is taken from

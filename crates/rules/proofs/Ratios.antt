@@ -3,7 +3,7 @@ use mathlib.Core.Path.{_≡_, refl, sym, _∙_, ap}
 use mathlib.Core.Bool.{Bool, true, false}
 use mathlib.Core.Logic.{⊎-elim}
 use mathlib.Core.List.{List, [], _∷_, _++_}
-use Prim.Native.Nat.{ℕ, zero, suc, _+_, _-_, _/_, _≤_, _<_}
+use Prim.Native.Nat.{ℕ, zero, suc, _+_, _-_, _≤_, _<_}
 use native.Mathlib.Omega.{arith}
 use borrow.Author.Tests.{eqb-true, eq-eqb, ltb-true, ltb-false, lt-ltb}
 use lib.Dec.{eqb, ltb}
@@ -15,10 +15,10 @@ use Rattle.events.specs.declared.Strategy.{Strategy as GivenStrategy}
 use Rattle.rules.specs.declared.Leg.{Leg}
 use Rattle.rules.specs.declared.Strategy.{Strategy}
 use Rattle.rules.specs.State.{noLeg, legAt}
-use Rattle.rules.specs.Strategies.{ratioOf, seriesOf, divisor, dividedAt, inSeries, placeOf, legsOf, bySeries, padded, defined, repeats, twice, sameLeg, sameLegAt, sameLegs}
+use Rattle.rules.specs.Strategies.{seriesOf, divisor, dividedAt, inSeries, placeOf, legsOf, bySeries, padded, defined, repeats, twice, sameLeg, sameLegAt, sameLegs}
 use Rattle.rules.specs.Given.{legsGiven, strategyGiven}
-use Rattle.rules.specs.Totals.{ifSame, ratioIn, ratioAt as ratioGivenAt}
-use Rattle.rules.proofs.Tables.{all-take, tally, sum-tally, tally-join}
+use Rattle.rules.specs.Totals.{ifSame, ratioIn}
+use Rattle.rules.proofs.Tables.{all-take, tally, tally-join}
 use Rattle.rules.proofs.Strategies.{Definition, lowest, lowest-at, place-same, rows, length-is, padded-at, rows-le}
 use Rattle.rules.proofs.Laws.{ratioAt, ratioFor, pick-none, when-no}
 

@@ -1,5 +1,5 @@
--- Refusals are exact: the answer is a number exactly where its cause applies and no smaller one does, and 0 where none applies.
-use mathlib.Core.Path.{_≡_, refl, sym, _∙_}
+-- Refusals are exact: the answer is a number exactly where its cause applies and none that is checked before it does, and 0 where none applies.
+use mathlib.Core.Path.{_≡_, refl, sym, _∙_, ap}
 use mathlib.Core.Bool.{Bool, true, false}
 use mathlib.Core.List.{List, [], _∷_}
 use mathlib.Core.Logic.{_⊎_, inl, inr, ⊎-elim}
@@ -7,6 +7,7 @@ use Prim.Native.Nat.{ℕ, zero, suc, _≤_, _<_}
 use native.Mathlib.Omega.{arith}
 use borrow.Author.Tests.{eqb-true, eqb-false, eq-eqb, ne-eqb, ltb-true, ltb-false}
 use lib.Dec.{eqb, ltb}
+use lib.ListN.{length, getD}
 use Rattle.base.specs.Pick.{pick, pick-true, pick-false, pick-by, pick-all}
 use Rattle.base.specs.Walks.{clash}
 use Rattle.events.specs.declared.Event.{Event}
@@ -19,31 +20,56 @@ use Rattle.events.specs.declared.Kind.the-variants as K
 use Rattle.frames.specs.Frames.{kindAt, rowAt, judgeOf, readOf}
 use Rattle.rules.specs.declared.State.{State}
 use Rattle.rules.specs.Moves.{still}
-use Rattle.rules.specs.Refusals.{Cause, _if_, firstCause, applies, causes, readCauses, tableOf, refusal}
+use Rattle.rules.specs.Refusals.{Cause, _if_, position, checkOrder, rank, firstCause, applies, causes, readCauses, tableOf, refusal}
 use Rattle.rules.specs.Step.{Outcome, perform, refused, refuseOrPerform, step}
 
--- the numbers rise along a list of causes, from above n on
-abbrev Rising : ℕ → List Cause → Type 0
-Rising n [] = Unit {0}
-Rising n ((m if c) ∷ cs) = (n < m) × Rising m cs
+-- the causes of a list stand in the order in which they are checked, from the place r on
+abbrev InOrder : ℕ → List Cause → Type 0
+InOrder r [] = Unit {0}
+InOrder r ((m if c) ∷ cs) = (r ≤ rank m) × (rank m < length checkOrder) × InOrder (suc (rank m)) cs
 
--- none of a smaller number applies
-applies-past : (n : ℕ) (cs : List Cause) → Rising n cs → (m : ℕ) → m ≤ n → applies cs m ≡ false
+-- none that is checked before applies
+applies-past : (r : ℕ) (cs : List Cause) → InOrder r cs → (m : ℕ) → rank m < r → applies cs m ≡ false
 unfolding applies
-applies-past n [] r m h = refl
-applies-past n ((k if c) ∷ cs) r m h =
-    pick-false (eqb k m) _ _ (ne-eqb k m (λ e. omega (arith, r .0))) ∙ applies-past k cs (r .1) m (omega (arith, r .0))
+applies-past r [] o m h = refl
+applies-past r ((k if c) ∷ cs) o m h =
+    pick-false (eqb k m) _ _ (ne-eqb k m (λ e. omega (arith, o .0, ap rank e))) ∙ applies-past (suc (rank k)) cs (o .2) m (omega (arith, o .0))
 
--- the answer of a list: a number that applies and that no smaller one precedes, or 0
+-- one that applies has a place in the order
+applies-listed : (r : ℕ) (cs : List Cause) → InOrder r cs → (m : ℕ) → applies cs m ≡ true → rank m < length checkOrder
+unfolding applies
+applies-listed r [] o m h = absurd (clash h refl)
+applies-listed r ((k if c) ∷ cs) o m h =
+    pick-by (λ (t : Bool). t ≡ true → rank m < length checkOrder) (eqb k m)
+    (λ e _. omega (arith, o .1, ap rank (eqb-true k m e)))
+    (λ _ t. applies-listed (suc (rank k)) cs (o .2) m t) h
+
+-- two numbers of one place in the order are one
+position-at : (xs : List ℕ) (n : ℕ) → position xs n < length xs → getD xs (position xs n) 0 ≡ n
+unfolding position
+position-at [] n = λ h. absurd (omega arith)
+position-at (x ∷ xs) n =
+    pick-by (λ (p : ℕ). p < length (x ∷ xs) → getD (x ∷ xs) p 0 ≡ n) (eqb x n) (λ e _. eqb-true x n e) (λ _ h. position-at xs n (omega arith))
+
+rank-only : (m n : ℕ) → rank m < length checkOrder → rank m ≡ rank n → m ≡ n
+unfolding rank
+rank-only m n h e = sym (position-at checkOrder m h) ∙ ap (λ (p : ℕ). getD checkOrder p 0) e ∙ position-at checkOrder n (omega (arith, e))
+
+-- 0 is no refusal
+rank-zero : (m : ℕ) → rank m < length checkOrder → m ≡ 0 → ⊥
+unfolding rank position pick
+rank-zero m h e = omega (arith, ap rank e)
+
+-- the answer of a list: a number that applies and before which none that applies is checked, or 0
 pub record FirstRefusal (cs : List Cause) (n : ℕ) : Type 0 where
   pub some : (n ≡ 0 → ⊥) → applies cs n ≡ true
-  pub smallest : (m : ℕ) → m < n → applies cs m ≡ false
+  pub first : (m : ℕ) → rank m < rank n → applies cs m ≡ false
   pub none : n ≡ 0 → (m : ℕ) → applies cs m ≡ false
 
-module _ (n k : ℕ) (cs : List Cause) (above : n < k) (r : Rising k cs) (rest : FirstRefusal cs (firstCause cs)) where
-  here : (m : ℕ) → m < k → applies ((k if true) ∷ cs) m ≡ false
+module _ (k : ℕ) (cs : List Cause) (listed : rank k < length checkOrder) (o : InOrder (suc (rank k)) cs) (rest : FirstRefusal cs (firstCause cs)) where
+  here : (m : ℕ) → rank m < rank k → applies ((k if true) ∷ cs) m ≡ false
   unfolding applies
-  here m h = pick-false (eqb k m) _ _ (ne-eqb k m (λ e. omega arith)) ∙ applies-past k cs r m (omega arith)
+  here m h = pick-false (eqb k m) _ _ (ne-eqb k m (λ e. omega (arith, ap rank e))) ∙ applies-past (suc (rank k)) cs o m (omega arith)
 
   skip : (m : ℕ) (t : Bool) → applies cs m ≡ t → applies ((k if false) ∷ cs) m ≡ t
   unfolding applies pick
@@ -53,49 +79,60 @@ module _ (n k : ℕ) (cs : List Cause) (above : n < k) (r : Rising k cs) (rest :
   unfolding pick applies
   one-more true = record {
     some = λ h. pick-true (eqb k k) true _ (eq-eqb k k refl);
-    smallest = here;
-    none = λ e m. absurd (omega arith);
+    first = here;
+    none = λ e m. absurd (rank-zero k listed e);
   }
   one-more false = record {
     some = λ h. skip (firstCause cs) true (rest .some h);
-    smallest = λ m h. skip m false (rest .smallest m h);
+    first = λ m h. skip m false (rest .first m h);
     none = λ e m. skip m false (rest .none e m);
   }
 
-first-exact : (n : ℕ) (cs : List Cause) → Rising n cs → FirstRefusal cs (firstCause cs)
+first-exact : (r : ℕ) (cs : List Cause) → InOrder r cs → FirstRefusal cs (firstCause cs)
 unfolding firstCause applies
-first-exact n [] r = record { some = λ h. absurd (h refl); smallest = λ m h. refl; none = λ e m. refl }
-first-exact n ((k if c) ∷ cs) r = one-more n k cs (r .0) (r .1) (first-exact k cs (r .1)) c
+first-exact r [] o = record { some = λ h. absurd (h refl); first = λ m h. refl; none = λ e m. refl }
+first-exact r ((k if c) ∷ cs) o = one-more k cs (o .1) (o .2) (first-exact (suc (rank k)) cs (o .2)) c
 
--- the table's numbers rise
-rising-causes : (b : State) (e : Event) → Rising 3 (causes b e)
-unfolding causes
-rising-causes b (E.Strategy e) = (omega arith, (omega arith, tt))
-rising-causes b (E.Order e) = (omega arith, (omega arith, (omega arith, (omega arith, tt))))
-rising-causes b (E.Sweep e) = (omega arith, (omega arith, (omega arith, (omega arith, (omega arith, tt)))))
-rising-causes b (E.LegOrder e) = (omega arith, (omega arith, (omega arith, tt)))
-rising-causes b (E.Cancel e) = (omega arith, (omega arith, tt))
-rising-causes b (E.Series e) = tt
-rising-causes b (E.Clock e) = (omega arith, tt)
-rising-causes b (E.DayEnd e) = tt
+-- the causes of each kind stand in the order
+causes-in-order : (b : State) (e : Event) → InOrder 3 (causes b e)
+unfolding causes rank position pick
+causes-in-order b (E.Strategy e) = (omega arith, omega arith, (omega arith, omega arith, tt))
+causes-in-order b (E.Order e) = (omega arith, omega arith, (omega arith, omega arith, (omega arith, omega arith, (omega arith, omega arith, tt))))
+causes-in-order b (E.Sweep e) = (omega arith, omega arith, (omega arith, omega arith, (omega arith, omega arith, (omega arith, omega arith, (omega arith, omega arith, tt)))))
+causes-in-order b (E.LegOrder e) = (omega arith, omega arith, (omega arith, omega arith, (omega arith, omega arith, tt)))
+causes-in-order b (E.Cancel e) = (omega arith, omega arith, (omega arith, omega arith, tt))
+causes-in-order b (E.Series e) = tt
+causes-in-order b (E.Clock e) = (omega arith, omega arith, tt)
+causes-in-order b (E.DayEnd e) = tt
+causes-in-order b (E.National e) = (omega arith, omega arith, tt)
+causes-in-order b (E.Range e) = tt
 
 -- a reading refuses by 2 or 3 only
 pub record Read (r : Reading) : Type 0 where
   pub number : (n : ℕ) → r ≡ R.Refused n → (2 ≤ n) × (n ≤ 3)
 
-rising-less : (n m : ℕ) (cs : List Cause) → m ≤ n → Rising n cs → Rising m cs
-rising-less n m [] h r = tt
-rising-less n m ((k if c) ∷ cs) h r = (omega (arith, r .0), r .1)
+order-less : (r q : ℕ) (cs : List Cause) → q ≤ r → InOrder r cs → InOrder q cs
+order-less r q [] h o = tt
+order-less r q ((k if c) ∷ cs) h o = (omega (arith, o .0), o .1, o .2)
 
-rising-table : (b : State) (r : Reading) (space : ℕ) → Read r → Rising 0 (tableOf b r space)
-unfolding tableOf readCauses
-rising-table b (R.Refused n) space h = (omega arith, (omega (arith, h .number n refl .0), tt))
-rising-table b (R.Event e) space h = (omega arith, rising-less 3 1 (causes b e) (omega arith) (rising-causes b e))
+read-listed : (n : ℕ) → 2 ≤ n → n ≤ 3 → (1 ≤ rank n) × (rank n < length checkOrder)
+unfolding rank position pick
+read-listed (suc (suc zero)) h k = (omega arith, omega arith)
+read-listed (suc (suc (suc zero))) h k = (omega arith, omega arith)
+read-listed zero h k = absurd (omega arith)
+read-listed (suc zero) h k = absurd (omega arith)
+read-listed (suc (suc (suc (suc n)))) h k = absurd (omega arith)
 
--- "The smallest number that applies is given .. and never otherwise", for a frame that was read
+table-in-order : (b : State) (r : Reading) (space : ℕ) → Read r → InOrder 0 (tableOf b r space)
+unfolding tableOf readCauses rank position pick
+table-in-order b (R.Refused n) space h = let l = h .number n refl in let p = read-listed n (l .0) (l .1) in (omega arith, omega arith, (p .0, p .1, tt))
+table-in-order b (R.Event e) space h = (omega arith, omega arith, order-less 3 1 (causes b e) (omega arith) (causes-in-order b e))
+
+-- "The smallest number that applies is given .. and never otherwise", with the refusals that were added "checked at the place named", for a frame
+-- that was read
 table-exact : (b : State) (r : Reading) (space : ℕ) → Read r → FirstRefusal (tableOf b r space) (refusal b r space)
 unfolding refusal
-table-exact b r space h = first-exact 0 (tableOf b r space) (rising-table b r space h)
+table-exact b r space h = first-exact 0 (tableOf b r space) (table-in-order b r space h)
 
 judge-number : (f : List ℕ) → (judgeOf f ≡ 0) ⊎ ((2 ≤ judgeOf f) × (judgeOf f ≤ 3))
 unfolding judgeOf
@@ -113,6 +150,8 @@ event-number K.Cancel v n e = absurd (let z : _≡_ {A = ℕ} 0 1 = cc in omega 
 event-number K.Series v n e = absurd (let z : _≡_ {A = ℕ} 0 1 = cc in omega arith)
 event-number K.Clock v n e = absurd (let z : _≡_ {A = ℕ} 0 1 = cc in omega arith)
 event-number K.DayEnd v n e = absurd (let z : _≡_ {A = ℕ} 0 1 = cc in omega arith)
+event-number K.National v n e = absurd (let z : _≡_ {A = ℕ} 0 1 = cc in omega arith)
+event-number K.Range v n e = absurd (let z : _≡_ {A = ℕ} 0 1 = cc in omega arith)
 event-number K.Unknown v n e = let z : 2 ≡ n = cc in (omega arith, omega arith)
 
 pub reads : (f : List ℕ) → Read (readOf f)
@@ -148,26 +187,26 @@ pub refusals-exact : (b : State) (frame : List ℕ) (space : ℕ) → FirstRefus
 unfolding step
 refusals-exact b frame space = rw (answer-read b (readOf frame) space (reads frame)) (table-exact b (readOf frame) space (reads frame))
 
--- the number that applies and that no smaller one precedes is the answer
-exact-only : (cs : List Cause) (n m : ℕ) → FirstRefusal cs n → (m ≡ 0 → ⊥) → applies cs m ≡ true → ((k : ℕ) → k < m → applies cs k ≡ false) → n ≡ m
-exact-only cs n m x some a least = by (ltb n m) (ltb m n) refl refl
+-- the number that applies and before which none that applies is checked is the answer
+exact-only : (cs : List Cause) (n m : ℕ) → InOrder 0 cs → FirstRefusal cs n → (m ≡ 0 → ⊥) → applies cs m ≡ true → ((k : ℕ) → rank k < rank m → applies cs k ≡ false) → n ≡ m
+exact-only cs n m o x some a least = by (ltb (rank n) (rank m)) (ltb (rank m) (rank n)) refl refl
   where
-    by : (s t : Bool) → ltb n m ≡ s → ltb m n ≡ t → n ≡ m
+    by : (s t : Bool) → ltb (rank n) (rank m) ≡ s → ltb (rank m) (rank n) ≡ t → n ≡ m
     by true t p q = zero-or n refl
       where
         zero-or : (k : ℕ) → k ≡ n → n ≡ m
         zero-or zero e = absurd (clash a (x .none (sym e) m))
-        zero-or (suc k) e = absurd (clash (x .some (λ z. omega arith)) (least n (ltb-true n m p)))
-    by false true p q = absurd (clash a (x .smallest m (ltb-true m n q)))
-    by false false p q = omega (arith, ltb-false n m p, ltb-false m n q)
+        zero-or (suc k) e = absurd (clash (x .some (λ z. omega arith)) (least n (ltb-true _ _ p)))
+    by false true p q = absurd (clash a (x .first m (ltb-true _ _ q)))
+    by false false p q = sym (rank-only m n (applies-listed 0 cs o m a) (omega (arith, ltb-false (rank n) (rank m) p, ltb-false (rank m) (rank n) q)))
 
 pub refusal-only :
     (b : State) (frame : List ℕ) (space n : ℕ) →
     (n ≡ 0 → ⊥) →
     applies (tableOf b (readOf frame) space) n ≡ true →
-    ((m : ℕ) → m < n → applies (tableOf b (readOf frame) space) m ≡ false) →
+    ((m : ℕ) → rank m < rank n → applies (tableOf b (readOf frame) space) m ≡ false) →
     step b frame space .answer ≡ n
-refusal-only b frame space n = exact-only _ _ n (refusals-exact b frame space)
+refusal-only b frame space n = exact-only _ _ n (table-in-order b (readOf frame) space (reads frame)) (refusals-exact b frame space)
 
 -- A REFUSED EVENT leaves the state as it was and writes nothing
 refused-read : (b : State) (r : Reading) (space : ℕ) → Read r → (refuseOrPerform b r space .answer ≡ 0 → ⊥) → refuseOrPerform b r space .moved ≡ still b

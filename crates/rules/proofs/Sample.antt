@@ -1,9 +1,11 @@
 -- The totals are no empty talk: the worked example of `tape`, as the frames that are sent, brings in two leg orders and a complex order, and
--- cash moves.
+-- cash moves. With national prices and a range sent before the order, its fill at the bound is made, and one cent past it is not.
 use mathlib.Core.Path.{_≡_, refl}
 use mathlib.Core.List.{List, [], _∷_, map}
 use Prim.Native.Nat.{ℕ}
 use lib.IntN.{pos}
+use Rattle.events.specs.declared.Strategy.{Strategy as GivenStrategy}
+use Rattle.events.specs.declared.Leg.{Leg as GivenLeg}
 use Rattle.rules.specs.State
 use Rattle.rules.specs.Records
 use Rattle.rules.specs.Lookups
@@ -66,3 +68,39 @@ unfolding
     Examples.performed Records.lineOf Records.cents Totals.outcome Totals.run Totals.after Totals.linesOf Totals.total Totals.wholeFilled
     Totals.bought Totals.cash Totals.isFill Totals.isLegNumber Totals.enters Totals.entersRead Totals.brought
 sample-moves = record { filled = refl; bought = refl; paid = refl; received = refl; live = refl }
+
+-- 2026-01: the same, where national prices 290 and 298 of series 0, 100 and 104 of series 1, and a range of so many cents come before the order
+abbrev pub bounded : ℕ → List Totals.Sent
+bounded r =
+    sent (6 ∷ (0 ∷ (6 ∷ (0 ∷ (0 ∷ (1 ∷ []))))))
+    ∷ (sent (6 ∷ (0 ∷ (6 ∷ (0 ∷ (1 ∷ (1 ∷ []))))))
+    ∷ (sent (11 ∷ (0 ∷ (1 ∷ (0 ∷ (2 ∷ (0 ∷ (0 ∷ (1 ∷ (1 ∷ (1 ∷ (1 ∷ [])))))))))))
+    ∷ (sent (14 ∷ (0 ∷ (4 ∷ (0 ∷ (7 ∷ (0 ∷ (0 ∷ (1 ∷ (5 ∷ (0 ∷ (44 ∷ (1 ∷ (0 ∷ (0 ∷ []))))))))))))))
+    ∷ (sent (14 ∷ (0 ∷ (4 ∷ (0 ∷ (7 ∷ (0 ∷ (1 ∷ (0 ∷ (5 ∷ (0 ∷ (100 ∷ (0 ∷ (0 ∷ (0 ∷ []))))))))))))))
+    ∷ (sent (13 ∷ (0 ∷ (9 ∷ (0 ∷ (0 ∷ (34 ∷ (1 ∷ (0 ∷ (0 ∷ (42 ∷ (1 ∷ (0 ∷ (0 ∷ [])))))))))))))
+    ∷ (sent (13 ∷ (0 ∷ (9 ∷ (0 ∷ (1 ∷ (100 ∷ (0 ∷ (0 ∷ (0 ∷ (104 ∷ (0 ∷ (0 ∷ (0 ∷ [])))))))))))))
+    ∷ (sent (6 ∷ (0 ∷ (10 ∷ (0 ∷ (r ∷ (0 ∷ []))))))
+    ∷ (sent (16 ∷ (0 ∷ (2 ∷ (0 ∷ (9 ∷ (0 ∷ (0 ∷ (0 ∷ (3 ∷ (1 ∷ (2 ∷ (0 ∷ (200 ∷ (0 ∷ (0 ∷ (0 ∷ []))))))))))))))))
+    ∷ []))))))))
+
+-- the definition among them
+abbrev spreadEvent : GivenStrategy
+spreadEvent = record { count = 2; legs = (record { series = 0; side = 0; ratio = 1 }, record { series = 1; side = 1; ratio = 1 }, none, none, none, none) }
+  where
+    none : GivenLeg
+    none = record { series = 0; side = 0; ratio = 0 }
+
+-- the national offer net is 298 less 100; with a range of 2 the legs' net of 200 is at the bound and fills, with 1 it is past it and the order, which
+-- is immediate, is cancelled
+pub record Bounded : Type 0 where
+  pub net : Totals.netSaid (Totals.run State.first (bounded 2)) spreadEvent 0 ≡ pos 198
+  pub range : Totals.rangeSaid 9999 (Totals.run State.first (bounded 2)) ≡ 2
+  pub filled : Totals.wholeFilled 3 (Totals.linesOf (Totals.run State.first (bounded 2))) ≡ 2
+  pub stopped : Totals.wholeFilled 3 (Totals.linesOf (Totals.run State.first (bounded 1))) ≡ 0
+  pub cancelled : Totals.cancelled 3 (Totals.linesOf (Totals.run State.first (bounded 1))) ≡ 2
+
+pub sample-bounded : Bounded
+unfolding
+    Examples.performed Records.lineOf Records.cents Totals.outcome Totals.run Totals.linesOf Totals.total Totals.wholeFilled Totals.cancelled
+    Totals.quoteAfter Totals.rangeAfter Totals.quoted Totals.rangeSaid Totals.legTerm Totals.netOver Totals.priceSaid
+sample-bounded = record { net = refl; range = refl; filled = refl; stopped = refl; cancelled = refl }

@@ -66,6 +66,8 @@ shrinks-trans h k = record {
   clock = k .clock ∙ h .clock;
   timer = k .timer ∙ h .timer;
   last = k .last ∙ h .last;
+  national = k .national ∙ h .national;
+  range = k .range ∙ h .range;
 }
 
 -- what holds of a slot after a store
@@ -103,6 +105,8 @@ tables-shrink b es os ss f g h l m n = record {
   clock = refl;
   timer = refl;
   last = refl;
+  national = refl;
+  range = refl;
 }
 
 pub shrinks-refl : (b : State) → Shrinks b b

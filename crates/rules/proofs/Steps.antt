@@ -17,14 +17,16 @@ use Rattle.events.specs.declared.Sweep.{Sweep as GivenSweep}
 use Rattle.rules.specs.declared.Strategy.{Strategy}
 use Rattle.rules.specs.declared.Entry.{Entry}
 use Rattle.rules.specs.declared.LegOrder.{LegOrder}
+use Rattle.rules.specs.declared.Quote.{Quote}
 use Rattle.rules.specs.declared.State.{State}
-use Rattle.rules.specs.State.{noLeg, noEntry, noOrder, noStrategy, fresh, entryAt, orderAt, strategyAt, withEntries, withOrders, withStrategies, withOpened, withClock, withLast}
+use Rattle.rules.specs.State.{noLeg, noEntry, noOrder, noStrategy, fresh, entryAt, orderAt, strategyAt, withEntries, withOrders, withStrategies, withOpened, withClock, withLast, withNational, withRange}
 use Rattle.rules.specs.Moves.{Moved, still, and-then, each}
 use Rattle.rules.specs.Strategies.{held, added as strategyAdded, define}
 use Rattle.rules.specs.Fills.{cancelEntry}
 use Rattle.rules.specs.Auctions.{answer}
 use Rattle.rules.specs.Events.{live, liveOrder, keep, enter, enterOrder, onOrder, oldSweep, enterSweep, onSweep, onLegOrder, cancelNumber, onClock, shut, reopen, onSeries, closeRunning, cancelLowest, restart, onDayEnd, behind}
-use Rattle.rules.specs.Given.{strategyGiven, orderGiven, sweepGiven, legOrderGiven}
+use Rattle.rules.specs.National.{onNational, onRange}
+use Rattle.rules.specs.Given.{strategyGiven, orderGiven, sweepGiven, legOrderGiven, quoteGiven}
 use Rattle.rules.specs.Refusals.{firstCause, causes}
 use Rattle.rules.specs.Step.{accept}
 use Rattle.rules.specs.Valid.{FitLeg, Sound, Valid}
@@ -37,7 +39,7 @@ use Rattle.rules.proofs.Arrivals.{Sweeping, swept-valid, swept-entering
 use Rattle.rules.specs.Fits.{FitEvent}
 use Rattle.rules.proofs.Validity.{order-clear, sweep-clear, legOrder-clear}
 use Rattle.rules.proofs.DayEnd.{Finished, day-end-clears}
-use Rattle.rules.proofs.Laws.{Law, ofUnits, ofContracts, noEntries, noOrders, ofSeries, ofCash, ofRatio, ofLimit, ofPrice, size, come, gone, FitsEntry, FitsOrder, Good, Steady, Acct, ratioFor, steady-shrinks, good-shrinks, acct-nothing, acct-both, pick-none, measure, measure-by}
+use Rattle.rules.proofs.Laws.{Law, ofUnits, ofContracts, noEntries, noOrders, ofSeries, ofCash, ofRatio, ofLimit, ofParty, ofPrice, size, come, gone, FitsEntry, FitsOrder, Good, Steady, Acct, ratioFor, steady-shrinks, good-shrinks, acct-nothing, acct-both, pick-none, measure, measure-by}
 use Rattle.rules.proofs.Accounts.{acct-whole, acct-trade, acct-cancel, acct-cancelOrder, acct-begins, acct-closes, acct-answers, size-same}
 use Rattle.rules.proofs.LegAccounts.{acct-legs}
 
@@ -128,6 +130,7 @@ fits-strategies (ofSeries s) b c e h f = tt
 fits-strategies ofCash b c e h f = tt
 fits-strategies (ofRatio n s x) b c e h f = λ i. ap (λ (t : Strategy). ratioFor t s) h ∙ f i
 fits-strategies (ofLimit n side limit) b c e h f = f
+fits-strategies (ofParty n k side) b c e h f = f
 fits-strategies (ofPrice n side price) b c e h f = tt
 
 good-same : (l : Law) (b c : State) → c .entries ≡ b .entries → c .orders ≡ b .orders → ((i : ℕ) → 0 < entryAt b i .units → strategyAt c (entryAt b i .strategy) ≡ strategyAt b (entryAt b i .strategy)) → Good l b → Good l c
@@ -193,6 +196,15 @@ module _ (l : Law) (b : State) (s : Sound b) (g : Good l b) where
   books-clock : (t : ℕ) → Books l b 0 (onClock t b)
   unfolding withClock
   books-clock t = books-same l b (withClock b t) (onClock t b) refl refl refl (sound-steady s) g (onClock-kept acct t b)
+
+  -- national prices and the range move nothing
+  books-national : (x : ℕ) (q : Quote) → Books l b 0 (still (onNational x q b))
+  unfolding onNational withNational
+  books-national x q = books-same l b (onNational x q b) (still (onNational x q b)) refl refl refl (sound-steady s) g (acct .nothing (onNational x q b))
+
+  books-range : (r : ℕ) → Books l b 0 (still (onRange r b))
+  unfolding onRange withRange
+  books-range r = books-same l b (onRange r b) (still (onRange r b)) refl refl refl (sound-steady s) g (acct .nothing (onRange r b))
 
   books-series : (x state : ℕ) → Books l b 0 (onSeries x state b)
   unfolding onSeries withOpened
@@ -294,6 +306,8 @@ rowOf b (E.Cancel e) = noRow
 rowOf b (E.Series e) = noRow
 rowOf b (E.Clock e) = noRow
 rowOf b (E.DayEnd e) = noRow
+rowOf b (E.National e) = noRow
+rowOf b (E.Range e) = noRow
 
 sweep-life : (b : State) (e : GivenSweep) → sweepGiven b e .life ≡ 4
 unfolding sweepGiven
@@ -319,3 +333,5 @@ accept-books l b (E.Cancel e) v f c h g = books-cancel l b (v .sound) g (e .numb
 accept-books l b (E.Series e) v f c h g = books-series l b (v .sound) g (e .series) (e .state)
 accept-books l b (E.Clock e) v f c h g = books-clock l b (v .sound) g (e .time)
 accept-books l b (E.DayEnd e) v f c h g = books-dayEnd l b (v .sound) g (e .timer)
+accept-books l b (E.National e) v f c h g = books-national l b (v .sound) g (e .series) (quoteGiven e)
+accept-books l b (E.Range e) v f c h g = books-range l b (v .sound) g (e .range)

@@ -1,35 +1,46 @@
 -- THE TOTALS AFTER A LIST, for every list of events of one day on a fresh book.
 use mathlib.Core.Path.{_≡_, refl, sym, _∙_, ap, subst}
-use mathlib.Core.Bool.{Bool, true, false}
-use mathlib.Core.List.{List, [], _∷_, map, List·Memᴰ, List·Memᴰ·head, List·Memᴰ·tail}
-use Prim.Native.Nat.{ℕ, _+_, _-_, _*_, _≤_}
+use mathlib.Core.Bool.{Bool, true, false, not}
+use mathlib.Core.Logic.{⊎-elim}
+use mathlib.Core.List.{List, [], _∷_, _++_, map, List·Memᴰ, List·Memᴰ·head, List·Memᴰ·tail}
+use Prim.Native.Nat.{ℕ, _+_, _*_, _≤_, _<_}
 use native.Mathlib.Omega.{arith}
 use borrow.Author.Tests.{eqb-true, eqb-false, eq-eqb, ne-eqb, leb-true}
 use lib.Dec.{eqb}
 use lib.Signed.{_≤ℤ_}
-use Rattle.base.specs.Pick.{pick, pick-by, pick-true, pick-false}
+use Rattle.base.specs.Pick.{pick, both, pick-by, pick-yes, pick-true, pick-false}
 use Rattle.base.specs.Walks.{clash}
 use Rattle.events.specs.declared.Strategy.{Strategy as GivenStrategy}
+use Rattle.rules.specs.declared.Bounds.{Bounds}
 use Rattle.rules.specs.declared.State.{State}
 use Rattle.rules.specs.declared.Record.{Record}
 use Rattle.rules.specs.declared.Kind.{Kind}
 use Rattle.rules.specs.declared.Kind.the-variants.{WholeFill, LegFill, LegOrderFill, Cancelled, LegOrderCancelled, AuctionBegun, AuctionEnded}
-use Rattle.rules.specs.State.{fresh, strategyAt}
+use Rattle.rules.specs.State.{noQuote, fresh, strategyAt}
+use Rattle.rules.specs.Sizes.{seriesCount}
 use Rattle.rules.specs.Sides.{meets}
+use Rattle.rules.specs.Given.{legsGiven, strategyGiven}
+use Rattle.rules.specs.National.{nationalNet, boundsOf, boundsAt, mayTake}
+use Rattle.rules.specs.Sentences.{InRange}
 use Rattle.rules.specs.Records.{kindNumber, cents, Line, lineOf}
 use Rattle.rules.specs.Lookups.{liveQuantity}
-use Rattle.rules.specs.Valid.{Valid}
-use Rattle.rules.specs.Totals.{Sent, Logged, outcome, after, logOf, run, linesOf, total, ifSame, wholeFilled, legFilled, cancelled, contractsOn, bought, sold, Terms, Brought, complex, leg, nothing, brought, Came, Unknown, mentions, ratioIn, Answered, Defined, NotWorse, isLeg, isLegNumber, isFill, cash, OneDay, Totals}
+use Rattle.rules.specs.Valid.{FitQuote, Valid}
+use Rattle.rules.specs.Totals.{Sent, Logged, outcome, after, logOf, run, linesOf, total, ifSame, wholeFilled, legFilled, cancelled, contractsOn, bought, sold, Terms, Brought, complex, leg, nothing, brought, Came, Unknown, mentions, ratioIn, Answered, Defined, NotWorse, isLeg, isLegNumber, isFill, cash, OneDay, Totals, quoted, rangeSaid, WithinRange}
 use Rattle.rules.proofs.Endings.{or-no}
 use Rattle.rules.proofs.Validity.{valid-fresh}
 use Rattle.rules.proofs.Tables.{tally}
-use Rattle.rules.proofs.Laws.{Law, noEntries, noOrders, ofSeries, ofCash, ofRatio, ofLimit, ofPrice, size, come, gone, ratioFor, onComplex, onLegOrder, onWhole, onTraded, when-yes}
+use Rattle.rules.proofs.Laws.{Law, noEntries, noOrders, ofSeries, ofCash, ofRatio, ofLimit, ofParty, ofPrice, size, come, gone, ratioFor, onComplex, onLegOrder, onWhole, onTraded, when-yes}
 use Rattle.rules.proofs.Steps.{Row, entryRow, legRow, noRow, added, FitsRow}
-use Rattle.rules.proofs.Lists.{rowIn, next, termsOf, brought-row, recordsOf, enteredOf, lines-records}
-use Rattle.rules.proofs.Numbers.{About, a-units, a-contracts, a-noEntries, a-noOrders, a-ratio, a-limit, a-price, Quiet, quiet, apart-unknown, law-quiet, Entered, CameEntry, CameOrder, came-entry, came-order}
-use Rattle.rules.proofs.Levels.{cents-le, cents-price}
+use Rattle.rules.proofs.Lists.{rowIn, next, termsOf, brought-row, recordsOf, enteredOf, lines-records, records-of, Divided, run-divided, after-valid}
+use Rattle.rules.proofs.Numbers.{About, a-units, a-contracts, a-noEntries, a-noOrders, a-ratio, a-limit, a-party, a-price, Open, one-day-split, Quiet, quiet, apart-unknown, law-quiet, Entered, CameEntry, CameOrder, came-entry, came-order}
+use Rattle.rules.proofs.Levels.{cents-le, cents-price, cents-plus, cents-less}
 use Rattle.rules.proofs.Paper.{tally-none, tally-mem, Written, written, met, units-lines, contracts-lines, mentions-lines, legs-lines, ratio-lines, bought-lines, sold-lines, fillKind, paid-lines}
-use Rattle.rules.proofs.Origins.{lean-fresh, settled-ratio, strategy-given}
+use Rattle.rules.proofs.Origins.{lean-after, lean-fresh, HasLegs, settled-legs, settled-ratio, strategy-given}
+use Rattle.rules.proofs.InRange.{all-mem, event-in-range}
+use Rattle.rules.proofs.Known.{quotesSaid, bounds-known, quotes-most}
+use Rattle.rules.proofs.NetsSaid.{net-said}
+use Rattle.rules.proofs.Nationals.{bound-sentence}
+use Rattle.rules.proofs.Strategies.{Definition}
 
 -- laws that no entry has to do with
 quiet-plain : (l : Law) → ((b : State) (r : Row) → (added l r ≡ 0) × FitsRow l b r) → (b : State) (xs : List Sent) → Quiet l b xs
@@ -126,6 +137,30 @@ line-within w l r is side limit s p ok = record {
   sell = λ t. rw (ap (λ (y : Line). y .price) is, ← p) (within-sell side limit (r .level) (s ∙ t) ok);
 }
 
+-- the line of a record within the range
+within-range : (v : Bounds) (side level : ℕ) → mayTake v side level ≡ true → (side ≡ 0 → 0 < v .offer → level ≤ v .offer + v .range) × (side ≡ 1 → 0 < v .bid → v .bid ≤ level + v .range)
+within-range v side level ok =
+    let b = bound-sentence v (eqb side 0) (not (eqb side 0)) level in
+    let p = b .both ok in (
+      λ s some. ⊎-elim (λ z. absurd (omega arith)) (λ l. l) (b .notAbove (p .0 (eq-eqb side 0 s))),
+      λ s some. ⊎-elim (λ z. absurd (omega arith)) (λ l. l) (b .notBelow (p .1 (ap not (ne-eqb side 0 (λ z. omega arith))))),
+    )
+
+line-in-range : (log : List Logged) (e : GivenStrategy) → Definition (legsGiven e) (e .count) → ((x : ℕ) → x < seriesCount → FitQuote (quoted noQuote log x)) →
+    (w : Terms) (r : Record) → mayTake (boundsOf (quotesSaid log) (rangeSaid 9999 log) (strategyGiven e)) (w .side) (r .level) ≡ true → WithinRange log e w (lineOf r)
+unfolding lineOf boundsOf
+line-in-range log e def most w r ok =
+    let range : ℕ = rangeSaid 9999 log in
+    let b = within-range _ (w .side) (r .level) ok in
+    record {
+      buy = λ s said.
+          let n = net-said log e def 0 (omega arith) most said in
+          rw (← (n .net), cents-plus (nationalNet (quotesSaid log) 0 (strategyGiven e)) range) (cents-le (r .level) (nationalNet (quotesSaid log) 0 (strategyGiven e) + range) (b .0 s (n .known)));
+      sell = λ s said.
+          let n = net-said log e def 1 (omega arith) most said in
+          rw (← (n .net)) (cents-less (nationalNet (quotesSaid log) 1 (strategyGiven e)) range (r .level) (b .1 s (n .known)));
+    }
+
 module _ (timer : ℕ) (low : 1 ≤ timer) (high : timer ≤ 5000) (xs : List Sent) (day : OneDay (run (fresh timer) xs)) where
   abbrev log : List Logged
   log = run (fresh timer) xs
@@ -200,6 +235,43 @@ module _ (timer : ℕ) (low : 1 ≤ timer) (high : timer ≤ 5000) (xs : List Se
         let x : Written l rs = written l rs (rw lines at there) in
         line-within w l (x .of) (x .is) (c .entry .side) (c .entry .level) (c .side) (c .limit)
         (whole-met (x .of) (x .there) (sym (ap (λ (y : Line). y .kind) (x .is)) ∙ kind) (sym (ap (λ (y : Line). y .number) (x .is)) ∙ number))
+
+    -- its records 1 show its strategy and side
+    parties : tally (come (ofParty (w .number) (c .entry .strategy) (c .entry .side))) rs ≡ 0
+    parties = omega (arith, entry-law (a-party (c .entry .strategy) (c .entry .side)) (λ z. (refl, refl)), tally-none rs)
+
+    party-of : (r : Record) → List·Memᴰ r rs → kindNumber (r .kind) ≡ 1 → r .number ≡ w .number → (r .place ≡ k) × (r .side ≡ w .side)
+    party-of r there kind number =
+        let z : onWhole (r .kind) (ifSame (r .number) (w .number) (pick (both (eqb (r .place) (c .entry .strategy)) (eqb (r .side) (c .entry .side))) 0 1)) ≡ 0 =
+        tally-mem (come (ofParty (w .number) (c .entry .strategy) (c .entry .side))) r rs there parties in
+        let y : ifSame (r .number) (w .number) (pick (both (eqb (r .place) (c .entry .strategy)) (eqb (r .side) (c .entry .side))) 0 1) ≡ 0 = rw (whole-line (r .kind) kind) at z in
+        let p = pick-yes (eqb (r .place) (c .entry .strategy)) (met _ (sym (when-yes (r .number) (w .number) _ number) ∙ y)) in
+        (eqb-true _ _ (p .0) ∙ c .strategy, eqb-true _ _ (p .1) ∙ c .side)
+
+    range-of : (e : GivenStrategy) → Answered e k log → (before : List Logged) (x : Logged) (behind : List Logged) → log ≡ before ++ (x ∷ behind) →
+        (l : Line) → List·Memᴰ l (x .lines) → l .kind ≡ 1 → l .number ≡ w .number → WithinRange before e w l
+    unfolding lineOf
+    range-of e a before x behind is l there kind number =
+        let d : Divided (fresh timer) xs before x = run-divided (fresh timer) xs before x behind is in
+        let b : State = after (fresh timer) (d .prefix) in
+        let i : Written l (outcome b (d .event) .moved .records) = written l _ (subst (λ (y : Logged). List·Memᴰ l (y .lines)) (d .here) there) in
+        let r : Record = i .of in
+        let kind : kindNumber (r .kind) ≡ 1 = sym (ap (λ (y : Line). y .kind) (i .is)) ∙ kind in
+        let number : r .number ≡ w .number = sym (ap (λ (y : Line). y .number) (i .is)) ∙ number in
+        let among : List·Memᴰ r rs = subst (λ (ys : List Sent). List·Memᴰ r (recordsOf (fresh timer) ys)) (sym (d .is)) (records-of (fresh timer) (d .prefix) (d .event) (d .suffix) r (i .there)) in
+        let p : (r .place ≡ k) × (r .side ≡ w .side) = party-of r among kind number in
+        let u : Valid b = after-valid (fresh timer) (d .prefix) v in
+        let f : InRange b r = all-mem (event-in-range b (d .event) u) (i .there) in
+        let defined : k < b .defined = rw (p .0) at (f .strategy kind) in
+        let ok : mayTake (boundsAt b k) (w .side) (r .level) ≡ true = rw (p .0, p .1) at (f .range kind) in
+        let o : Open (fresh timer) (d .prefix) × OneDay (run b (d .event ∷ d .suffix)) =
+        one-day-split (fresh timer) (d .prefix) (d .event) (d .suffix) (subst (λ (ys : List Sent). OneDay (run (fresh timer) ys)) (d .is) day) in
+        let h : HasLegs (strategyAt b k) e =
+        settled-legs (fresh timer) (d .prefix) (d .event ∷ d .suffix) e k v (o .0) (o .1) (subst (λ (ys : List Sent). Answered e k (run (fresh timer) ys)) (d .is) a) defined in
+        let q = bounds-known timer (d .prefix) v k e h (lean-after (fresh timer) (d .prefix) v (lean-fresh timer) (o .0) .padded k defined) in
+        subst (λ (ls : List Logged). WithinRange ls e w l) (sym (d .earlier))
+        (subst (λ (y : Line). WithinRange (run (fresh timer) (d .prefix)) e w y) (sym (i .is))
+        (line-in-range (run (fresh timer) (d .prefix)) e (h .definition) (quotes-most timer (d .prefix) v) w r (rw q at ok)))
 
   -- the laws of a leg order that came
   module _ (w : Terms) (m : Came (leg w) log) where
@@ -312,6 +384,7 @@ module _ (timer : ℕ) (low : 1 ≤ timer) (high : timer ≤ 5000) (xs : List Se
     price = price-of;
     whole = whole-of;
     paid = paid-of;
+    range = range-of;
   }
 
 -- THE TOTALS AFTER A LIST: for every list of events sent to a fresh book, of any bytes and with record spaces of any length, with nothing

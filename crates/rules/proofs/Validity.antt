@@ -1,5 +1,5 @@
 -- Every state that events lead to is valid, and a refused event leaves the state as it was.
-use mathlib.Core.Path.{_≡_, refl, sym, _∙_}
+use mathlib.Core.Path.{_≡_, refl, sym, _∙_, ap}
 use mathlib.Core.Bool.{Bool, true, false, not}
 use mathlib.Core.Logic.{_⊎_, inl, inr, ⊎-elim}
 use mathlib.Core.List.{List, _∷_}
@@ -8,10 +8,11 @@ use native.Mathlib.Nat.{le-refl}
 use native.Mathlib.Omega.{arith}
 use borrow.Author.Tests.{eqb-true, eq-eqb, ne-eqb, ltb-true, ltb-false, leb-false, not-false}
 use lib.Dec.{eqb, ltb}
-use lib.ListN.{set}
+use lib.ListN.{getD, length-set, set}
 use lib.Seq.{getD-set-same, getD-set-other}
 use Rattle.base.specs.Pick.{pick, pick-by, pick-true, pick-false, pick-yes}
 use Rattle.base.specs.Walks.{sumN, firstN, any-holds, any-where, first-holds, clash, lt-or-le}
+use Rattle.base.specs.All.{all-set}
 use Rattle.events.specs.declared.Event.{Event}
 use Rattle.events.specs.declared.Event.the-variants as E
 use Rattle.events.specs.declared.Reading.{Reading}
@@ -23,17 +24,19 @@ use Rattle.events.specs.declared.LegOrder.{LegOrder as GivenLegOrder}
 use Rattle.frames.specs.Frames.{readOf}
 use Rattle.rules.specs.declared.Strategy.{Strategy}
 use Rattle.rules.specs.declared.Entry.{Entry}
+use Rattle.rules.specs.declared.Quote.{Quote}
 use Rattle.rules.specs.declared.State.{State}
-use Rattle.rules.specs.State.{noStrategy, fresh, entryAt, strategyAt, withStrategies}
+use Rattle.rules.specs.State.{noEntry, noStrategy, fresh, entryAt, strategyAt, withStrategies, withNational, withRange}
 use Rattle.rules.specs.Strategies.{twice, held, added, define, shutSet}
 use Rattle.rules.specs.Auctions.{liveIn, running, isNumber, starterSlot}
 use Rattle.rules.specs.Events.{live, oldSweep}
-use Rattle.rules.specs.Given.{legsGiven, strategyGiven, orderGiven, sweepGiven, legOrderGiven}
+use Rattle.rules.specs.National.{onNational, onRange}
+use Rattle.rules.specs.Given.{legsGiven, strategyGiven, orderGiven, sweepGiven, legOrderGiven, quoteGiven}
 use Rattle.rules.specs.Refusals.{Cause, _if_, firstCause, undefined, illFormed, notOpen, notFound, isStarter, unanswerable, replaces, removesNone, strategiesFull, isSweep, isOrderAt, isSweepAt, isLegOrderAt, ordersFull, sweepsFull, legOrdersFull, noRoom, numbersOut, sweepNumbersOut, causes, readCauses, tableOf, refusal}
 use Rattle.rules.specs.Step.{Outcome, accept, refused, perform, refuseOrPerform, step}
-use Rattle.rules.specs.Valid.{FitStrategy, Sound, Starter, HasStarter, Valid}
+use Rattle.rules.specs.Valid.{FitStrategy, FitQuote, Sound, Starter, HasStarter, Settled, Valid}
 use Rattle.rules.proofs.Strategies.{Definition, defined-fit, defined-two, defined-starter, defined-begun}
-use Rattle.rules.proofs.Entering.{pos-live, order-one, sweep-live, Entering, EnteringOrder, sound-define}
+use Rattle.rules.proofs.Entering.{pos-live, order-one, sweep-live, Entering, EnteringOrder, sound-define, sound-national, sound-range}
 use Rattle.rules.proofs.Settled.{same-or, Nearly, OpenLegs, settled-nearly, nearly-tables, loose-valid}
 use Rattle.rules.proofs.Only.{live-in}
 use Rattle.rules.proofs.Arrivals.{order-valid, Sweeping, sweep-valid, legOrder-valid, cancel-number-valid}
@@ -246,10 +249,42 @@ legOrder-clear b e f c =
     let z = clear 13 (numbersOut b) _ (omega arith) (y .1) in
     order-given b e f (y .0) (z .0)
 
+-- National prices and the range: every table is as it was.
+
+settled-same : (b c : State) (k : ℕ) → c .entries ≡ b .entries → c .strategies ≡ b .strategies → c .opened ≡ b .opened → c .clock ≡ b .clock → Settled b k → Settled c k
+unfolding shutSet
+settled-same b c k p q r t s = record {
+  starter = λ x. starter (s .starter (rw q at x));
+  openLegs = λ x. rw (q, r) (s .openLegs (rw q at x));
+  begun = rw (q, t) (s .begun);
+  day = λ x. rw p (s .day (rw q at x));
+  stays = rw p (s .stays);
+}
+  where
+    starter : HasStarter b k → HasStarter c k
+    starter h =
+        let e : entryAt c (h .at) ≡ entryAt b (h .at) = ap (λ (es : List Entry). getD es (h .at) noEntry) p in
+        let w = h .starter in
+        record {
+          at = h .at;
+          starter = record { slot = w .slot; live = rw e (w .live); strategy = rw e (w .strategy); number = rw (e, q) (w .number); class = rw e (w .class); life = rw e (w .life) };
+        }
+
+national-valid : (s : ℕ) (q : Quote) (b : State) → Valid b → FitQuote q → Valid (onNational s q b)
+unfolding onNational withNational
+national-valid s q b v f = record {
+  sound = sound-national b (set (b .national) s q) (v .sound) (all-set q f (v .sound .national) s) (length-set (b .national) s q ∙ v .sound .quoteRows);
+  settled = λ k. settled-same b _ k refl refl refl refl (v .settled k);
+}
+
+range-valid : (r : ℕ) (b : State) → Valid b → r ≤ 9999 → Valid (onRange r b)
+unfolding onRange withRange
+range-valid r b v h = record { sound = sound-range b r (v .sound) h; settled = λ k. settled-same b _ k refl refl refl refl (v .settled k) }
+
 -- An event that is accepted.
 
 pub accept-valid : (b : State) (e : Event) → Valid b → FitEvent e → firstCause (causes b e) ≡ 0 → Valid (accept b e .state)
-unfolding accept causes sweepGiven
+unfolding accept causes sweepGiven quoteGiven
 accept-valid b (E.Strategy e) v f c =
     let x = clear 5 (illFormed e) _ (omega arith) c in
     let y = clear 12 (strategiesFull b e) _ (omega arith) (x .1) in
@@ -266,6 +301,8 @@ accept-valid b (E.Clock e) v f c =
     let x = clear 11 (ltb (e .time) (b .clock)) _ (omega arith) c in
     clock-valid (e .time) b (ltb-false _ _ (x .0)) f v
 accept-valid b (E.DayEnd e) v f c = dayEnd-valid (e .timer) b (f .0) (f .1)
+accept-valid b (E.National e) v f c = national-valid (e .series) (quoteGiven e) b v (record { bid = f .1; offer = f .2 })
+accept-valid b (E.Range e) v f c = range-valid (e .range) b v f
 
 perform-valid : (b : State) (r : Reading) (space : ℕ) → Valid b → FitReading r → refusal b r space ≡ 0 → Valid (perform b r .moved .state)
 unfolding perform refused refusal tableOf readCauses

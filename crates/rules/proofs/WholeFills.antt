@@ -18,7 +18,8 @@ use Rattle.rules.specs.State.{entryAt}
 use Rattle.rules.specs.Moves.{Moved, still, and-then, each}
 use Rattle.rules.specs.Records.{kindNumber}
 use Rattle.rules.specs.Fills.{legRecordAt, partyRecords, noPrices, wholeFill}
-use Rattle.rules.specs.Passes.{giveAt, give, giveInTurn, giveGroup, giveShared, meetLimit, readyNet, opposite, legsFirst, turnAt, turnOf, takeTurn, turn, pass}
+use Rattle.rules.specs.Passes.{giveAt, give, giveInTurn, giveGroup, giveShared, meetLimit, readyNet, opposite, legsFirst, turnAt, allowed, turnOf, takeTurn, turn, pass}
+use Rattle.rules.specs.National.{boundsAt}
 use Rattle.rules.specs.Auctions.{matchOnce, matchAll}
 use Rattle.rules.specs.Sentences.{Unpriced, WithoutLegs}
 use Rattle.rules.proofs.Control.{first-net}
@@ -73,16 +74,17 @@ unfolding readyNet
 barred-net a b = pick-false _ _ _ refl
 
 turn-without : (way : Allocation) (a i : ℕ) (b : State) → WithoutLegs b (turn way false a i b)
-unfolding turnOf turnAt takeTurn
+unfolding turnOf turnAt allowed takeTurn
 turn-without way a i b =
     let e : Entry = entryAt b a in
     let x : ℕ = opposite way a b in
     let net : ℕ = readyNet false a b in
-    let P : Turn → Type 0 = λ (t : Turn). WithoutLegs b (takeTurn way a t b) in
+    let Q : Turn → Type 0 = λ (t : Turn). WithoutLegs b (takeTurn way a t b) in
+    let P : Turn → Type 0 = λ (t : Turn). Q (allowed (boundsAt b (e .strategy)) (e .side) net t) in
     pick-all P _ (still-without b)
     (pick-by P (legsFirst (e .side) net x)
     (λ f. absurd (omega (arith, first-net (e .side) net x f, barred-net a b)))
-    (λ _. pick-all P _ (still-without b) (pick-all P _ (limit-without way a x b) (still-without b))))
+    (λ _. pick-all P _ (still-without b) (pick-all P _ (pick-all Q _ (limit-without way a x b) (still-without b)) (still-without b))))
 
 -- A PASS FOR WHICH THE LEGS ARE BARRED
 pub pass-without : (way : Allocation) (a : ℕ) (b : State) → WithoutLegs b (pass way false a b)

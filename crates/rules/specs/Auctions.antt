@@ -1,7 +1,7 @@
 -- Auctions, the passes by legs only, and the match of the resting orders where a series opens.
 use mathlib.Core.Bool.{Bool, true, false, not}
 use mathlib.Core.List.{[], _∷_}
-use Prim.Native.Nat.{ℕ, _+_, _-_, min}
+use Prim.Native.Nat.{ℕ, _+_, min}
 use lib.Dec.{eqb, ltb, leb}
 use lib.ListN.{set}
 use Rattle.base.specs.Pick.{pick, both, either}
@@ -16,6 +16,7 @@ use Rattle.rules.specs.State.{entryAt, strategyAt, withStrategies}
 use Rattle.rules.specs.Moves.{Moved, still, and-then, each}
 use Rattle.rules.specs.Sides.{other, better}
 use Rattle.rules.specs.Strategies.{allOpen, holds}
+use Rattle.rules.specs.National.{boundsAt, mayMeet}
 use Rattle.rules.specs.Fills.{wholeFill, cancelEntry}
 use Rattle.rules.specs.Passes.{pass}
 
@@ -142,14 +143,26 @@ bestSlot b k side = walk (bestStep b k side) tableRows tableRows
 unfoldable pub crossed : State → ℕ → ℕ → Bool
 crossed b x y = both (ltb x tableRows) (both (ltb y tableRows) (leb (entryAt b y .level) (entryAt b x .level)))
 
+-- the slot of the lower number of the two
+abbrev pub lowerOf : State → ℕ → ℕ → ℕ
+lowerOf b x y = pick (ltb (entryAt b x .number) (entryAt b y .number)) x y
+
+-- and that of the other
+abbrev pub higherOf : State → ℕ → ℕ → ℕ
+higherOf b x y = pick (ltb (entryAt b x .number) (entryAt b y .number)) y x
+
+-- 2026-01: "A .. opening match stops at the first fill that either complex party may not take": the two meet, and both may fill at that limit
+abbrev pub mayMatch : State → ℕ → ℕ → ℕ → Bool
+mayMatch b k x y = both (crossed b x y) (mayMeet (boundsAt b k) (entryAt b (lowerOf b x y) .level))
+
 -- "matches best buy with best sell (price, then number) .., at the lower number's limit, its order active"
 unfoldable pub matchOnce : ℕ → ℕ → State → Moved
 matchOnce k i b =
     let x : ℕ = bestSlot b k 0 in
     let y : ℕ = bestSlot b k 1 in
-    let a : ℕ = pick (ltb (entryAt b x .number) (entryAt b y .number)) x y in
-    let h : ℕ = pick (ltb (entryAt b x .number) (entryAt b y .number)) y x in
-    pick (crossed b x y) (wholeFill b a h (entryAt b a .level) (min (entryAt b a .units) (entryAt b h .units))) (still b)
+    let a : ℕ = lowerOf b x y in
+    let h : ℕ = higherOf b x y in
+    pick (mayMatch b k x y) (wholeFill b a h (entryAt b a .level) (min (entryAt b a .units) (entryAt b h .units))) (still b)
 
 -- ".. while they meet": each match finishes an order, so there are no more than slots
 unfoldable pub matchAll : ℕ → State → Moved

@@ -20,6 +20,7 @@ use Rattle.rules.specs.Moves
 use Rattle.rules.specs.Sides
 use Rattle.rules.specs.Quotas
 use Rattle.rules.specs.Nets
+use Rattle.rules.specs.National
 use Rattle.rules.specs.Strategies
 use Rattle.rules.specs.Fills
 use Rattle.rules.specs.Passes
@@ -54,12 +55,14 @@ unfolding
     Frames.kindAt Frames.rowAt Frames.judgeOf Frames.readOf Frames.frameOf Frames.writtenOf Frames.spaceOf
     Number.number Number.bytes
     State.fresh State.withEntries State.withOrders State.withStrategies State.withOpened State.withClock
-    State.withLast
+    State.withLast State.withNational State.withRange
     Moves.and-then Moves.each
     Sides.other Sides.legSide Sides.meets Sides.better Sides.bestPrice
     Quotas.inTurnAt Quotas.inTurn Quotas.portion Quotas.oneOf Quotas.holderAt Quotas.sharedAt Quotas.share
     Nets.stands Nets.priceWith Nets.priceOf Nets.lot Nets.lots Nets.legPrice Nets.prices Nets.known Nets.weight
     Nets.weighed Nets.netOf Nets.legNet Nets.legUnits Nets.unitsOf
+    National.nationalPrice National.nationalPrices National.nationalNet National.boundsOf National.mayBuy
+    National.maySell National.mayFill National.onNational National.onRange
     Strategies.divisor Strategies.lowestTerms Strategies.placeOf Strategies.bySeries Strategies.padded
     Strategies.seriesSet Strategies.defined Strategies.twice Strategies.overThreefold Strategies.sameLeg
     Strategies.sameLegs Strategies.numberOf Strategies.added Strategies.define Strategies.shutSet
@@ -67,7 +70,7 @@ unfolding
     Fills.cutByLegs Fills.takeLegs Fills.legFill Fills.legTrade Fills.cancelEntry Fills.cancelOrder
     Passes.opposes Passes.limitWith Passes.bestOpposite Passes.groupOf Passes.within Passes.holding Passes.sizes
     Passes.give Passes.giveInTurn Passes.giveGroup Passes.giveShared Passes.meetLimit Passes.ready Passes.readyNet
-    Passes.opposite Passes.legsFirst Passes.turnAt Passes.turnOf Passes.takeTurn Passes.pass
+    Passes.opposite Passes.legsFirst Passes.turnAt Passes.allowed Passes.turnOf Passes.takeTurn Passes.pass
     Auctions.liveIn Auctions.putAuction Auctions.begin Auctions.close Auctions.starterSlot Auctions.answer
     Auctions.lapses Auctions.cancelLapsed Auctions.endUnfilled Auctions.starterPass Auctions.later
     Auctions.laterPass Auctions.endAuction Auctions.due Auctions.endDue Auctions.endHolding Auctions.dayOrder
@@ -80,8 +83,8 @@ unfolding
     Events.onLegOrder Events.cancelEntryOf Events.cancelOrderOf Events.cancelNumber Events.onClock Events.shut
     Events.reopen Events.onSeries Events.closeRunning Events.lowerNumber Events.lowestLive Events.cancelLowest
     Events.restart Events.onDayEnd
-    Given.strategyGiven Given.orderGiven Given.sweepGiven Given.legOrderGiven
-    Refusals.firstCause Refusals.undefined Refusals.illFormed Refusals.isOrderOf Refusals.isLegOrderOf
+    Given.strategyGiven Given.orderGiven Given.sweepGiven Given.legOrderGiven Given.quoteGiven
+    Refusals.position Refusals.rank Refusals.firstCause Refusals.bidAboveOffer Refusals.undefined Refusals.illFormed Refusals.isOrderOf Refusals.isLegOrderOf
     Refusals.notFound Refusals.isStarter Refusals.unanswerable Refusals.removesNone Refusals.strategiesFull
     Refusals.isOrder Refusals.isSweep Refusals.isLegOrder Refusals.ordersFull Refusals.sweepsFull
     Refusals.legOrdersFull Refusals.noRoom Refusals.numbersOut Refusals.sweepNumbersOut Refusals.causes

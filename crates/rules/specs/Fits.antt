@@ -11,7 +11,7 @@ use Rattle.events.specs.declared.Strategy.{Strategy as GivenStrategy}
 use Rattle.events.specs.declared.Order.{Order as GivenOrder}
 use Rattle.events.specs.declared.Sweep.{Sweep as GivenSweep}
 use Rattle.events.specs.declared.LegOrder.{LegOrder as GivenLegOrder}
-use Rattle.rules.specs.Sizes.{strategySlots}
+use Rattle.rules.specs.Sizes.{strategySlots, seriesCount}
 use Rattle.rules.specs.State.{noLeg}
 use Rattle.rules.specs.Strategies.{seriesOf, ratioOf}
 use Rattle.rules.specs.Given.{legsGiven}
@@ -62,6 +62,8 @@ FitEvent (E.Cancel e) = 1 ≤ e .number
 FitEvent (E.Series e) = e .series < 32
 FitEvent (E.Clock e) = e .time ≤ 86_400_000
 FitEvent (E.DayEnd e) = (1 ≤ e .timer) × (e .timer ≤ 5000)
+FitEvent (E.National e) = (e .series < seriesCount) × (e .bid ≤ 99_999) × (e .offer ≤ 99_999)
+FitEvent (E.Range e) = e .range ≤ 9999
 
 -- a frame that is refused has none
 abbrev pub FitReading : Reading → Type 0

@@ -6,10 +6,12 @@ use Rattle.events.specs.declared.Strategy.{Strategy as GivenStrategy}
 use Rattle.events.specs.declared.Order.{Order as GivenOrder}
 use Rattle.events.specs.declared.Sweep.{Sweep as GivenSweep}
 use Rattle.events.specs.declared.LegOrder.{LegOrder as GivenLegOrder}
+use Rattle.events.specs.declared.National.{National as GivenNational}
 use Rattle.rules.specs.declared.Leg.{Leg}
 use Rattle.rules.specs.declared.Strategy.{Strategy}
 use Rattle.rules.specs.declared.Entry.{Entry}
 use Rattle.rules.specs.declared.LegOrder.{LegOrder}
+use Rattle.rules.specs.declared.Quote.{Quote}
 use Rattle.rules.specs.declared.State.{State}
 use Rattle.rules.specs.Strategies.{defined}
 
@@ -67,3 +69,7 @@ legOrderGiven b e = record {
   contracts = e .contracts;
   price = e .price;
 }
+
+-- national prices as they are set
+unfoldable pub quoteGiven : GivenNational → Quote
+quoteGiven e = record { bid = e .bid; offer = e .offer }

@@ -4,6 +4,7 @@ pub mod Moves
 pub mod Sides
 pub mod Quotas
 pub mod Nets
+pub mod National
 pub mod Strategies
 pub mod Fills
 pub mod Passes

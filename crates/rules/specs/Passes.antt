@@ -1,5 +1,5 @@
 -- Passes. "A pass fills one active order."
-use mathlib.Core.Bool.{Bool, true, false, not}
+use mathlib.Core.Bool.{Bool, false, not}
 use mathlib.Core.List.{List}
 use Prim.Native.Nat.{ℕ}
 use lib.Dec.{eqb}
@@ -12,6 +12,7 @@ use Rattle.rules.specs.declared.Entry.{Entry}
 use Rattle.rules.specs.declared.State.{State}
 use Rattle.rules.specs.declared.Allocation.{Allocation}
 use Rattle.rules.specs.declared.Allocation.the-variants.{LegsOnly, Shared, Numbered}
+use Rattle.rules.specs.declared.Bounds.{Bounds}
 use Rattle.rules.specs.declared.Turn.{Turn}
 use Rattle.rules.specs.declared.Turn.the-variants.{Stop, ByLegs, AtLimit}
 use Rattle.rules.specs.State.{noEntry, entryAt, strategyOf}
@@ -19,6 +20,7 @@ use Rattle.rules.specs.Moves.{Moved, still, and-then, each}
 use Rattle.rules.specs.Sides.{other, meets, better, bestPrice}
 use Rattle.rules.specs.Quotas.{inTurn, share}
 use Rattle.rules.specs.Nets.{prices, netOf, unitsOf}
+use Rattle.rules.specs.National.{boundsAt, mayTake, mayMeet}
 use Rattle.rules.specs.Fills.{wholeFill, legFill}
 
 -- an entry stands opposite another: live, of its strategy, of the other side
@@ -115,9 +117,20 @@ turnAt e x net =
     (pick (eqb x 0) Stop
     (pick (meets (e .side) (e .level) x) (AtLimit x) Stop)))
 
--- what the entry at slot a does next
+-- 2026-01: "A pass .. stops at the first fill that either complex party may not take": a turn of an entry of that side, at that ready leg net,
+-- within these bounds. The other price is not tried.
+unfoldable pub allowed : Bounds → ℕ → ℕ → Turn → Turn
+allowed w side net Stop = Stop
+allowed w side net ByLegs = pick (mayTake w side net) ByLegs Stop
+allowed w side net (AtLimit x) = pick (mayMeet w x) (AtLimit x) Stop
+
+-- what the entry at slot a would do next, whatever the national prices
+abbrev pub choice : Allocation → Bool → ℕ → State → Turn
+choice way legs a b = turnAt (entryAt b a) (opposite way a b) (readyNet legs a b)
+
+-- what it does next
 unfoldable pub turnOf : Allocation → Bool → ℕ → State → Turn
-turnOf way legs a b = turnAt (entryAt b a) (opposite way a b) (readyNet legs a b)
+turnOf way legs a b = allowed (boundsAt b (entryAt b a .strategy)) (entryAt b a .side) (readyNet legs a b) (choice way legs a b)
 
 -- and does it
 unfoldable pub takeTurn : Allocation → ℕ → Turn → State → Moved

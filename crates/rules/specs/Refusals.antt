@@ -1,7 +1,7 @@
--- "Refusals by cause": the causes of each kind with their numbers, and the smallest that applies.
+-- "Refusals by cause": the causes of each kind with their numbers, and the first that applies in the order in which they are checked.
 use mathlib.Core.Bool.{Bool, true, false, not}
 use mathlib.Core.List.{List, [], _∷_}
-use Prim.Native.Nat.{ℕ}
+use Prim.Native.Nat.{ℕ, suc}
 use lib.Dec.{eqb, ltb, leb}
 use Rattle.base.specs.Pick.{pick, both, either}
 use Rattle.base.specs.Walks.{sumN, anyN}
@@ -12,6 +12,7 @@ use Rattle.events.specs.declared.Reading.{Reading}
 use Rattle.events.specs.declared.Reading.the-variants as R
 use Rattle.events.specs.declared.Strategy.{Strategy as GivenStrategy}
 use Rattle.events.specs.declared.Sweep.{Sweep as GivenSweep}
+use Rattle.events.specs.declared.National.{National as GivenNational}
 use Rattle.rules.specs.Sizes.{strategySlots, orderSlots, sweepSlots, legOrderSlots, tableRows, recordSpace}
 use Rattle.rules.specs.declared.Entry.{Entry}
 use Rattle.rules.specs.declared.LegOrder.{LegOrder}
@@ -27,7 +28,21 @@ infix 20 _if_
 pub data Cause : Type 0 where
   _if_ : ℕ → Bool → Cause
 
--- "The smallest number that applies is given"; 0 where none does. The numbers rise along the list.
+-- the place of n in a list, its length where n is not in it
+unfoldable pub position : List ℕ → ℕ → ℕ
+position [] n = 0
+position (x ∷ xs) n = pick (eqb x n) 0 (suc (position xs n))
+
+-- The order in which causes are checked. "The smallest number that applies is given"; 2026-01: "refusals of events [join] document 01's table,
+-- .. each checked at the place named": 14 is "checked after 3".
+abbrev pub checkOrder : List ℕ
+checkOrder = 1 ∷ (2 ∷ (3 ∷ (14 ∷ (4 ∷ (5 ∷ (6 ∷ (7 ∷ (8 ∷ (9 ∷ (10 ∷ (11 ∷ (12 ∷ (13 ∷ [])))))))))))))
+
+-- the place of a refusal in it
+unfoldable pub rank : ℕ → ℕ
+rank n = position checkOrder n
+
+-- the number of the first cause that applies; 0 where none does. The causes of an event stand in the order in which they are checked.
 unfoldable pub firstCause : List Cause → ℕ
 firstCause [] = 0
 firstCause ((n if c) ∷ cs) = pick c n (firstCause cs)
@@ -141,6 +156,10 @@ numbersOut b = leb 100_000 (b .last)
 unfoldable pub sweepNumbersOut : State → GivenSweep → Bool
 sweepNumbersOut b e = pick (eqb (e .units) 0) false (numbersOut b)
 
+-- 14, 2026-01: "A national bid above a national offer, neither 0"
+unfoldable pub bidAboveOffer : GivenNational → Bool
+bidAboveOffer e = both (not (eqb (e .bid) 0)) (both (not (eqb (e .offer) 0)) (ltb (e .offer) (e .bid)))
+
 -- the causes that an event of each kind can have
 unfoldable pub causes : State → Event → List Cause
 causes b (E.Strategy e) = (5 if illFormed e) ∷ ((12 if strategiesFull b e) ∷ [])
@@ -155,6 +174,8 @@ causes b (E.Cancel e) = (7 if notFound b (e .member) (e .number)) ∷ ((8 if isS
 causes b (E.Series e) = []
 causes b (E.Clock e) = (11 if ltb (e .time) (b .clock)) ∷ []
 causes b (E.DayEnd e) = []
+causes b (E.National e) = (14 if bidAboveOffer e) ∷ []
+causes b (E.Range e) = []
 
 -- those of a frame of any bytes, as it is read: 2 and 3 are the reader's, the rest need an event
 unfoldable pub readCauses : State → Reading → List Cause
@@ -165,6 +186,6 @@ readCauses b (R.Event e) = causes b e
 unfoldable pub tableOf : State → Reading → ℕ → List Cause
 tableOf b r space = (1 if ltb space recordSpace) ∷ readCauses b r
 
--- "The smallest number that applies"
+-- the first that applies
 unfoldable pub refusal : State → Reading → ℕ → ℕ
 refusal b r space = firstCause (tableOf b r space)

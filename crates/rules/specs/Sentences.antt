@@ -20,22 +20,27 @@ use Rattle.events.specs.declared.Strategy.{Strategy as GivenStrategy}
 use Rattle.events.specs.declared.Order.{Order as GivenOrder}
 use Rattle.events.specs.declared.Sweep.{Sweep as GivenSweep}
 use Rattle.events.specs.declared.LegOrder.{LegOrder as GivenLegOrder}
+use Rattle.events.specs.declared.National.{National as GivenNational}
+use Rattle.events.specs.declared.Range.{Range as GivenRange}
 use Rattle.rules.specs.declared.Leg.{Leg}
 use Rattle.rules.specs.declared.Strategy.{Strategy}
 use Rattle.rules.specs.declared.Entry.{Entry}
 use Rattle.rules.specs.declared.LegOrder.{LegOrder}
 use Rattle.rules.specs.declared.State.{State}
 use Rattle.rules.specs.declared.Record.{Record}
+use Rattle.rules.specs.declared.Bounds.{Bounds}
 use Rattle.rules.specs.declared.Turn.{Turn}
-use Rattle.rules.specs.declared.Turn.the-variants.{ByLegs, AtLimit}
+use Rattle.rules.specs.declared.Turn.the-variants.{Stop, ByLegs, AtLimit}
 use Rattle.rules.specs.declared.Kind.the-variants.{LegFill, LegOrderFill, Cancelled, LegOrderCancelled, AuctionBegun, AuctionEnded}
-use Rattle.rules.specs.State.{noLeg, fresh, entryAt, orderAt, strategyAt, legAt, withOpened, withClock}
+use Rattle.rules.specs.State.{noLeg, noQuote, fresh, entryAt, orderAt, strategyAt, legAt, withOpened, withClock, withNational, withRange}
 use Rattle.rules.specs.Moves.{Moved, still, each}
 use Rattle.rules.specs.Records.{kindNumber}
 use Rattle.rules.specs.Sides.{other, meets, better}
 use Rattle.rules.specs.Nets.{offerNet, bidNet}
 use Rattle.rules.specs.Fills.{partyRecords}
-use Rattle.rules.specs.Passes.{readyNet}
+use Rattle.rules.specs.National.{boundsAt, mayBuy, maySell, mayFill, mayTake, mayMeet}
+use Rattle.rules.specs.declared.Allocation.the-variants.{Shared}
+use Rattle.rules.specs.Passes.{bestOpposite, readyNet, turnAt, pass}
 use Rattle.rules.specs.Auctions.{matchIn}
 use Rattle.rules.specs.Sizes.{orderSlots, sweepSlots, legOrderSlots, tableRows, zeroLevel}
 use Rattle.rules.specs.Refusals.{firstCause, causes, isOrderAt, isSweepAt, isLegOrderAt}
@@ -147,13 +152,39 @@ MeetsNone b i =
 abbrev pub LegsMeetNone : State → ℕ → Type 0
 LegsMeetNone b i = (readyNet true i b ≡ 0) ⊎ (meets (entryAt b i .side) (entryAt b i .level) (readyNet true i b) ≡ false)
 
+-- WHO MAY NOT FILL at a level, within bounds w: exactly who these name.
+pub record BoundSentence (w : Bounds) (buys sells : Bool) (level : ℕ) : Type 0 where
+  -- "either complex party": where a fill is barred, the one that buys or the one that sells may not take it
+  pub either : mayFill w buys sells level ≡ false → ((buys ≡ true) × (mayBuy w level ≡ false)) ⊎ ((sells ≡ true) × (maySell w level ≡ false))
+  pub both : mayFill w buys sells level ≡ true → (buys ≡ true → mayBuy w level ≡ true) × (sells ≡ true → maySell w level ≡ true)
+  -- "No complex order or sweep that buys fills above the national offer net plus the range"; at it is not above; "A missing national net bounds nothing"
+  pub above : mayBuy w level ≡ false → (0 < w .offer) × (w .offer + w .range < level)
+  pub notAbove : mayBuy w level ≡ true → (w .offer ≡ 0) ⊎ (level ≤ w .offer + w .range)
+  -- ".. and none that sells below the national bid net less it"
+  pub below : maySell w level ≡ false → (0 < w .bid) × (level + w .range < w .bid)
+  pub notBelow : maySell w level ≡ true → (w .bid ≡ 0) ⊎ (w .bid ≤ level + w .range)
+
+-- 2026-01: "A pass .. stops at the first fill that either complex party may not take": what turn t fills, of an entry of that side at that ready
+-- leg net, is such a fill
+pub data BarredTurn (w : Bounds) (side net : ℕ) (t : Turn) : Type 0 where
+  at-legs : t ≡ ByLegs → mayTake w side net ≡ false → BarredTurn w side net t
+  at-limit : (x : ℕ) → t ≡ AtLimit x → mayMeet w x ≡ false → BarredTurn w side net t
+
+-- .. what the entry at slot i would fill next, between the best opposite limit x and the legs
+abbrev pub Barred : State → ℕ → ℕ → Bool → Type 0
+Barred b i x legs = BarredTurn (boundsAt b (entryAt b i .strategy)) (entryAt b i .side) (readyNet legs i b) (turnAt (entryAt b i) x (readyNet legs i b))
+
+-- .. at all holders of the best opposite limit
+abbrev pub BarredHere : State → ℕ → Bool → Type 0
+BarredHere b i legs = Barred b i (bestOpposite (b .entries) (entryAt b i)) legs
+
 -- "Repeat while units of it remain .. Stop when neither meets its limit": the entry at slot i has had its pass between b and c. At a moment between
--- them nothing of it was left, or nothing met its limit, legs included where it may use them.
+-- them nothing of it was left, or nothing met its limit, legs included where it may use them, or the fill that it came to was barred.
 pub record HadTurn (b c : State) (i : ℕ) (legs : Bool) : Type 0 where
   pub moment : State
   pub since : Shrinks b moment
   pub until : Shrinks moment c
-  pub done : (entryAt moment i .units ≡ 0) ⊎ (MeetsNone moment i × (legs ≡ true → LegsMeetNone moment i))
+  pub done : (entryAt moment i .units ≡ 0) ⊎ ((MeetsNone moment i × (legs ≡ true → LegsMeetNone moment i)) ⊎ BarredHere moment i legs)
 
 -- WHAT AN ORDER DOES NEXT, t, between the best opposite limit x and the ready leg net, 0 where there is none. "take the best opposite limit in
 -- the strategy, or the leg net .. if the legs are ready and it is strictly better for the active order or no opposite limit stands."
@@ -167,14 +198,35 @@ pub record TurnSentence (e : Entry) (x net : ℕ) (t : Turn) : Type 0 where
 abbrev pub AtThatLimit : ℕ → Record → Type 0
 AtThatLimit level r = IsKind 1 r → r .level ≡ level
 
+-- the level at which turn t fills, at that ready leg net
+abbrev pub fillLevel : Turn → ℕ → ℕ
+fillLevel Stop net = 0
+fillLevel ByLegs net = net
+fillLevel (AtLimit x) net = x
+
+-- WITHIN THE RANGE: t is what an order of that side chose, u what it does within these bounds, x the moves of that turn.
+pub record AllowedSentence (w : Bounds) (side net : ℕ) (t u : Turn) (x : Moved) : Type 0 where
+  -- it does what it chose, or that is barred and it stops: the other price is not tried
+  pub same : (u ≡ t) ⊎ ((u ≡ Stop) × BarredTurn w side net t)
+  -- what it does is not barred
+  pub free : BarredTurn w side net u → ⊥
+  -- all fills of the turn have one level, so the test of the turn is that of each fill
+  pub level : All (AtThatLimit (fillLevel u net)) (x .records)
+
+-- 2026-01: "each fill of a complex order or sweep keeps to the range and prices known when it was made": a record 1 is of a strategy that book b
+-- has defined, and at a level that a party of its side may take within what b knows
+pub record InRange (b : State) (r : Record) : Type 0 where
+  pub strategy : IsKind 1 r → r .place < b .defined
+  pub range : IsKind 1 r → mayTake (boundsAt b (r .place)) (r .side) (r .level) ≡ true
+
 -- THE STARTER'S PASS, x, in the auction of strategy k.
 pub record StarterSentence (b : State) (k : ℕ) (x : Moved) : Type 0 where
   -- "legs barred if any opposite sweep or waiting order was accepted meanwhile"
   pub barred : strategyAt b k .answered ≡ true → WithoutLegs b x
   -- "The starter gets a shared pass"
   pub passesNone : (i : ℕ) → Starter b k i → NonePassed AheadShared i b (x .state)
-  -- else they are not: it ends with nothing left, or where the legs are not ready or do not meet its limit
-  pub free : strategyAt b k .answered ≡ false → (i : ℕ) → Starter b k i → (entryAt (x .state) i .units ≡ 0) ⊎ LegsMeetNone (x .state) i
+  -- else they are not: it ends with nothing left, or where the legs are not ready or do not meet its limit, or at a fill that is barred
+  pub free : strategyAt b k .answered ≡ false → (i : ℕ) → Starter b k i → (entryAt (x .state) i .units ≡ 0) ⊎ (LegsMeetNone (x .state) i ⊎ BarredHere (x .state) i true)
 
 -- THE PASS of another entry that was accepted meanwhile, at slot i: "a numbered pass; sweeps never use legs"
 pub record LaterSentence (b : State) (i : ℕ) (x : Moved) : Type 0 where
@@ -249,12 +301,13 @@ pub record GetsPass (b : State) (s i : ℕ) : Type 0 where
   pub allOpen : Open b (entryAt b i .strategy)
   pub noAuction : strategyAt b (entryAt b i .strategy) .starter ≡ 0
 
--- ".. gets a pass by legs only": at a moment between b and c nothing of it is left, or the legs are not ready for it or do not meet its limit
+-- ".. gets a pass by legs only": at a moment between b and c nothing of it is left, or the legs are not ready for it or do not meet its limit, or
+-- their fill is barred
 pub record HadPass (b c : State) (i : ℕ) : Type 0 where
   pub moment : State
   pub since : Shrinks b moment
   pub until : Shrinks moment c
-  pub done : (entryAt moment i .units ≡ 0) ⊎ ((readyNet true i moment ≡ 0) ⊎ (meets (entryAt b i .side) (entryAt b i .level) (readyNet true i moment) ≡ false))
+  pub done : (entryAt moment i .units ≡ 0) ⊎ (LegsMeetNone moment i ⊎ Barred moment i 0 true)
 
 -- p is a live leg order that o meets: of its series and the other side, at a price within its own
 pub record Met (o p : LegOrder) : Type 0 where
@@ -374,8 +427,10 @@ pub record PassesIt (b : State) (a : ℕ) (x : Moved) : Type 0 where
   pub strategies : x .state .strategies ≡ b .strategies
   pub had : HadTurn b (x .state) a true
   pub cancelled : (entryAt b a .life ≡ 0 → ⊥) → entryAt (x .state) a .units ≡ 0
-  -- what is left of a day order rests where nothing meets it
-  pub rests : entryAt b a .life ≡ 0 → 0 < entryAt (x .state) a .units → MeetsNone (x .state) a × LegsMeetNone (x .state) a
+  -- "and a day order rests": nothing comes after its pass, whatever stopped it
+  pub stays : entryAt b a .life ≡ 0 → x ≡ pass Shared true a b
+  -- what is left of a day order rests where nothing meets it, or at a fill that is barred
+  pub rests : entryAt b a .life ≡ 0 → 0 < entryAt (x .state) a .units → (MeetsNone (x .state) a × LegsMeetNone (x .state) a) ⊎ BarredHere (x .state) a true
 
 -- COMPLEX ORDER, at slot a of the state b that it has entered.
 pub record OrderSentence (b : State) (a : ℕ) (x : Moved) : Type 0 where
@@ -428,15 +483,32 @@ pub data Matches (b : State) : List Record → Type 0 where
   and-match : {rs : List Record} → Matches b rs → (i h q : ℕ) → entryAt b i .number < entryAt b h .number → entryAt b h .strategy ≡ entryAt b i .strategy →
       (entryAt b h .side ≡ entryAt b i .side → ⊥) → meets (entryAt b h .side) (entryAt b h .level) (entryAt b i .level) ≡ true → 0 < q → Matches b (rs ++ matchRecords b i h (entryAt b i .level) q)
 
+-- 2026-01: "A .. opening match stops at the first fill that either complex party may not take": at a moment between b and c the best buy and the
+-- best sell of strategy k meet, the lower number at i, the other at h, and one of them may not fill at the limit of i
+pub record MatchBarred (b : State) (k : ℕ) (c : State) : Type 0 where
+  pub moment : State
+  pub since : Shrinks b moment
+  pub until : Shrinks moment c
+  pub i : ℕ
+  pub h : ℕ
+  pub live : (0 < entryAt moment i .units) × (0 < entryAt moment h .units)
+  pub strategy : (entryAt moment i .strategy ≡ k) × (entryAt moment h .strategy ≡ k)
+  pub sides : entryAt moment h .side ≡ entryAt moment i .side → ⊥
+  pub number : entryAt moment i .number < entryAt moment h .number
+  pub best : (j : ℕ) → Beside (entryAt moment j) (entryAt moment i) → AheadNumbered (entryAt moment j) (entryAt moment i) → entryAt moment j .units ≡ 0
+  pub itsBest : (j : ℕ) → Beside (entryAt moment j) (entryAt moment h) → AheadNumbered (entryAt moment j) (entryAt moment h) → entryAt moment j .units ≡ 0
+  pub meets : meets (entryAt moment h .side) (entryAt moment h .level) (entryAt moment i .level) ≡ true
+  pub barred : mayMeet (boundsAt moment k) (entryAt moment i .level) ≡ false
+
 -- SERIES s opens: from b, in which it is open already, by the matches x to c.
 pub record OpenSentence (b : State) (s : ℕ) (x : Moved) (c : State) : Type 0 where
   -- "(price, then number)": where one has traded, nothing is left of one beside it that goes before it
   pub bestFirst : (i j : ℕ) → Beside (entryAt b i) (entryAt b j) → AheadNumbered (entryAt b i) (entryAt b j) → entryAt (x .state) j .units < entryAt b j .units → entryAt (x .state) i .units ≡ 0
   pub records : Matches b (x .records)
   pub orders : x .state .orders ≡ b .orders
-  -- ".. while they meet": afterwards no buy of an all-open strategy that holds it is at or above a sell
-  pub apart : (k : ℕ) → has (strategyAt b k .series) s ≡ true → Open b k → (i j : ℕ) → 0 < entryAt c i .units → 0 < entryAt c j .units → entryAt b i .strategy ≡ k → entryAt b j .strategy ≡ k →
-      entryAt b i .side ≡ 0 → entryAt b j .side ≡ 1 → entryAt b i .level < entryAt b j .level
+  -- ".. while they meet": afterwards no buy of an all-open strategy that holds it is at or above a sell, if its match was not barred
+  pub apart : (k : ℕ) → has (strategyAt b k .series) s ≡ true → Open b k → MatchBarred b k (x .state) ⊎ ((i j : ℕ) → 0 < entryAt c i .units → 0 < entryAt c j .units → entryAt b i .strategy ≡ k → entryAt b j .strategy ≡ k →
+      entryAt b i .side ≡ 0 → entryAt b j .side ≡ 1 → entryAt b i .level < entryAt b j .level)
   -- "when all have matched, the legs-only passes"
   pub passes : (i : ℕ) → GetsPass (x .state) s i → HadPass (x .state) c i
   pub noOthers : (i : ℕ) → entryAt c i .units < entryAt (x .state) i .units → GetsPass (x .state) s i
@@ -467,6 +539,25 @@ pub record DayEndSentence (b : State) (timer : ℕ) (x : Moved) : Type 0 where
   pub threeOrder : Sorted (λ (r s : Record). r .number < s .number) threes
   -- "then a fresh book with the new timer"
   pub anew : x .state ≡ fresh timer
+
+-- NATIONAL PRICES of a series, from b to what x leaves.
+pub record NationalSentence (b : State) (e : GivenNational) (x : Moved) : Type 0 where
+  -- "Kind 9 carries series, national bid (4) and offer (4), .. 0 meaning missing": both are as it says, of that series alone
+  pub set : getD (x .state .national) (e .series) noQuote ≡ record { bid = e .bid; offer = e .offer }
+  pub others : (s : ℕ) → (s ≡ e .series → ⊥) → getD (x .state .national) s noQuote ≡ getD (b .national) s noQuote
+  -- "Both kinds change nothing else."; the value is 0
+  pub rest : x .state ≡ withNational b (x .state .national)
+  pub records : x .records ≡ []
+  pub value : valueOf b (E.National e) ≡ 0
+
+-- THE EXECUTION RANGE, from b to what x leaves.
+pub record RangeSentence (b : State) (e : GivenRange) (x : Moved) : Type 0 where
+  -- "Kind 10 carries the range in cents"
+  pub set : x .state .range ≡ e .range
+  -- "Both kinds change nothing else."; the value is 0
+  pub rest : x .state ≡ withRange b (x .state .range)
+  pub records : x .records ≡ []
+  pub value : valueOf b (E.Range e) ≡ 0
 
 -- a leg of the event stands in a row of the strategy, its ratio divided by d
 pub record Placed (s : Strategy) (l : Leg) (d : ℕ) : Type 0 where
@@ -505,6 +596,8 @@ Sentence b (E.Cancel e) = CancelSentence b (e .member) (e .number) (accept b (E.
 Sentence b (E.Series e) = SeriesSentence b (e .series) (e .state) (accept b (E.Series e))
 Sentence b (E.Clock e) = ClockSentence b (e .time) (accept b (E.Clock e))
 Sentence b (E.DayEnd e) = DayEndSentence b (e .timer) (accept b (E.DayEnd e))
+Sentence b (E.National e) = NationalSentence b e (accept b (E.National e))
+Sentence b (E.Range e) = RangeSentence b e (accept b (E.Range e))
 
 -- A STATE OF THE BOOK: valid, and without two sweeps of one member, strategy, side and limit. Every state that frames lead to is one.
 pub record ReachedState (b : State) : Type 0 where
@@ -534,6 +627,10 @@ pub record LegOrderMay (b : State) (e : GivenLegOrder) : Type 0 where
   pub isOpen : has (b .opened) (e .series) ≡ true
   pub slot : sumN (isLegOrderAt b) tableRows < legOrderSlots
   pub number : b .last < 100_000
+
+-- national prices: a bid that is not above the offer, or one of them missing (14)
+abbrev pub NationalMay : GivenNational → Type 0
+NationalMay e = (e .bid ≡ 0) ⊎ ((e .offer ≡ 0) ⊎ (e .bid ≤ e .offer))
 
 -- a clock: not below the last accepted one (11)
 abbrev pub ClockMay : State → ℕ → Type 0

@@ -46,3 +46,5 @@ pub record Shrinks (b c : State) : Type 0 where
   pub clock : c .clock ≡ b .clock
   pub timer : c .timer ≡ b .timer
   pub last : c .last ≡ b .last
+  pub national : c .national ≡ b .national
+  pub range : c .range ≡ b .range

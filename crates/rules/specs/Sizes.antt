@@ -21,6 +21,10 @@ legOrderSlots = 32
 abbrev pub tableRows : ℕ
 tableRows = 32
 
+-- "Series are 0–31"
+abbrev pub seriesCount : ℕ
+seriesCount = 32
+
 -- "Each event is lent space for 2,560 records"
 abbrev pub recordsLent : ℕ
 recordsLent = 2560

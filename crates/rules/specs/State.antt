@@ -3,12 +3,13 @@ use mathlib.Core.Bool.{false}
 use mathlib.Core.List.{List, []}
 use Prim.Native.Nat.{ℕ}
 use lib.ListN.{getD, replicate}
-use Rattle.rules.specs.Sizes.{strategySlots, tableRows}
+use Rattle.rules.specs.Sizes.{strategySlots, seriesCount}
 use Rattle.rules.specs.declared.Leg.{Leg}
 use Rattle.rules.specs.declared.Strategy.{Strategy}
 use Rattle.rules.specs.declared.Entry.{Entry}
 use Rattle.rules.specs.declared.LegOrder.{LegOrder}
 use Rattle.rules.specs.declared.State.{State}
+use Rattle.rules.specs.declared.Quote.{Quote}
 
 -- an empty leg
 abbrev pub noLeg : Leg
@@ -22,6 +23,10 @@ noEntry = record { number = 0; member = 0; strategy = 0; side = 0; class = 0; li
 abbrev pub noOrder : LegOrder
 noOrder = record { number = 0; member = 0; series = 0; side = 0; contracts = 0; price = 0 }
 
+-- a series without national prices
+abbrev pub noQuote : Quote
+noQuote = record { bid = 0; offer = 0 }
+
 -- what stands past the table's end
 abbrev pub noStrategy : Strategy
 noStrategy = record { legs = []; count = 0; series = 0; starter = 0; begun = 0; answered = false }
@@ -30,7 +35,8 @@ noStrategy = record { legs = []; count = 0; series = 0; starter = 0; begun = 0; 
 abbrev pub freeStrategy : Strategy
 freeStrategy = record { legs = replicate 6 noLeg; count = 0; series = 0; starter = 0; begun = 0; answered = false }
 
--- a fresh book of a timer: clock 0, all shut, its tables empty and no number given
+-- a fresh book of a timer: clock 0, all shut, its tables empty and no number given. 2026-01: "a fresh book has 9,999", and "misses all" national
+-- prices
 unfoldable pub fresh : ℕ → State
 fresh timer = record {
   strategies = replicate strategySlots freeStrategy;
@@ -41,6 +47,8 @@ fresh timer = record {
   clock = 0;
   timer = timer;
   last = 0;
+  national = replicate seriesCount noQuote;
+  range = 9999;
 }
 
 -- "A first book has timer 5,000, clock 0, all shut, its tables empty and no number given."
@@ -69,24 +77,32 @@ strategyOf b e = strategyAt b (e .strategy)
 
 -- the state with these entries
 unfoldable pub withEntries : State → List Entry → State
-withEntries b es = record { strategies = b .strategies; entries = es; orders = b .orders; defined = b .defined; opened = b .opened; clock = b .clock; timer = b .timer; last = b .last }
+withEntries b es = record { strategies = b .strategies; entries = es; orders = b .orders; defined = b .defined; opened = b .opened; clock = b .clock; timer = b .timer; last = b .last; national = b .national; range = b .range }
 
 -- the state with these leg orders
 unfoldable pub withOrders : State → List LegOrder → State
-withOrders b os = record { strategies = b .strategies; entries = b .entries; orders = os; defined = b .defined; opened = b .opened; clock = b .clock; timer = b .timer; last = b .last }
+withOrders b os = record { strategies = b .strategies; entries = b .entries; orders = os; defined = b .defined; opened = b .opened; clock = b .clock; timer = b .timer; last = b .last; national = b .national; range = b .range }
 
 -- the state with these strategies, so many of them defined
 unfoldable pub withStrategies : State → List Strategy → ℕ → State
-withStrategies b ss n = record { strategies = ss; entries = b .entries; orders = b .orders; defined = n; opened = b .opened; clock = b .clock; timer = b .timer; last = b .last }
+withStrategies b ss n = record { strategies = ss; entries = b .entries; orders = b .orders; defined = n; opened = b .opened; clock = b .clock; timer = b .timer; last = b .last; national = b .national; range = b .range }
 
 -- the state with these series open
 unfoldable pub withOpened : State → ℕ → State
-withOpened b o = record { strategies = b .strategies; entries = b .entries; orders = b .orders; defined = b .defined; opened = o; clock = b .clock; timer = b .timer; last = b .last }
+withOpened b o = record { strategies = b .strategies; entries = b .entries; orders = b .orders; defined = b .defined; opened = o; clock = b .clock; timer = b .timer; last = b .last; national = b .national; range = b .range }
 
 -- the state at that clock
 unfoldable pub withClock : State → ℕ → State
-withClock b t = record { strategies = b .strategies; entries = b .entries; orders = b .orders; defined = b .defined; opened = b .opened; clock = t; timer = b .timer; last = b .last }
+withClock b t = record { strategies = b .strategies; entries = b .entries; orders = b .orders; defined = b .defined; opened = b .opened; clock = t; timer = b .timer; last = b .last; national = b .national; range = b .range }
 
 -- the state with that number given last
 unfoldable pub withLast : State → ℕ → State
-withLast b n = record { strategies = b .strategies; entries = b .entries; orders = b .orders; defined = b .defined; opened = b .opened; clock = b .clock; timer = b .timer; last = n }
+withLast b n = record { strategies = b .strategies; entries = b .entries; orders = b .orders; defined = b .defined; opened = b .opened; clock = b .clock; timer = b .timer; last = n; national = b .national; range = b .range }
+
+-- the state with these national prices
+unfoldable pub withNational : State → List Quote → State
+withNational b qs = record { strategies = b .strategies; entries = b .entries; orders = b .orders; defined = b .defined; opened = b .opened; clock = b .clock; timer = b .timer; last = b .last; national = qs; range = b .range }
+
+-- the state with that execution range
+unfoldable pub withRange : State → ℕ → State
+withRange b r = record { strategies = b .strategies; entries = b .entries; orders = b .orders; defined = b .defined; opened = b .opened; clock = b .clock; timer = b .timer; last = b .last; national = b .national; range = r }

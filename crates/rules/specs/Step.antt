@@ -15,7 +15,8 @@ use Rattle.rules.specs.declared.Answer.the-variants as A
 use Rattle.rules.specs.Moves.{Moved, still}
 use Rattle.rules.specs.Strategies.{numberOf, define}
 use Rattle.rules.specs.Events.{onOrder, onSweep, onLegOrder, cancelNumber, onSeries, onClock, onDayEnd}
-use Rattle.rules.specs.Given.{strategyGiven, next, orderGiven, sweepGiven, legOrderGiven}
+use Rattle.rules.specs.National.{onNational, onRange}
+use Rattle.rules.specs.Given.{strategyGiven, next, orderGiven, sweepGiven, legOrderGiven, quoteGiven}
 use Rattle.rules.specs.Refusals.{refusal}
 
 -- what an event ends in: the answer (0, or the refusal), the value, and what moved
@@ -34,6 +35,8 @@ valueOf b (E.Cancel e) = 0
 valueOf b (E.Series e) = 0
 valueOf b (E.Clock e) = 0
 valueOf b (E.DayEnd e) = 0
+valueOf b (E.National e) = 0
+valueOf b (E.Range e) = 0
 
 -- what an accepted event does
 unfoldable pub accept : State → Event → Moved
@@ -45,6 +48,8 @@ accept b (E.Cancel e) = cancelNumber (e .number) b
 accept b (E.Series e) = onSeries (e .series) (e .state) b
 accept b (E.Clock e) = onClock (e .time) b
 accept b (E.DayEnd e) = onDayEnd (e .timer) b
+accept b (E.National e) = still (onNational (e .series) (quoteGiven e) b)
+accept b (E.Range e) = still (onRange (e .range) b)
 
 -- "number only"; "book, space" are left as they were
 unfoldable pub refused : ℕ → State → Outcome

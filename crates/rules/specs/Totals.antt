@@ -2,9 +2,10 @@
 use mathlib.Core.Path.{_≡_}
 use mathlib.Core.Bool.{Bool, true, false}
 use mathlib.Core.List.{List, [], _∷_, _++_, map, List·Memᴰ}
-use Prim.Native.Nat.{ℕ, _+_, _*_, _/_}
+use Prim.Native.Nat.{ℕ, zero, suc, _+_, _*_, _/_, _<_}
 use lib.Dec.{eqb, leb}
-use lib.IntN.{ℤ, pos, _+ℤ_, _*ℤ_}
+use lib.ListN.{getD}
+use lib.IntN.{ℤ, pos, negℤ, _+ℤ_, _-ℤ_, _*ℤ_}
 use lib.Signed.{_≤ℤ_}
 use Rattle.base.specs.Pick.{pick}
 use Rattle.base.specs.Walks.{sumN}
@@ -15,7 +16,9 @@ use Rattle.events.specs.declared.Reading.the-variants as R
 use Rattle.events.specs.declared.Strategy.{Strategy as GivenStrategy}
 use Rattle.frames.specs.Frames.{readOf}
 use Rattle.rules.specs.declared.Leg.{Leg}
+use Rattle.rules.specs.declared.Quote.{Quote}
 use Rattle.rules.specs.declared.State.{State}
+use Rattle.rules.specs.State.{noLeg, noQuote}
 use Rattle.rules.specs.Strategies.{seriesOf, ratioOf, divisor}
 use Rattle.rules.specs.Given.{legsGiven}
 use Rattle.rules.specs.Step.{Outcome, step}
@@ -126,6 +129,8 @@ enters (E.Cancel e) n = nothing
 enters (E.Series e) n = nothing
 enters (E.Clock e) n = nothing
 enters (E.DayEnd e) n = nothing
+enters (E.National e) n = nothing
+enters (E.Range e) n = nothing
 
 -- "whose value isn't 0"
 unfoldable pub entersRead : Reading → ℕ → Brought
@@ -210,6 +215,8 @@ isDayEnd (R.Event (E.Cancel e)) = false
 isDayEnd (R.Event (E.Series e)) = false
 isDayEnd (R.Event (E.Clock e)) = false
 isDayEnd (R.Event (E.DayEnd e)) = true
+isDayEnd (R.Event (E.National e)) = false
+isDayEnd (R.Event (E.Range e)) = false
 
 -- accepted, and a day end
 unfoldable pub endsDay : Logged → Bool
@@ -220,6 +227,89 @@ abbrev pub OneDay : List Logged → Type 0
 OneDay [] = Unit {0}
 OneDay (x ∷ []) = Unit {0}
 OneDay (x ∷ (y ∷ ys)) = (endsDay x ≡ false) × OneDay (y ∷ ys)
+
+-- 2026-01, from the log alone: "prices known when it was made". What an accepted event says of the national prices of series s, which were q: kind 9
+-- sets those of its series, a day end leaves a fresh book.
+unfoldable pub quoteAfter : Reading → ℕ → Quote → Quote
+quoteAfter (R.Refused n) s q = q
+quoteAfter (R.Event (E.Strategy e)) s q = q
+quoteAfter (R.Event (E.Order e)) s q = q
+quoteAfter (R.Event (E.Sweep e)) s q = q
+quoteAfter (R.Event (E.LegOrder e)) s q = q
+quoteAfter (R.Event (E.Cancel e)) s q = q
+quoteAfter (R.Event (E.Series e)) s q = q
+quoteAfter (R.Event (E.Clock e)) s q = q
+quoteAfter (R.Event (E.DayEnd e)) s q = noQuote
+quoteAfter (R.Event (E.National e)) s q = pick (eqb (e .series) s) (record { bid = e .bid; offer = e .offer }) q
+quoteAfter (R.Event (E.Range e)) s q = q
+
+-- .. and of the execution range, which was r
+unfoldable pub rangeAfter : Reading → ℕ → ℕ
+rangeAfter (R.Refused n) r = r
+rangeAfter (R.Event (E.Strategy e)) r = r
+rangeAfter (R.Event (E.Order e)) r = r
+rangeAfter (R.Event (E.Sweep e)) r = r
+rangeAfter (R.Event (E.LegOrder e)) r = r
+rangeAfter (R.Event (E.Cancel e)) r = r
+rangeAfter (R.Event (E.Series e)) r = r
+rangeAfter (R.Event (E.Clock e)) r = r
+rangeAfter (R.Event (E.DayEnd e)) r = 9999
+rangeAfter (R.Event (E.National e)) r = r
+rangeAfter (R.Event (E.Range e)) r = e .range
+
+-- the national prices of series s after a list of events, which were q before it: those of the last accepted kind 9 of that series
+unfoldable pub quoted : Quote → List Logged → ℕ → Quote
+quoted q [] s = q
+quoted q (x ∷ xs) s = quoted (pick (eqb (x .answer) 0) (quoteAfter (x .reading) s q) q) xs s
+
+-- the range after it: that of the last accepted kind 10
+unfoldable pub rangeSaid : ℕ → List Logged → ℕ
+rangeSaid r [] = r
+rangeSaid r (x ∷ xs) = rangeSaid (pick (eqb (x .answer) 0) (rangeAfter (x .reading) r) r) xs
+
+-- "ratio × price" of the leg at place i of the strategy that event e defined, at these prices by leg: its ratio "divided as above", added for a buy
+-- leg and taken off for a sell leg
+unfoldable pub legTerm : GivenStrategy → (ℕ → ℕ) → ℕ → ℤ
+legTerm e price i =
+    let q : ℕ = ratioOf (legsGiven e) i / divisor (legsGiven e) (e .count) * price i in
+    pick (eqb (getD (legsGiven e) i noLeg .side) 0) (pos q) (negℤ (pos q))
+
+-- "Net = sum of ratio × price over buy legs, less that over sell legs": over the first legs
+unfoldable pub netOver : GivenStrategy → (ℕ → ℕ) → ℕ → ℤ
+netOver e price zero = pos 0
+netOver e price (suc i) = netOver e price i +ℤ legTerm e price i
+
+-- "Offer net takes offers for buy legs, bids for sell legs; bid net the reverse": the national price of the leg at place i in the offer net (side 0)
+-- and in the bid net (side 1), as the list has said it
+unfoldable pub priceSaid : List Logged → GivenStrategy → ℕ → ℕ → ℕ
+priceSaid log e side i =
+    let l : Leg = getD (legsGiven e) i noLeg in
+    pick (eqb (l .side) side) (quoted noQuote log (l .series) .offer) (quoted noQuote log (l .series) .bid)
+
+-- that national net is known: no price of it is missing
+abbrev pub NetSaid : List Logged → GivenStrategy → ℕ → Type 0
+NetSaid log e side = (i : ℕ) → i < e .count → 0 < priceSaid log e side i
+
+-- 2026-01: "The national nets are formed like our leg nets"
+abbrev pub netSaid : List Logged → GivenStrategy → ℕ → ℤ
+netSaid log e side = netOver e (priceSaid log e side) (e .count)
+
+-- "No complex order or sweep that buys fills above the national offer net plus the range, and none that sells below the national bid net less it. A
+-- missing national net bounds nothing": fill l of what came in as w, in the strategy that event e defined, after the events of the log; "a fresh
+-- book has 9,999", and "misses all" prices
+pub record WithinRange (log : List Logged) (e : GivenStrategy) (w : Terms) (l : Line) : Type 0 where
+  pub buy : w .side ≡ 0 → NetSaid log e 0 → l .price ≤ℤ (netSaid log e 0 +ℤ pos (rangeSaid 9999 log))
+  pub sell : w .side ≡ 1 → NetSaid log e 1 → (netSaid log e 1 -ℤ pos (rangeSaid 9999 log)) ≤ℤ l .price
+
+-- a level at which a buy would be above the national offer net plus the range, by a cent or more: no price of the net is missing
+pub record AboveRange (log : List Logged) (e : GivenStrategy) (level : ℕ) : Type 0 where
+  pub said : NetSaid log e 0
+  pub above : (netSaid log e 0 +ℤ pos (rangeSaid 9999 log + 1)) ≤ℤ cents level
+
+-- .. a sell below the national bid net less the range
+pub record BelowRange (log : List Logged) (e : GivenStrategy) (level : ℕ) : Type 0 where
+  pub said : NetSaid log e 1
+  pub below : cents level ≤ℤ (netSaid log e 1 -ℤ pos (rangeSaid 9999 log + 1))
 
 -- THE TOTALS of a list: `log` is what came of it, `end` the book that it left.
 pub record Totals (log : List Logged) (end : State) : Type 0 where
@@ -246,3 +336,7 @@ pub record Totals (log : List Logged) (end : State) : Type 0 where
   pub whole : (w : Terms) → Came (leg w) log → (l : Line) → List·Memᴰ l (linesOf log) → l .kind ≡ 1 → l .number ≡ w .number → ⊥
   -- cash paid is cash received
   pub paid : cash log 0 (linesOf log) ≡ cash log 1 (linesOf log)
+  -- 2026-01: "each fill of a complex order or sweep keeps to the range and prices known when it was made": what the events before it said
+  pub range : (w : Terms) (k : ℕ) → Came (complex w k) log → (e : GivenStrategy) → Answered e k log →
+      (before : List Logged) (x : Logged) (behind : List Logged) → log ≡ before ++ (x ∷ behind) →
+      (l : Line) → List·Memᴰ l (x .lines) → l .kind ≡ 1 → l .number ≡ w .number → WithinRange before e w l

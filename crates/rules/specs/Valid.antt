@@ -6,11 +6,12 @@ use lib.ListN.{length}
 use Rattle.base.specs.All.{All}
 use Rattle.base.specs.Walks.{sumN}
 use Rattle.base.specs.Sets.{has, sizeOf}
-use Rattle.rules.specs.Sizes.{strategySlots, orderSlots, sweepSlots, tableRows}
+use Rattle.rules.specs.Sizes.{strategySlots, orderSlots, sweepSlots, tableRows, seriesCount}
 use Rattle.rules.specs.declared.Leg.{Leg}
 use Rattle.rules.specs.declared.Strategy.{Strategy}
 use Rattle.rules.specs.declared.Entry.{Entry}
 use Rattle.rules.specs.declared.LegOrder.{LegOrder}
+use Rattle.rules.specs.declared.Quote.{Quote}
 use Rattle.rules.specs.declared.State.{State}
 use Rattle.rules.specs.State.{entryAt, orderAt, strategyAt, legAt}
 use Rattle.rules.specs.Strategies.{allOpen}
@@ -52,6 +53,10 @@ pub record FitOrder (o : LegOrder) : Type 0 where
   pub contracts : o .contracts ≤ 9999
   pub price : o .price ≤ 99_999
 
+pub record FitQuote (q : Quote) : Type 0 where
+  pub bid : q .bid ≤ 99_999
+  pub offer : q .offer ≤ 99_999
+
 pub record LiveEntry (b : State) (e : Entry) : Type 0 where
   pub given : (1 ≤ e .number) × (e .number ≤ b .last)
   pub level : 1 ≤ e .level
@@ -74,6 +79,9 @@ pub record Sound (b : State) : Type 0 where
   pub clock : b .clock ≤ 86_400_000
   pub timer : (1 ≤ b .timer) × (b .timer ≤ 5000)
   pub last : b .last ≤ 100_000
+  pub national : All FitQuote (b .national)
+  pub quoteRows : length (b .national) ≡ seriesCount
+  pub range : b .range ≤ 9999
   -- a strategy that is not defined has no leg and no auction
   pub undefined : (k : ℕ) → b .defined ≤ k → (strategyAt b k .count ≡ 0) × (strategyAt b k .series ≡ 0) × (strategyAt b k .starter ≡ 0)
   pub legs : (k : ℕ) → k < b .defined → 2 ≤ strategyAt b k .count

@@ -41,17 +41,32 @@ pub struct LegOrder {
     pub price: u32,
 }
 
+// The national bid and offer of a series, 0 where one is missing.
+pub struct Quote {
+    pub bid: u32,
+    pub offer: u32,
+}
+
+// What bounds the fills of a strategy: its national nets as levels, 0 where one is missing, and the execution range.
+pub struct Bounds {
+    pub offer: u32,
+    pub bid: u32,
+    pub range: u32,
+}
+
 // The whole state: the tables, how many strategies are defined, the open series as a set of 32 bits, the last accepted
-// clock, the timer of auctions, and the last number given.
+// clock, the timer of auctions, the last number given, the national prices of each series, and the execution range.
 pub struct State {
     pub strategies: [Strategy; State::STRATEGIES],
     pub entries: [Entry; State::ROWS],
     pub orders: [LegOrder; State::LEG_ORDERS],
+    pub national: [Quote; State::SERIES],
     pub defined: u8,
     pub opened: u32,
     pub clock: u32,
     pub timer: u32,
     pub last: u32,
+    pub range: u32,
 }
 
 // The sizes of the tables, and the numbers of a record space. Complex orders and sweeps stand in one table; a list of sizes
@@ -66,6 +81,8 @@ impl State {
     pub const LEG_ORDERS: usize = 32;
 
     pub const ROWS: usize = State::ORDERS + State::SWEEPS;
+
+    pub const SERIES: usize = 32;
 
     pub const LIVE: usize = State::ROWS + State::LEG_ORDERS;
 

@@ -4,6 +4,7 @@ ghost use Rattle.rules.specs.State.{fresh, freeStrategy};
 use rules::Entry;
 use rules::Leg;
 use rules::LegOrder;
+use rules::Quote;
 use rules::State;
 use rules::Strategy;
 
@@ -33,6 +34,8 @@ pub const NO_ORDER: LegOrder = LegOrder {
     price: 0,
 };
 
+pub const NO_QUOTE: Quote = Quote { bid: 0, offer: 0 };
+
 // A free row of the table of strategies.
 fn free_strategy() -> Strategy
     ensures { λ s. ⌜ s ≡ freeStrategy ⌝ }
@@ -60,5 +63,7 @@ pub fn fresh(timer: u32) -> State
         clock: 0,
         timer: timer,
         last: 0,
+        national: [NO_QUOTE; State::SERIES],
+        range: 9999,
     }
 }

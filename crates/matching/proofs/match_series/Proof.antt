@@ -30,7 +30,7 @@ open-with-requires c κs = search needs
 match-all-requires : tie.Need-match-all-requires Inv-loop μ-loop
 match-all-requires c κs = let l = c .before .before .before .before in
     let p = l .before .before .pre in
-    (fit-series _ _ _ (p .0) (l .before .loop .inv .done), visit-room (l .before .loop .inv) (l .loop-test .taken) (match-yes _ _ _ (told (c .before .before .open-with .ensures) (c .before .if1 .taken))) (p .1))
+    ((l .loop-test .taken, fit-series _ _ _ (p .0) (l .before .loop .inv .done)), visit-room (l .before .loop .inv) (l .loop-test .taken) (match-yes _ _ _ (told (c .before .before .open-with .ensures) (c .before .if1 .taken))) (p .1))
 
 add-k : tie.Need-add-k Inv-loop μ-loop
 add-k c = omega arith

@@ -1,17 +1,21 @@
-use Rattle.passes.specs.Passes.{stopsAt}
 use mathlib.Core.Path.{ap, _∙_}
+use Rattle.passes.specs.Passes.{stopsAt, pricesIn}
 use borrow.Author.Needs.{needs}
 use Rattle.passes.proofs.idle.Statement.{statement}
 use Rattle.passes.proofs.idle.Tie as tie
 
-turn-of-requires : tie.Need-turn-of-requires
-turn-of-requires c κs = search needs
+prices-for-requires : tie.Need-prices-for-requires
+prices-for-requires c κs = search needs
+
+turn-at-requires : tie.Need-turn-at-requires
+turn-at-requires c κs = search needs
 
 stops-requires : tie.Need-stops-requires
 stops-requires c κs = search needs
 
 returns : tie.Need-returns
-returns c = c .stops .ensures ∙ ap stopsAt (c .before .turn-of .ensures)
+unfolding pricesIn
+returns c = c .stops .ensures ∙ ap stopsAt (rw (c .before .before .prices-for .ensures) at (c .before .turn-at .ensures))
 
 pub idle-spec : {M : Type 1} → statement M
-idle-spec = tie.close (tie.spec turn-of-requires stops-requires returns)
+idle-spec = tie.close (tie.spec prices-for-requires turn-at-requires stops-requires returns)

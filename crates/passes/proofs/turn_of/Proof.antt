@@ -1,4 +1,4 @@
-use Rattle.passes.specs.Passes.{turn-empty}
+use Rattle.passes.specs.Passes.{turnIn, turn-empty}
 use borrow.Author.Needs.{needs}
 use Rattle.passes.proofs.turn_of.Statement.{statement}
 use Rattle.passes.proofs.turn_of.Tie as tie
@@ -6,18 +6,19 @@ use Rattle.passes.proofs.turn_of.Tie as tie
 returns : tie.Need-returns
 returns c = turn-empty _ _ _ (c .if1 .taken)
 
-opposite-requires : tie.Need-opposite-requires
-opposite-requires c κs = search needs
-
-ready-net-requires : tie.Need-ready-net-requires
-ready-net-requires c κs = search needs
+prices-for-requires : tie.Need-prices-for-requires
+prices-for-requires c κs = search needs
 
 turn-at-requires : tie.Need-turn-at-requires
 turn-at-requires c κs = search needs
 
+allowed-requires : tie.Need-allowed-requires
+allowed-requires c κs = search needs
+
 returns-2 : tie.Need-returns-2
-returns-2 c = rw (c .turn-at .ensures, c .before .before .opposite .ensures, c .before .ready-net .ensures)
+unfolding turnIn
+returns-2 c = rw (c .allowed .ensures, c .before .turn-at .ensures, c .before .before .prices-for .ensures)
 
 pub turn-of-spec : {M : Type 1} → statement M
 turn-of-spec =
-    tie.close (tie.spec returns opposite-requires ready-net-requires turn-at-requires returns-2)
+    tie.close (tie.spec returns prices-for-requires turn-at-requires allowed-requires returns-2)

@@ -86,6 +86,18 @@ enum-known-event-8 c = search needs
 day-end-requires : tie.Need-day-end-requires
 day-end-requires c κs = asked (c .before .before .before .before .before) (c .before .before .event8 .given .1)
 
+enum-known-event-9 : tie.Need-enum-known-event-9
+enum-known-event-9 c = search needs
+
+national-requires : tie.Need-national-requires
+national-requires c κs = asked (c .before .before .before .before .before) (c .before .before .event9 .given .1)
+
+enum-known-event-10 : tie.Need-enum-known-event-10
+enum-known-event-10 c = search needs
+
+range-requires : tie.Need-range-requires
+range-requires c κs = asked (c .before .before .before .before .before) (c .before .before .event10 .given .1)
+
 returns-2 : tie.Need-returns-2
 returns-2 c = stepped-refused _ _ _ (c .before .before .before .before .before .before .before .before .pre) (c .before .before .before .before .before .before .if1 .left) (sym (c .before .before .before .reading .given .1) ∙ c .before .before .before .before .before .read .ensures) (c .refuse2 .ensures)
 
@@ -137,6 +149,18 @@ same-length-8 c = search needs
 returns-10 : tie.Need-returns-10
 returns-10 c = stepped _ _ _ (carried (c .before .before .before .before .before .before .before)) (c .before .before .before .before .event8 .given .1) (c .before .day-end .ensures)
 
+same-length-9 : tie.Need-same-length-9
+same-length-9 c = search needs
+
+returns-11 : tie.Need-returns-11
+returns-11 c = stepped _ _ _ (carried (c .before .before .before .before .before .before .before)) (c .before .before .before .before .event9 .given .1) (c .before .national .ensures)
+
+same-length-10 : tie.Need-same-length-10
+same-length-10 c = search needs
+
+returns-12 : tie.Need-returns-12
+returns-12 c = stepped _ _ _ (carried (c .before .before .before .before .before .before .before)) (c .before .before .before .before .event10 .given .1) (c .before .range .ensures)
+
 pub step-spec : {M : Type 1} → statement M
 step-spec =
     tie.close
@@ -163,6 +187,10 @@ step-spec =
     clock-requires
     enum-known-event-8
     day-end-requires
+    enum-known-event-9
+    national-requires
+    enum-known-event-10
+    range-requires
     returns-2
     same-length
     returns-3
@@ -179,4 +207,8 @@ step-spec =
     same-length-7
     returns-9
     same-length-8
-    returns-10)
+    returns-10
+    same-length-9
+    returns-11
+    same-length-10
+    returns-12)
