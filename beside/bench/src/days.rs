@@ -1,7 +1,9 @@
 //! The days that are played, as frames. A book of the reckoning stands beside
 //! the maker of the days of one kind: it gives the nets and the numbers.
 
-use reckoning::book::{Book, BUY, CUSTOMER, DAY, IMMEDIATE, MARKET_MAKER, SELL, SPACE, STRATEGIES};
+use reckoning::book::{
+    Book, BUY, CUSTOMER, DAY, IMMEDIATE, MARKET_MAKER, SELL, SERIES, SPACE, STRATEGIES,
+};
 use reckoning::frames::{bytes, Event, Leg};
 use reckoning::generate::{list, Options};
 
@@ -12,7 +14,9 @@ const PART: usize = 2_500;
 
 /// Lists of the reckoning's generator, each from another seed, a day end after
 /// each: auctions, halts, openings, full tables and refusals. This many events; a
-/// shorter day is the beginning of a longer one.
+/// shorter day is the beginning of a longer one. The lists are of kinds 1 to 8 and
+/// stay as they are, so that figures compare; a few of the damaged frames in them
+/// are of kind 10.
 pub fn busy_day(events: usize) -> Vec<Frame> {
     let options = Options {
         loose: false,
@@ -64,10 +68,24 @@ const ROWS: &[Row] = &[
         whole_fills,
     ),
     (
+        "complex-bound",
+        2,
+        "the same pairs, national prices known",
+        known_prices,
+        whole_fills,
+    ),
+    (
         "complex-legs",
         2,
         "threes: 2 leg orders, an order takes both",
         nothing,
+        leg_fills,
+    ),
+    (
+        "legs-bound",
+        2,
+        "the same threes, national prices known",
+        known_prices,
         leg_fills,
     ),
     (
@@ -85,6 +103,13 @@ const ROWS: &[Row] = &[
         leg_orders,
     ),
     (
+        "leg-order-bound",
+        4,
+        "the same pairs, national prices known",
+        known_prices,
+        leg_orders,
+    ),
+    (
         "cancel",
         5,
         "pairs: an order rests, its cancel",
@@ -98,6 +123,13 @@ const ROWS: &[Row] = &[
         nothing,
         halts,
     ),
+    (
+        "series-bound",
+        6,
+        "the same pairs, national prices known",
+        known_prices,
+        halts,
+    ),
     ("clock", 7, "no auction runs", nothing, clocks),
     (
         "clock-auction",
@@ -106,7 +138,16 @@ const ROWS: &[Row] = &[
         nothing,
         auctions,
     ),
+    (
+        "auction-bound",
+        7,
+        "the same threes, national prices known",
+        known_prices,
+        auctions,
+    ),
     ("day-end", 8, "of a fresh book", nothing, day_ends),
+    ("national", 9, "both prices of a series", nothing, prices),
+    ("range", 10, "another range", nothing, ranges),
     ("refused", 0, "of an unknown kind", nothing, refused),
 ];
 
@@ -241,6 +282,14 @@ impl Maker {
         });
     }
 
+    /// These national prices of all series, and a range.
+    pub(crate) fn national(&mut self, bid: u32, offer: u32, cents: u16) {
+        for series in 0..SERIES {
+            self.push(Event::NationalPrices { series, bid, offer });
+        }
+        self.push(Event::ExecutionRange { cents });
+    }
+
     /// The net that an order of this side takes from the legs.
     pub(crate) fn net(&self, strategy: u8, side: u8) -> i32 {
         self.book.leg_net(strategy, side).unwrap_or(0) as i32
@@ -248,6 +297,11 @@ impl Maker {
 }
 
 fn nothing(_: &mut Maker, _: usize) {}
+
+/// National prices as the usual best ones are, and a range that lets all fill.
+fn known_prices(maker: &mut Maker, _: usize) {
+    maker.national(CENTRE - AWAY, CENTRE + AWAY, 100);
+}
 
 fn strategies(maker: &mut Maker, index: usize) {
     maker.push(strategy(index % STRATEGIES));
@@ -329,6 +383,20 @@ fn day_ends(maker: &mut Maker, index: usize) {
     maker.push(Event::DayEnd { timer });
 }
 
+fn prices(maker: &mut Maker, index: usize) {
+    let better = (index / TRADED % 5) as u32;
+    maker.push(Event::NationalPrices {
+        series: (index % TRADED) as u8,
+        bid: CENTRE - AWAY + better,
+        offer: CENTRE + AWAY - better,
+    });
+}
+
+fn ranges(maker: &mut Maker, index: usize) {
+    let cents = (index % 10_000) as u16;
+    maker.push(Event::ExecutionRange { cents });
+}
+
 fn refused(maker: &mut Maker, _: usize) {
-    maker.frames.push(vec![4, 0, 9, 0]);
+    maker.frames.push(vec![4, 0, 255, 0]);
 }

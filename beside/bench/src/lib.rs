@@ -1,5 +1,5 @@
 //! Times the proved program `tape` beside the reckoning's `tape`, on the same
-//! days: a busy day of every kind of event, and days of one kind mostly. Of the
+//! days: a busy day of kinds 1 to 8, and days of one kind mostly. Of the
 //! proved one it counts the copies of the state, and times each event by itself.
 
 #![forbid(unsafe_code)]

@@ -7,7 +7,7 @@ use reckoning::frames::{bytes, Event};
 
 /// The names of the kinds; at 0 stand the events that are refused, whatever kind
 /// their frame has.
-pub const KINDS: [&str; 9] = [
+pub const KINDS: [&str; 11] = [
     "refused",
     "1 strategy",
     "2 complex order",
@@ -17,6 +17,8 @@ pub const KINDS: [&str; 9] = [
     "6 series",
     "7 clock",
     "8 day end",
+    "9 national",
+    "10 range",
 ];
 
 /// One event of a day.
@@ -35,7 +37,7 @@ pub struct Timed {
 /// The kind of an event: that of its frame, or 0 if the answer is a refusal.
 pub fn kind_of(frame: &[u8], answer: u32) -> u8 {
     match (frame, answer) {
-        ([_, _, low @ 1..=8, 0, ..], 0) => *low,
+        ([_, _, low, 0, ..], 0) if usize::from(*low) < KINDS.len() => *low,
         _ => 0,
     }
 }

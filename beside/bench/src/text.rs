@@ -34,7 +34,7 @@ pub fn row(name: &str, proved: &str, reckoning: &str, ratio: &str) -> String {
 /// A row of the table by kind.
 pub fn kind_row(cells: [&str; 6]) -> String {
     let [kind, about, events, proved, reckoning, ratio] = cells;
-    format!("{kind:<15}  {about:<45}  {events:>7}  {proved:>7}  {reckoning:>9}  {ratio:>5}")
+    format!("{kind:<17}  {about:<45}  {events:>7}  {proved:>7}  {reckoning:>9}  {ratio:>5}")
         .trim_end()
         .to_string()
 }

@@ -41,6 +41,11 @@ const ROWS: &[Row] = &[
         opening,
     ),
     (
+        "opening-bound",
+        "the same opening with national prices of all series",
+        opening_bound,
+    ),
+    (
         "crossing",
         "a series opens, 16 day orders match, and the last takes 32 leg orders",
         crossing,
@@ -54,6 +59,11 @@ const ROWS: &[Row] = &[
         "auction",
         "an auction ends: 16 sweeps are shared, 15 orders take the rest and 32 leg orders",
         auction,
+    ),
+    (
+        "auction-bound",
+        "the same end with national prices of all series",
+        auction_bound,
     ),
     (
         "answers",
@@ -282,6 +292,17 @@ fn leg_order(maker: &mut Maker) {
 
 fn opening(maker: &mut Maker) {
     maker.strategies();
+    open_for_buyers(maker);
+}
+
+/// Each match of an opening and each pass has bounds, and all fills are within them.
+fn opening_bound(maker: &mut Maker) {
+    maker.strategies();
+    maker.national(1, 99_999, 0);
+    open_for_buyers(maker);
+}
+
+fn open_for_buyers(maker: &mut Maker) {
     maker.offers(LEGS, LEG_ORDERS);
     maker.series(LEGS.start, 0);
     maker.buyers(COMPLEX_ORDERS);
@@ -311,6 +332,17 @@ fn halt(maker: &mut Maker) {
 
 fn auction(maker: &mut Maker) {
     maker.strategies();
+    end_auction(maker);
+}
+
+/// Each of the 32 passes has bounds, and all fills are within them.
+fn auction_bound(maker: &mut Maker) {
+    maker.strategies();
+    maker.national(1, 99_999, 0);
+    end_auction(maker);
+}
+
+fn end_auction(maker: &mut Maker) {
     let bids = maker.bids();
     maker.order(LAST, BUY, CUSTOMER, DAY, 801, NET);
     maker.offers_for(bids);

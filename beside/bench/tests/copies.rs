@@ -5,16 +5,16 @@
 
 use bench::copies::{Bounds, Copies};
 
-/// The sizes as they are: the state, and its three tables.
-const STATE: usize = 1_748;
-const TABLES: [usize; 3] = [576, 640, 512];
+/// The sizes as they are: the state, and its four tables.
+const STATE: usize = 1_944;
+const TABLES: [usize; 4] = [512, 640, 512, 256];
 
 #[test]
 fn bounds_from_the_sizes() {
     let bounds = Bounds {
-        table: 512,
-        whole: 1_728,
-        longest: 1_780,
+        table: 256,
+        whole: 1_920,
+        longest: 1_976,
     };
     assert_eq!(Bounds::of(STATE, &TABLES), Some(bounds));
     let one = Bounds {
@@ -40,19 +40,19 @@ fn copies_by_their_length() {
     assert_eq!(of(""), copies(0, 0, 0));
     for (length, wanted) in [
         (0, copies(0, 0, 0)),
-        (511, copies(0, 0, 0)),
-        (512, copies(0, 7, 0)),
+        (255, copies(0, 0, 0)),
+        (256, copies(0, 7, 0)),
         (1_152, copies(0, 7, 0)),
-        (1_727, copies(0, 7, 0)),
-        (1_728, copies(7, 0, 0)),
-        (1_748, copies(7, 0, 0)),
-        (1_780, copies(7, 0, 0)),
-        (1_781, copies(0, 0, 7)),
+        (1_919, copies(0, 7, 0)),
+        (1_920, copies(7, 0, 0)),
+        (1_944, copies(7, 0, 0)),
+        (1_976, copies(7, 0, 0)),
+        (1_977, copies(0, 0, 7)),
         (65_536, copies(0, 0, 7)),
     ] {
         assert_eq!(of(&format!("{length} 7\n")), wanted, "{length}");
     }
-    let lines = "16 1\n512 20\n640 300\n1728 4000\n1748 50000\n3000 600000\n";
+    let lines = "16 1\n256 20\n640 300\n1920 4000\n1944 50000\n3000 600000\n";
     assert_eq!(of(lines), copies(54_000, 320, 600_000));
     for bad in ["512", "512 ", "512 x", "x 512", "512 1 1", "512 1\n\n"] {
         assert_eq!(of(bad), None, "{bad}");

@@ -7,6 +7,7 @@ use bench::days::{busy_day, days, names, Frame};
 use bench::worst::long_days;
 use reckoning::book::{Book, SPACE};
 use reckoning::events::Answer;
+use reckoning::national::Bounds;
 use std::collections::{BTreeMap, BTreeSet};
 
 fn play(book: &mut Book, frames: &[Frame]) -> Vec<Answer> {
@@ -36,6 +37,9 @@ fn a_busy_day_has_every_kind_and_most_answers() {
             *kinds.entry(frame[2]).or_default() += 1;
         }
     }
+    // The day is of kinds 1 to 8; a few of its damaged frames are of kind 10.
+    let damaged = kinds.remove(&10).unwrap_or(0);
+    assert!((1..5).contains(&damaged), "{damaged}");
     assert_eq!(
         kinds.keys().copied().collect::<Vec<u8>>(),
         [1, 2, 3, 4, 5, 6, 7, 8]
@@ -45,6 +49,53 @@ fn a_busy_day_has_every_kind_and_most_answers() {
     assert!(2 * accepted > frames.len(), "{accepted}");
     let seen: BTreeSet<u32> = answers.iter().map(|answer| answer.answer).collect();
     assert!((2..=12).all(|refusal| seen.contains(&refusal)), "{seen:?}");
+}
+
+/// The figures of two versions compare only on the same day: this is the one of
+/// document 01, by a sum over its bytes (FNV-1a, 64 bits).
+#[test]
+fn the_busy_day_stays_as_it_is() {
+    let sum = |events: usize| {
+        let add = |sum: u64, byte: u8| (sum ^ u64::from(byte)).wrapping_mul(0x100_0000_01b3);
+        let bytes = busy_day(events).concat();
+        bytes.into_iter().fold(0xcbf2_9ce4_8422_2325, add)
+    };
+    assert_eq!(sum(20_000), 0xe8a7_5343_feb4_dbca);
+    assert_eq!(sum(200_000), 0x8a8b_2522_b5cc_715e);
+}
+
+/// Both bounds of each strategy.
+fn all_bound(book: &Book) -> bool {
+    (0..book.strategies.len() as u8).all(|strategy| {
+        let Bounds { lowest, highest } = book.bounds(strategy);
+        lowest > i64::MIN && highest < i64::MAX
+    })
+}
+
+/// Of two days of one kind that differ by national prices alone.
+#[test]
+fn a_tail_with_national_prices_does_the_same() {
+    let days = days(600);
+    let day = |name: &str| days.iter().find(|day| day.name == name).expect(name);
+    for (name, other) in [
+        ("complex-bound", "complex"),
+        ("legs-bound", "complex-legs"),
+        ("leg-order-bound", "leg-order"),
+        ("series-bound", "series"),
+        ("auction-bound", "clock-auction"),
+    ] {
+        let (bound, plain) = (day(name), day(other));
+        assert_eq!(bound.tail, plain.tail, "{name}");
+        let (mut book, mut fresh) = (Book::first(), Book::first());
+        play(&mut book, &bound.head);
+        play(&mut fresh, &plain.head);
+        assert!(all_bound(&book) && !all_bound(&fresh), "{name}");
+        assert_eq!(
+            play(&mut book, &bound.tail),
+            play(&mut fresh, &plain.tail),
+            "{name}"
+        );
+    }
 }
 
 #[test]
@@ -83,13 +134,20 @@ fn the_events_of_a_tail_do_what_is_said_of_them() {
     for (name, turn, kinds) in [
         ("strategy", 1, &[][..]),
         ("complex", 2, &[1, 2]),
+        ("complex-bound", 2, &[1, 2]),
         ("complex-legs", 3, &[1, 2]),
+        ("legs-bound", 3, &[1, 2]),
         ("sweep", 1, &[3]),
         ("leg-order", 2, &[2]),
+        ("leg-order-bound", 2, &[2]),
         ("cancel", 2, &[3]),
         ("series", 2, &[]),
+        ("series-bound", 2, &[]),
         ("clock", 1, &[]),
         ("clock-auction", 3, &[1, 2, 3, 5]),
+        ("auction-bound", 3, &[1, 2, 3, 5]),
+        ("national", 1, &[]),
+        ("range", 1, &[]),
         ("refused", 1, &[]),
     ] {
         let days = days(600);
@@ -112,7 +170,7 @@ fn every_kind_has_a_day() {
     let kinds: BTreeSet<u8> = days(1).iter().map(|day| day.kind).collect();
     assert_eq!(
         kinds.into_iter().collect::<Vec<u8>>(),
-        [0, 1, 2, 3, 4, 5, 6, 7, 8]
+        [0, 1, 2, 3, 4, 5, 6, 7, 8, 9, 10]
     );
     let known: BTreeSet<&str> = names().into_iter().collect();
     assert_eq!(known.len(), names().len());
@@ -122,16 +180,18 @@ fn every_kind_has_a_day() {
 /// kind, and of records whole fills, leg fills, cancels, auctions begun and ended.
 #[test]
 fn the_last_event_of_a_long_day_does_what_is_said_of_it() {
-    let rows: [(&str, [usize; 4], usize, u8, [usize; 5]); 10] = [
+    let rows: [(&str, [usize; 4], usize, u8, [usize; 5]); 12] = [
         ("full-book", [16, 16, 16, 31], 16, 6, [0; 5]),
         // 15 limits with 2 whole fills of 6 legs each; 27 leg nets with a whole fill,
         // its 6 legs and 6 leg orders each; what is left is cancelled.
         ("complex-order", [16, 15, 0, 32], 0, 2, [57, 504, 1, 0, 0]),
         ("leg-order", [16, 16, 0, 31], 0, 4, [42, 504, 0, 0, 0]),
         ("opening", [16, 16, 0, 32], 0, 6, [42, 504, 0, 0, 0]),
+        ("opening-bound", [16, 16, 0, 32], 0, 6, [42, 504, 0, 0, 0]),
         ("crossing", [16, 16, 0, 32], 0, 6, [57, 504, 0, 0, 0]),
         ("halt", [16, 16, 16, 32], 16, 6, [0, 0, 32, 0, 16]),
         ("auction", [16, 16, 16, 32], 1, 7, [105, 876, 0, 0, 1]),
+        ("auction-bound", [16, 16, 16, 32], 1, 7, [105, 876, 0, 0, 1]),
         ("answers", [16, 16, 16, 32], 1, 7, [147, 1_044, 1, 0, 1]),
         ("auctions", [16, 16, 16, 32], 16, 7, [40, 480, 17, 0, 16]),
         ("day-end", [16, 16, 16, 32], 16, 8, [0, 0, 64, 0, 16]),
@@ -148,6 +208,7 @@ fn the_last_event_of_a_long_day_does_what_is_said_of_it() {
         assert_eq!(held(&book), tables, "{name}");
         let auctions = book.auctions.iter().flatten().count();
         assert_eq!(auctions, running, "{name}");
+        assert_eq!(all_bound(&book), name.ends_with("-bound"), "{name}");
         assert_eq!(last[2], kind, "{name}");
         let answer = book.step(last, SPACE);
         assert_eq!(answer.answer, 0, "{name}");

@@ -1,12 +1,14 @@
 //! Lists made by hand: spaces of every sort, ends of the input, long frames, and
-//! the days of `tapes` with full tables and numbers at the ends of their ranges.
+//! the days of `tapes` with full tables, numbers at the ends of their ranges and
+//! national prices.
 
 use crate::lists::List;
 use reckoning::book::{Book, SPACE};
 use reckoning::calls::item;
+use reckoning::generate::LAST_KIND;
 use reckoning::lists::Input;
 use tapes::days::Day;
-use tapes::hand::{example, extremes, full_tables};
+use tapes::hand::{example, extremes, full_tables, national};
 use tapes::tally::frames;
 
 fn made(name: impl Into<String>, bytes: Vec<u8>) -> List {
@@ -110,7 +112,7 @@ pub fn long_frames() -> Vec<List> {
         255u16, 256, 257, 1_000, 4_096, 32_767, 32_768, 65_534, 65_535,
     ] {
         for field in [length, length.wrapping_add(1), 6] {
-            for kind in 0..=9 {
+            for kind in 0..=LAST_KIND as u8 + 1 {
                 let mut frame = vec![1; usize::from(length)];
                 frame[..2].copy_from_slice(&field.to_le_bytes());
                 frame[2..4].copy_from_slice(&[kind, 0]);
@@ -185,5 +187,6 @@ fn of_day(day: &Day) -> Vec<List> {
 pub fn days() -> Vec<List> {
     let mut days = full_tables();
     days.extend(extremes());
+    days.extend(national());
     days.iter().flat_map(of_day).collect()
 }

@@ -5,8 +5,10 @@ use reckoning::book::{Book, BUY, COMPLEX_ORDERS, LEG_ORDERS, SELL, SPACE};
 use reckoning::calls::item;
 use reckoning::frames::{bytes, judge, Event};
 use reckoning::generate::{
-    damaged_frame, frames, list, long_list, valid_event, Input, Options, Random,
+    damaged_frame, frames, list, long_list, national_list, valid_event, Input, Options, Random,
+    LAST_KIND,
 };
+use reckoning::passes::meets;
 use std::collections::BTreeSet;
 use std::fmt;
 
@@ -14,11 +16,12 @@ use std::fmt;
 #[derive(Clone, Debug, PartialEq, Eq)]
 pub enum List {
     /// A list of the reckoning's generator with further calls in it, ended where
-    /// the book is in a certain state.
+    /// the book is in a certain state. Two of three have kinds 9 and 10.
     Generated { seed: u64, events: usize, end: End },
     /// A list that gives all 100,000 numbers and goes on.
     EveryNumber { seed: u64 },
-    /// Several days, a day end after each but the last.
+    /// Several days, a day end after each but the last; two of three have kinds 9
+    /// and 10.
     Several { seed: u64, days: u64, end: End },
     /// Frames of any sort one after the other, most of them refused, with spaces
     /// of any length.
@@ -45,9 +48,11 @@ pub enum End {
     Depth,
     /// The table of complex orders or of leg orders is full.
     Full,
+    /// Orders rest crossed, since the range keeps them apart.
+    Crossed,
 }
 
-pub const ENDS: [End; 7] = [
+pub const ENDS: [End; 8] = [
     End::Anywhere,
     End::Auctions,
     End::Sweeps,
@@ -55,6 +60,7 @@ pub const ENDS: [End; 7] = [
     End::ShutLegs,
     End::Depth,
     End::Full,
+    End::Crossed,
 ];
 
 impl End {
@@ -91,6 +97,7 @@ impl End {
                 book.complex_orders().count() == COMPLEX_ORDERS
                     || book.leg_orders.len() == LEG_ORDERS
             }
+            End::Crossed => (book.live_numbers().into_iter()).any(|n| rests_crossed(book, n)),
         }
     }
 }
@@ -108,6 +115,19 @@ pub fn best_orders(book: &Book, series: u8, side: u8) -> usize {
         own().min()
     };
     own().filter(|price| Some(*price) == best).count()
+}
+
+/// Whether the order rests in an open strategy without an auction, beside an
+/// opposite one that meets its limit.
+pub fn rests_crossed(book: &Book, number: u32) -> bool {
+    book.entry(number).is_some_and(|own| {
+        let limit = i64::from(own.limit);
+        book.all_open(own.strategy)
+            && !book.auction_runs(own.strategy)
+            && (book.entries_of(own.strategy)).any(|other| {
+                other.side != own.side && meets(own.side, limit, i64::from(other.limit))
+            })
+    })
 }
 
 impl fmt::Display for List {
@@ -158,7 +178,7 @@ fn any_space(random: &mut Random) -> usize {
 /// or another damage.
 fn bad_frame(random: &mut Random) -> Vec<u8> {
     loop {
-        let kind = random.range(1, 8) as u32;
+        let kind = random.range(1, i64::from(LAST_KIND)) as u32;
         let frame = match random.below(6) {
             0 => Vec::new(),
             1 => (0..random.below(24)).map(|_| random.bits() as u8).collect(),
@@ -189,11 +209,17 @@ fn bad_frame(random: &mut Random) -> Vec<u8> {
 /// 1, 2 or 3, and with longer spaces for some of its own.
 fn woven(seed: u64, inputs: Vec<Input>) -> Vec<Input> {
     let mut random = Random::new(seed ^ 0x0C0F_FEE0_0DD5_EED5);
-    let mut list = Vec::new();
+    let mut list: Vec<Input> = Vec::new();
     for mut input in inputs {
         if random.chance(1, 12) {
             let space = short_space(&mut random);
             let frame = input.frame.clone();
+            list.push(Input { frame, space });
+        }
+        // A frame from before, in another state of the book.
+        if !list.is_empty() && random.chance(1, 20) {
+            let space = short_space(&mut random);
+            let frame = list[random.below(list.len())].frame.clone();
             list.push(Input { frame, space });
         }
         if random.chance(1, 20) {
@@ -227,6 +253,14 @@ fn ended(seed: u64, mut list: Vec<Input>, end: End) -> Vec<Input> {
     list
 }
 
+/// A list of the generator, with kinds 9 and 10 for two seeds of three.
+fn some_list(seed: u64, events: usize, options: Options) -> Vec<Input> {
+    match seed % 3 {
+        0 => list(seed, events, options),
+        _ => national_list(seed, events, options),
+    }
+}
+
 fn several(seed: u64, days: u64) -> Vec<Input> {
     let options = Options {
         loose: true,
@@ -235,7 +269,7 @@ fn several(seed: u64, days: u64) -> Vec<Input> {
     let mut random = Random::new(seed);
     let mut inputs = Vec::new();
     for day in 0..days {
-        inputs.extend(list(1_000 * seed + day, 300, options));
+        inputs.extend(some_list(1_000 * seed + day, 300, options));
         if day + 1 < days {
             let timer = random.pick(&[1, 2, 50, 1_000, 4_999, 5_000]);
             inputs.push(Input {
@@ -256,7 +290,7 @@ impl List {
                     loose: true,
                     day_ends: true,
                 };
-                let inputs = woven(seed, list(seed, events, options));
+                let inputs = woven(seed, some_list(seed, events, options));
                 ended(seed, inputs, end)
             }
             List::EveryNumber { seed } => {

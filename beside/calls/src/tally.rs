@@ -1,18 +1,21 @@
 //! What the compared lists held: calls by kind and answer, spaces and frames by
-//! sort, and the lines of the lookups by what they tell.
+//! sort, the lines of the lookups by what they tell, and the situations that the
+//! book reached.
 
-use crate::lists::best_orders;
+use crate::lists::{best_orders, rests_crossed};
 use reckoning::book::{Book, BUY, SPACE};
 use reckoning::calls::items;
+use reckoning::national::FRESH_RANGE;
 use std::collections::BTreeMap;
 use std::fmt;
+use tapes::tally::{kind_of, kinds, name_of, situations};
 
 #[derive(Default)]
 pub struct Tally {
     pub lists: u64,
     pub bytes: u64,
     pub lines: u64,
-    /// Calls by kind (9 for every other, and for a frame without one) and answer.
+    /// Calls by kind, or `OTHER`, and answer.
     pub calls: BTreeMap<(u32, u32), u64>,
     /// Records by kind.
     pub records: BTreeMap<u32, u64>,
@@ -21,6 +24,7 @@ pub struct Tally {
     pub highest_live: u32,
     /// How often each of `SEEN` was seen.
     pub seen: BTreeMap<&'static str, u64>,
+    pub situations: BTreeMap<&'static str, u64>,
 }
 
 /// Everything that is counted and has to be seen.
@@ -38,6 +42,7 @@ pub const SEEN: &[&str] = &[
     "L of a leg order",
     "L of a sweep",
     "L of an auction's starter",
+    "L of an order that rests crossed",
     "S with a shut leg that is not the first",
     "S with every leg shut",
     "S with one shut leg",
@@ -48,7 +53,9 @@ pub const SEEN: &[&str] = &[
     "frame: under 4 bytes",
     "list: all tables but the strategies are used",
     "list: an auction runs",
+    "list: another range than 9,999",
     "list: every lookup is empty",
+    "list: national prices are known",
     "list: several auctions run",
     "list: 16 complex orders",
     "list: 16 strategies",
@@ -62,17 +69,6 @@ pub const SEEN: &[&str] = &[
     "space: another long one",
     "space: another short one",
 ];
-
-/// The kind that a frame's bytes say.
-fn kind_of(frame: &[u8]) -> u32 {
-    match frame {
-        [_, _, low, high, ..] => match u16::from_le_bytes([*low, *high]) {
-            kind @ 1..=8 => u32::from(kind),
-            _ => 9,
-        },
-        _ => 9,
-    }
-}
 
 impl Tally {
     fn see(&mut self, what: &'static str) {
@@ -150,9 +146,21 @@ impl Tally {
             self.see_if(held == slots, what);
         }
         self.see_if(
+            book.national.known() != 0,
+            "list: national prices are known",
+        );
+        self.see_if(
+            book.national.range != FRESH_RANGE,
+            "list: another range than 9,999",
+        );
+        self.see_if(
             tables[..3].iter().all(|(held, _, _)| *held > 0),
             "list: all tables but the strategies are used",
         );
+        let list = calls.iter().map(|call| (&call.frame[..], call.space));
+        for (situation, count) in situations(list) {
+            *self.situations.entry(situation).or_default() += count;
+        }
     }
 
     fn live(&mut self, number: u32, book: &Book) {
@@ -165,6 +173,10 @@ impl Tally {
         self.see_if(sweep, "L of a sweep");
         self.see_if(leg, "L of a leg order");
         self.see_if(starter, "L of an auction's starter");
+        self.see_if(
+            rests_crossed(book, number),
+            "L of an order that rests crossed",
+        );
         self.see_if(
             book.sweeps().next().is_none(),
             "L in a list without a sweep",
@@ -224,6 +236,9 @@ impl Tally {
         for (what, count) in other.seen {
             *self.seen.entry(what).or_default() += count;
         }
+        for (situation, count) in other.situations {
+            *self.situations.entry(situation).or_default() += count;
+        }
     }
 
     pub fn total(&self) -> u64 {
@@ -237,7 +252,7 @@ impl Tally {
 
     /// How many calls had the answer.
     pub fn answered(&self, answer: u32) -> u64 {
-        (1..=9).map(|kind| self.of(kind, answer)).sum()
+        kinds().map(|kind| self.of(kind, answer)).sum()
     }
 
     pub fn written(&self, kind: u32) -> u64 {
@@ -246,6 +261,10 @@ impl Tally {
 
     pub fn saw(&self, what: &str) -> u64 {
         self.seen.get(what).copied().unwrap_or(0)
+    }
+
+    pub fn reached(&self, situation: &str) -> u64 {
+        self.situations.get(situation).copied().unwrap_or(0)
     }
 }
 
@@ -259,11 +278,8 @@ impl fmt::Display for Tally {
             self.bytes,
             self.lines
         )?;
-        for kind in 1..=9 {
-            let name = match kind {
-                9 => "other".to_string(),
-                kind => kind.to_string(),
-            };
+        for kind in kinds() {
+            let name = name_of(kind);
             let counts: Vec<String> = (self.calls.iter())
                 .filter(|((of, _), _)| *of == kind)
                 .map(|((_, answer), count)| format!("{answer}: {count}"))
@@ -273,7 +289,13 @@ impl fmt::Display for Tally {
         let counts: Vec<String> = (self.records.iter())
             .map(|(kind, count)| format!("{kind}: {count}"))
             .collect();
-        write!(out, "  records by kind: {}", counts.join(", "))?;
+        writeln!(out, "  records by kind: {}", counts.join(", "))?;
+        let least = self.situations.values().min().copied().unwrap_or(0);
+        write!(
+            out,
+            "  {} situations, each {least} times or more",
+            self.situations.len()
+        )?;
         for (what, count) in &self.seen {
             write!(out, "\n  {what}: {count}")?;
         }

@@ -8,10 +8,13 @@ use calls::agree::agrees;
 use calls::hand::{days, ends, last_numbers, long_frames, spaces};
 use calls::lists::{any_frames, every_number, generated, several_days, List};
 use calls::tally::{Tally, SEEN};
+use reckoning::coverage::SITUATIONS;
+use reckoning::generate::LAST_KIND;
 use std::path::Path;
 use std::process::Command;
 use std::time::Duration;
 use tapes::program::{Delivery, Program};
+use tapes::tally::OTHER;
 
 const ROOT: &str = concat!(env!("CARGO_MANIFEST_DIR"), "/../..");
 
@@ -52,7 +55,9 @@ const ANSWERS: &[(u32, &[u32])] = &[
     (6, &[0, 1, 2, 3]),
     (7, &[0, 1, 2, 3, 11]),
     (8, &[0, 1, 2, 3]),
-    (9, &[1, 2]),
+    (9, &[0, 1, 2, 3, 14]),
+    (10, &[0, 1, 2, 3]),
+    (OTHER, &[1, 2]),
 ];
 
 #[test]
@@ -68,7 +73,7 @@ fn generated_lists() {
             assert!(count >= 50, "kind {kind}, answer {answer}: {count}");
         }
     }
-    for answer in 0..=12 {
+    for answer in (0..=14).filter(|answer| *answer != 13) {
         let count = tally.answered(answer);
         assert!(count >= 2_000, "answer {answer}: {count}");
     }
@@ -79,6 +84,15 @@ fn generated_lists() {
     for what in SEEN {
         let count = tally.saw(what);
         assert!(count >= 20, "{what}: {count}");
+    }
+    for kind in [9, 10] {
+        let count = tally.of(kind, 0);
+        assert!(count >= 10_000, "accepted calls of kind {kind}: {count}");
+    }
+    assert!(SITUATIONS.len() >= 103);
+    for situation in SITUATIONS {
+        let count = tally.reached(situation);
+        assert!(count >= 50, "{situation}: {count}");
     }
 }
 
@@ -91,6 +105,7 @@ fn lists_that_give_every_number() {
         let count = tally.of(kind, 13);
         assert!(count >= 20, "kind {kind}, answer 13: {count}");
     }
+    assert!(tally.of(9, 0) >= 100 && tally.of(10, 0) >= 50);
 }
 
 #[test]
@@ -110,7 +125,12 @@ fn several_days_in_a_row() {
     let tally = agreed("several days in a row", &lists);
     assert!(tally.total() >= 60_000);
     assert!(tally.of(8, 0) >= 2 * lists.len() as u64);
-    for what in ["L of a sweep", "S with one shut leg", "D of bids"] {
+    for what in [
+        "L of a sweep",
+        "S with one shut leg",
+        "D of bids",
+        "list: national prices are known",
+    ] {
         assert!(tally.saw(what) >= 20, "{what}");
     }
 }
@@ -137,7 +157,7 @@ fn frames_of_up_to_65535_bytes() {
     assert!(tally.bytes >= 10_000_000);
     // After each long frame the program goes on.
     assert!(tally.of(6, 0) >= 500 && tally.saw("cut") >= 200);
-    for kind in 1..=8 {
+    for kind in 1..=LAST_KIND {
         for answer in [1, 2] {
             let count = tally.of(kind, answer);
             assert!(count >= 20, "kind {kind}, answer {answer}: {count}");

@@ -1,4 +1,5 @@
-//! The fields of each kind as document 01 lists them, for making inputs.
+//! The fields of each kind as document 01 and request 2026-01 list them, for making
+//! inputs.
 
 use crate::random::Random;
 
@@ -40,6 +41,12 @@ const NUMBER: Field = field("order number", 4, 1, 100_000);
 const STATE: Field = field("state", 1, 0, 1);
 const MILLISECONDS: Field = field("milliseconds", 4, 0, 86_400_000);
 const TIMER: Field = field("timer", 2, 1, 5_000);
+const NATIONAL_BID: Field = field("national bid", 4, 0, 99_999);
+const NATIONAL_OFFER: Field = field("national offer", 4, 0, 99_999);
+const RANGE: Field = field("range", 2, 0, 9_999);
+
+/// The highest kind there is.
+pub const LAST: u32 = 10;
 
 /// The fields of a kind in frame order; those of a strategy for this count.
 pub fn fields(kind: u32, count: usize) -> Vec<Field> {
@@ -58,6 +65,8 @@ pub fn fields(kind: u32, count: usize) -> Vec<Field> {
         6 => vec![SERIES, STATE],
         7 => vec![MILLISECONDS],
         8 => vec![TIMER],
+        9 => vec![SERIES, NATIONAL_BID, NATIONAL_OFFER],
+        10 => vec![RANGE],
         _ => vec![],
     }
 }
@@ -66,7 +75,7 @@ pub fn fields(kind: u32, count: usize) -> Vec<Field> {
 pub fn shapes() -> Vec<(u32, Vec<Field>)> {
     let strategies = (2..=6).map(|count| (1, fields(1, count)));
     strategies
-        .chain((2..=8).map(|kind| (kind, fields(kind, 0))))
+        .chain((2..=LAST).map(|kind| (kind, fields(kind, 0))))
         .collect()
 }
 

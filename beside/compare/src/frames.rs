@@ -1,6 +1,6 @@
 //! The frames that are compared.
 
-use crate::fields::{counted, fields, frame, shapes, trials, valid, with_length, HEAD};
+use crate::fields::{counted, fields, frame, shapes, trials, valid, with_length, HEAD, LAST};
 use crate::random::Random;
 
 /// What is done with each frame; an error ends the walk.
@@ -68,7 +68,7 @@ fn lengths(visit: Visit) -> Result<(), String> {
     let mut random = Random::new(3);
     for length in 0..=64_usize {
         for kind in (0..=16_u16)
-            .chain((0..=9).map(|kind| 256 + kind))
+            .chain((0..=LAST as u16 + 1).map(|kind| 256 + kind))
             .chain([0x0100, 0x0600, 0x0800, 0x7fff, 0x8001, 0xff00, 0xffff])
         {
             let own = length as u16;
@@ -133,7 +133,7 @@ fn damaged(visit: Visit) -> Result<(), String> {
                 }
                 visit(&whole[..at])?;
             }
-            for other in 0..=9 {
+            for other in 0..=LAST as u8 + 1 {
                 let mut bytes = whole.clone();
                 bytes[2] = other;
                 visit(&bytes)?;
@@ -159,7 +159,7 @@ fn random_bytes(visit: Visit) -> Result<(), String> {
         let length = HEAD + random.below(29);
         let mut bytes = with_length(random.bytes(length));
         visit(&bytes)?;
-        bytes[2..HEAD].copy_from_slice(&[random.byte() % 10, 0]);
+        bytes[2..HEAD].copy_from_slice(&[random.byte() % (LAST as u8 + 2), 0]);
         visit(&bytes)?;
     }
     for (kind, fields) in shapes() {
@@ -184,7 +184,7 @@ fn random_bytes(visit: Visit) -> Result<(), String> {
 /// Frames of many bytes, among them those whose length does not fit in two.
 fn long(visit: Visit) -> Result<(), String> {
     let mut random = Random::new(6);
-    for kind in 0..=9 {
+    for kind in 0..=LAST as u8 + 1 {
         for length in [770, 771, 1_000, 32_768, 65_534, 65_535, 65_536, 65_541] {
             let mut bytes = with_length(random.bytes(length));
             bytes[2..HEAD].copy_from_slice(&[kind, 0]);

@@ -1,17 +1,19 @@
 //! Codecs that are wrong in one place each. The comparison must find every one.
 
-use crate::fields::{fields, Field, HEAD};
+use crate::fields::{fields, Field, HEAD, LAST};
 use crate::rows::{numbers_used, read, write, Row};
 
-/// A judge by a table of lengths and fields. As `Table::right` has it, it is
-/// document 01's; the mutants change one entry.
+/// How many kinds a table has: 0, the known ones, and the next, which is unknown.
+const KINDS: usize = LAST as usize + 2;
+
+/// A judge by a table of lengths and fields. As `Table::right` has it, it is that of
+/// document 01 and of request 2026-01; the mutants change one entry.
 #[derive(Clone)]
 pub struct Table {
-    /// The length of each kind from 0 to 9, of a strategy without legs; 0 for an
-    /// unknown kind.
-    lengths: [usize; 10],
-    /// The fields of each kind from 0 to 9, of a strategy the count alone.
-    fields: [Vec<Field>; 10],
+    /// The length of each kind, of a strategy without legs; 0 for an unknown kind.
+    lengths: [usize; KINDS],
+    /// The fields of each kind, of a strategy the count alone.
+    fields: [Vec<Field>; KINDS],
     /// The fields of one leg, and its bytes.
     leg: Vec<Field>,
     leg_length: usize,
@@ -33,9 +35,9 @@ pub struct Table {
 
 impl Table {
     pub fn right() -> Table {
-        let mut lengths = [0; 10];
-        let mut all: [Vec<Field>; 10] = Default::default();
-        for kind in 1..=8 {
+        let mut lengths = [0; KINDS];
+        let mut all: [Vec<Field>; KINDS] = Default::default();
+        for kind in 1..=LAST as usize {
             all[kind] = fields(kind as u32, 0);
             lengths[kind] = HEAD + all[kind].iter().map(|field| field.width).sum::<usize>();
         }
@@ -65,7 +67,7 @@ impl Table {
         if self.said && said != frame.len() {
             return 2;
         }
-        if kind > 9 || self.lengths[kind] == 0 {
+        if kind >= KINDS || self.lengths[kind] == 0 {
             return 2;
         }
         if kind == 1 && frame.len() < 5 {
@@ -145,7 +147,7 @@ pub fn judges() -> Vec<(String, Table)> {
         change(&mut table);
         list.push((name, table));
     };
-    for kind in 1..=8 {
+    for kind in 1..=LAST as usize {
         for length in [right.lengths[kind] - 1, right.lengths[kind] + 1] {
             let name = format!("kind {kind} has length {length}");
             add(name, &|table| table.lengths[kind] = length);
@@ -166,7 +168,9 @@ pub fn judges() -> Vec<(String, Table)> {
                 let name = format!("kind {kind}: {} has no sign", field.name);
                 add(name, &|table| table.fields[kind][place].low = 0);
             }
-            if place > 0 {
+            // Two fields of one range are judged alike in either order.
+            let range = |field: &Field| (field.width, field.low, field.high);
+            if place > 0 && range(&right.fields[kind][place - 1]) != range(field) {
                 let name = format!("kind {kind}: {} is exchanged with the last", field.name);
                 add(name, &|table| table.fields[kind].swap(place - 1, place));
             }
@@ -181,7 +185,13 @@ pub fn judges() -> Vec<(String, Table)> {
         let name = format!("leg {leg} is not looked at");
         add(name, &|table| table.skipped = Some(leg));
     }
-    for (unknown, known) in [(0, 6), (0, 8), (9, 6), (9, 8)] {
+    for (unknown, known) in [
+        (0, 6),
+        (0, 8),
+        (KINDS - 1, 6),
+        (KINDS - 1, 9),
+        (KINDS - 1, 10),
+    ] {
         let name = format!("kind {unknown} is taken as {known}");
         add(name, &|table| {
             table.lengths[unknown] = table.lengths[known];
@@ -219,7 +229,7 @@ pub type WrongWriter = Box<dyn Fn(&Row, &mut [u8]) -> Result<usize, u32>>;
 /// Wrong readers, each with what is wrong.
 pub fn readers() -> Vec<(String, WrongReader)> {
     let mut list: Vec<(String, WrongReader)> = Vec::new();
-    for kind in 1..=8 {
+    for kind in 1..=LAST {
         for at in 0..20 {
             list.push((
                 format!("kind {kind}: number {at} is one more"),
@@ -271,7 +281,7 @@ pub fn writers() -> Vec<(String, WrongWriter)> {
             }),
         ));
     }
-    for kind in 1..=8 {
+    for kind in 1..=LAST {
         for at in 1..numbers_used(kind) {
             list.push((
                 format!("kind {kind}: number {at} is cut to two bytes"),

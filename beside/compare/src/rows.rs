@@ -99,6 +99,12 @@ pub fn event_of(row: &Row) -> Option<Event> {
             milliseconds: row[1],
         },
         8 => Event::DayEnd { timer: two(1)? },
+        9 => Event::NationalPrices {
+            series: byte(1)?,
+            bid: row[2],
+            offer: row[3],
+        },
+        10 => Event::ExecutionRange { cents: two(1)? },
         _ => return None,
     })
 }
@@ -151,7 +157,7 @@ fn single_values(visit: Visit) -> Result<(), String> {
     Ok(())
 }
 
-/// Kinds that are not 1 to 8, and valid events under another kind.
+/// Kinds that are not 1 to 10, and valid events under another kind.
 fn other_kinds(visit: Visit) -> Result<(), String> {
     let mut random = Random::new(12);
     for (kind, fields) in shapes() {
@@ -191,7 +197,7 @@ fn legs_past_the_count(visit: Visit) -> Result<(), String> {
 }
 
 /// Valid events, events with some values near the ends of their ranges, and
-/// rows of any numbers; in kinds 2 to 8 also with numbers after the fields.
+/// rows of any numbers; in kinds 2 to 10 also with numbers after the fields.
 fn random_rows(visit: Visit) -> Result<(), String> {
     let mut random = Random::new(14);
     let near = |random: &mut Random, field: &Field| match random.byte() % 16 {

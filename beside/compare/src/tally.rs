@@ -1,9 +1,10 @@
 //! How many comparisons there were of each kind with each answer.
 
+use crate::fields::LAST;
 use std::collections::BTreeMap;
 use std::fmt;
 
-/// Counts by kind (9 for every other) and by answer.
+/// Counts by kind (0 for every other) and by answer.
 #[derive(Default)]
 pub struct Tally {
     counts: BTreeMap<(u32, u32), u64>,
@@ -11,7 +12,7 @@ pub struct Tally {
 
 impl Tally {
     pub fn add(&mut self, kind: u32, answer: u32) {
-        let kind = if (1..=8).contains(&kind) { kind } else { 9 };
+        let kind = if kind <= LAST { kind } else { 0 };
         *self.counts.entry((kind, answer)).or_default() += 1;
     }
 
@@ -38,9 +39,9 @@ impl fmt::Display for Tally {
         let mut answers: Vec<u32> = self.counts.keys().map(|(_, answer)| *answer).collect();
         answers.sort_unstable();
         answers.dedup();
-        for kind in 1..=9 {
+        for kind in (1..=LAST).chain([0]) {
             match kind {
-                9 => write!(out, "  other kinds:")?,
+                0 => write!(out, "  other kinds:")?,
                 _ => write!(out, "  kind {kind}:")?,
             }
             for answer in &answers {

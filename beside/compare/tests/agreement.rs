@@ -4,6 +4,7 @@
 #![deny(warnings)]
 
 use compare::agree::{judges, readers, reads_what_is_written, writers, writes_what_is_read};
+use compare::fields::LAST;
 use compare::tally::Tally;
 use compare::{codec, rows};
 
@@ -20,7 +21,7 @@ fn agreed(what: &str, result: Result<Tally, String>) -> Tally {
 
 /// Every kind has each of these answers at least this often.
 fn often(tally: &Tally, answers: &[u32], least: u64) {
-    for kind in 1..=8 {
+    for kind in 1..=LAST {
         for answer in answers {
             let count = tally.of(kind, *answer);
             assert!(count >= least, "kind {kind}, answer {answer}: {count}");

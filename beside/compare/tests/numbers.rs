@@ -3,7 +3,7 @@
 #![forbid(unsafe_code)]
 #![deny(warnings)]
 
-use compare::codec::{read_into, write_from};
+use compare::codec::{judge, read_into, write_from};
 
 /// Document 01: "Open series 0 is bytes 06 00 06 00 00 01".
 const OPEN: [u8; 6] = [6, 0, 6, 0, 0, 1];
@@ -17,6 +17,37 @@ fn open_series_0() {
     let mut space = [9; 8];
     assert_eq!(write_from(&values, &mut space), 6);
     assert_eq!(space, [6, 0, 6, 0, 0, 1, 9, 9]);
+}
+
+/// Request 2026-01: "series, national bid (4) and offer (4)", "length 13", and "the
+/// range in cents (2)", "length 6". A bid above its offer is for the book to refuse.
+#[test]
+fn national_prices_and_the_range() {
+    for (frame, event) in [
+        (
+            &[13, 0, 9, 0, 31, 0x27, 1, 0, 0, 0x36, 1, 0, 0][..],
+            &[9, 31, 295, 310][..],
+        ),
+        (
+            &[13, 0, 9, 0, 0, 0x36, 1, 0, 0, 0x27, 1, 0, 0],
+            &[9, 0, 310, 295],
+        ),
+        (
+            &[13, 0, 9, 0, 7, 0, 0, 0, 0, 0x9f, 0x86, 1, 0],
+            &[9, 7, 0, 99_999],
+        ),
+        (&[6, 0, 10, 0, 0x0f, 0x27], &[10, 9_999]),
+        (&[6, 0, 10, 0, 0, 0], &[10, 0]),
+    ] {
+        assert_eq!(judge(frame), 0);
+        let mut values = [7; 20];
+        assert_eq!(read_into(frame, &mut values), 0);
+        assert_eq!(values[..event.len()], *event);
+        assert_eq!(values[event.len()..], vec![0; 20 - event.len()]);
+        let mut space = vec![9; frame.len()];
+        assert_eq!(write_from(&values, &mut space) as usize, frame.len());
+        assert_eq!(space, frame);
+    }
 }
 
 #[test]

@@ -1,6 +1,7 @@
 //! The book: its tables, what is live in them, and the lookups.
 
 use crate::frames::Leg;
+use crate::national::National;
 use crate::passes::strictly_better;
 use crate::records::Record;
 use crate::table::Table;
@@ -143,6 +144,8 @@ pub struct Book {
     /// How many numbers were given: "Numbers rise from 1 over orders and
     /// sweeps together."
     pub given: u32,
+    /// The national prices and the execution range.
+    pub national: National,
 }
 
 /// Some of the strategies; they come by rising number.
@@ -191,6 +194,7 @@ impl Book {
             depths: [[None; 2]; SERIES as usize],
             auctions: [None; STRATEGIES],
             given: 0,
+            national: National::default(),
         }
     }
 

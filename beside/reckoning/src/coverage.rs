@@ -1,9 +1,10 @@
 //! Counts of the situations that lists of events reach, for tests of the
 //! generator. They play no part in any answer.
 
-use crate::book::{Book, Entry, BUY, DAY, DO_NOT_AUCTION, STRATEGIES, SWEEPS};
+use crate::book::{Book, Entry, BUY, DAY, DO_NOT_AUCTION, SELL, STRATEGIES, SWEEPS};
 use crate::events::Answer;
 use crate::frames::{read, Event};
+use crate::national::{Bounds, FRESH_RANGE};
 use crate::passes::{meets, Given, Holders};
 use crate::records::{Record, AUCTION_BEGUN, AUCTION_ENDED, CANCELLED, LEG_FILL, WHOLE_FILL};
 use std::cell::{Cell, RefCell};
@@ -21,39 +22,63 @@ pub const SITUATIONS: &[&str] = &[
     "clock: several auctions end",
     "complex: cancelled at a shut series",
     "complex: do-not-auction cancelled in an auction",
+    "complex: fills an order that rested crossed",
     "complex: fills at four prices or more",
     "complex: fills at two prices or more",
     "complex: fills on arrival",
     "complex: fourth auction at once",
     "complex: rests beside a shut series",
+    "complex: rests crossed",
     "complex: second auction at once",
     "complex: starter met on arrival",
     "complex: the net meets and is not ready",
+    "complex: the pass stops at the range",
     "complex: waits in an auction",
     "day end: an auction ends",
+    "day end: national prices and a range are set",
     "day end: several auctions end",
     "end: a day starter rests",
     "end: a later pass meets an order from before",
+    "end: a later pass meets the starter's rest",
     "end: a sweep's own pass fills",
+    "end: a sweep's own pass stops at the range",
     "end: a waiting order uses legs",
     "end: a waiting order's own pass fills",
+    "end: a waiting order's own pass stops at the range",
     "end: an immediate starter is cancelled",
     "end: legs barred by what is gone",
     "end: legs barred for the starter",
     "end: the starter fills by both",
     "end: the starter fills by legs only",
     "end: the starter fills whole only",
+    "end: the starter's pass stops at the range",
+    "leg order: an order that rests crossed fills by legs",
     "leg order: fills in several strategies",
     "leg order: one trade",
     "leg order: resting orders fill by legs",
     "leg order: several trades",
     "leg order: trades, then resting orders fill by legs",
+    "national: a price is taken away",
+    "national: both prices known",
+    "national: both prices missing",
+    "national: equal prices",
+    "national: one price missing",
+    "opening: a match at a bound",
+    "opening: a match fills, then stops",
+    "opening: a match stops above the buyer's bound",
+    "opening: a match stops below the seller's bound",
     "opening: a strategy matches",
+    "opening: a strategy stays crossed, another matches",
+    "opening: a strategy stays crossed, orders fill by legs",
     "opening: at the buy's limit",
     "opening: at the sell's limit",
     "opening: matches, then fills by legs",
     "opening: orders fill by legs",
     "opening: several strategies match",
+    "range: 0",
+    "range: narrowed",
+    "range: widened",
+    "range: widened where orders rest crossed",
     "share: a holder gets nothing",
     "share: no unit left over",
     "share: one unit left over",
@@ -63,17 +88,36 @@ pub const SITUATIONS: &[&str] = &[
     "share: three groups at one limit",
     "shut: an auction ends",
     "shut: several auctions end",
+    "stop: after fills",
+    "stop: another limit could fill",
+    "stop: in a legs-only pass",
+    "stop: in a numbered pass",
+    "stop: in a shared pass",
+    "stop: legs above the buyer's bound",
+    "stop: legs below the seller's bound",
+    "stop: limit above the active buyer's bound",
+    "stop: limit above the other buyer's bound",
+    "stop: limit below the active seller's bound",
+    "stop: limit below the other seller's bound",
+    "stop: the legs could fill",
     "strategy: equal in a full table",
     "strategy: equal to a held one",
     "sweep: replaced",
     "sweep: replaced in a full table",
     "sweep: withdrawn",
+    "turn: between two bounds",
+    "turn: legs at the buyer's bound",
+    "turn: legs at the seller's bound",
     "turn: legs better than a limit",
     "turn: legs in a legs-only pass",
     "turn: legs in a numbered pass",
     "turn: legs in a shared pass",
+    "turn: only the buyer is bound",
+    "turn: only the seller is bound",
     "turn: whole at a limit better than the leg net",
     "turn: whole at a limit that equals the leg net",
+    "turn: whole at the buyer's bound",
+    "turn: whole at the seller's bound",
     "turn: whole in a numbered pass",
     "turn: whole in a shared pass",
 ];
@@ -139,9 +183,25 @@ pub fn count_allotment(holders: &[Entry], fills: &[Given]) {
     );
 }
 
-/// Counts what a turn of a pass chose.
-pub fn count_turn(holders: Holders, legs: bool, leg_net: Option<i64>, whole: Option<i64>) {
-    reach(match (holders, legs) {
+/// A turn of a pass, as it was chosen.
+pub struct Turn {
+    pub holders: Holders,
+    /// Whether the legs fill it, at their net, or an opposite limit.
+    pub by_legs: bool,
+    pub price: i64,
+    /// The net of the legs that are ready, and the best opposite limit.
+    pub leg_net: Option<i64>,
+    pub whole: Option<i64>,
+    pub bounds: Bounds,
+}
+
+/// Counts what a turn of a pass chose, and how near to the bounds it fills.
+pub fn count_turn(turn: &Turn) {
+    if !counting() {
+        return;
+    }
+    let (legs, leg_net, whole) = (turn.by_legs, turn.leg_net, turn.whole);
+    reach(match (turn.holders, legs) {
         (Holders::Nobody, _) => "turn: legs in a legs-only pass",
         (Holders::Shared, true) => "turn: legs in a shared pass",
         (Holders::Shared, false) => "turn: whole in a shared pass",
@@ -157,6 +217,115 @@ pub fn count_turn(holders: Holders, legs: bool, leg_net: Option<i64>, whole: Opt
         !legs && leg_net.is_some() && leg_net != whole,
         "turn: whole at a limit better than the leg net",
     );
+    let Bounds { lowest, highest } = turn.bounds;
+    if turn.price == highest {
+        reach(match legs {
+            true => "turn: legs at the buyer's bound",
+            false => "turn: whole at the buyer's bound",
+        });
+    }
+    if turn.price == lowest {
+        reach(match legs {
+            true => "turn: legs at the seller's bound",
+            false => "turn: whole at the seller's bound",
+        });
+    }
+    match (lowest > i64::MIN, highest < i64::MAX) {
+        (true, true) => reach("turn: between two bounds"),
+        (true, false) => reach("turn: only the seller is bound"),
+        (false, true) => reach("turn: only the buyer is bound"),
+        (false, false) => {}
+    }
+}
+
+/// Counts a turn that the bounds forbid, so that the pass stops; `filled` if the
+/// pass had fills before.
+pub fn count_stop(book: &Book, active: &Entry, turn: &Turn, filled: bool) {
+    if !counting() {
+        return;
+    }
+    let (side, price, bounds) = (active.side, turn.price, turn.bounds);
+    // The party that may not take the fill.
+    let (own, buyer) = (!bounds.allow(side, price), !bounds.allow(BUY, price));
+    reach(match (turn.by_legs, own, buyer) {
+        (true, _, true) => "stop: legs above the buyer's bound",
+        (true, _, false) => "stop: legs below the seller's bound",
+        (false, true, true) => "stop: limit above the active buyer's bound",
+        (false, true, false) => "stop: limit below the active seller's bound",
+        (false, false, true) => "stop: limit above the other buyer's bound",
+        (false, false, false) => "stop: limit below the other seller's bound",
+    });
+    reach_if(filled, "stop: after fills");
+    let taken = |price: i64| meets(side, i64::from(active.limit), price);
+    let by_legs = |net: i64| taken(net) && bounds.allow(side, net);
+    reach_if(
+        !turn.by_legs && turn.leg_net.is_some_and(by_legs),
+        "stop: the legs could fill",
+    );
+    let mut others = book.entries_of(active.strategy).filter(|e| e.side != side);
+    let could_fill = |limit: i64| taken(limit) && bounds.allow_both(limit);
+    reach_if(
+        turn.holders != Holders::Nobody && others.any(|e| could_fill(i64::from(e.limit))),
+        "stop: another limit could fill",
+    );
+    let auction = book.auction_runs(active.strategy);
+    match turn.holders {
+        Holders::Nobody => reach("stop: in a legs-only pass"),
+        Holders::Shared => {
+            reach("stop: in a shared pass");
+            reach(match auction {
+                true => "end: the starter's pass stops at the range",
+                false => "complex: the pass stops at the range",
+            });
+        }
+        Holders::Numbered => {
+            reach("stop: in a numbered pass");
+            reach(match active.life {
+                None => "end: a sweep's own pass stops at the range",
+                Some(_) => "end: a waiting order's own pass stops at the range",
+            });
+        }
+    }
+}
+
+/// Counts a pair of an opening match, which fills at the price or stops it;
+/// `filled` if the match had fills before.
+pub fn count_opening_pair(bounds: &Bounds, price: i64, filled: bool) {
+    if !counting() {
+        return;
+    }
+    let (buyer, seller) = (bounds.allow(BUY, price), bounds.allow(SELL, price));
+    reach_if(!buyer, "opening: a match stops above the buyer's bound");
+    reach_if(!seller, "opening: a match stops below the seller's bound");
+    reach_if(
+        filled && !(buyer && seller),
+        "opening: a match fills, then stops",
+    );
+    reach_if(
+        price == bounds.lowest || price == bounds.highest,
+        "opening: a match at a bound",
+    );
+}
+
+/// Whether the order rests in an open strategy without an auction, beside an
+/// opposite order that meets its limit.
+fn rests_crossed(book: &Book, number: u32) -> bool {
+    book.entry(number).is_some_and(|entry| {
+        book.all_open(entry.strategy)
+            && !book.auction_runs(entry.strategy)
+            && book.entries_of(entry.strategy).any(|other| {
+                other.side != entry.side
+                    && meets(entry.side, i64::from(entry.limit), i64::from(other.limit))
+            })
+    })
+}
+
+/// The strategies with orders that rest crossed.
+fn crossed_strategies(book: &Book) -> BTreeSet<i32> {
+    (book.entries.iter())
+        .filter(|entry| rests_crossed(book, entry.number))
+        .map(|entry| i32::from(entry.strategy))
+        .collect()
 }
 
 /// One fill as its records tell it.
@@ -246,6 +415,13 @@ pub fn observe(before: &Book, frame: &[u8], answer: &Answer, after: &Book) {
                         && meets(side, i64::from(limit), crate::nets::net(&prices))
                 });
                 reach_if(unready, "complex: the net meets and is not ready");
+                reach_if(rests_crossed(after, answer.value), "complex: rests crossed");
+                let others = fills(before, records);
+                let mut others = others.iter().filter_map(|fill| fill.other);
+                reach_if(
+                    others.any(|number| rests_crossed(before, number)),
+                    "complex: fills an order that rested crossed",
+                );
             }
         }
         Event::Sweep { units, .. } => {
@@ -270,12 +446,17 @@ pub fn observe(before: &Book, frame: &[u8], answer: &Answer, after: &Book) {
                 .map(|fill| fill.strategy)
                 .collect();
             reach_if(places.len() > 1, "leg order: fills in several strategies");
+            let mut active = fills(before, records).into_iter().map(|fill| fill.active);
+            reach_if(
+                active.any(|number| rests_crossed(before, number)),
+                "leg order: an order that rests crossed fills by legs",
+            );
         }
         Event::Cancel { .. } => {}
         Event::Series { .. } => {
             reach_if(ended > 0, "shut: an auction ends");
             reach_if(ended > 1, "shut: several auctions end");
-            count_opening(before, records);
+            count_opening(before, records, after);
         }
         Event::Clock { .. } => {
             reach_if(ended > 0, "clock: an auction ends");
@@ -291,12 +472,40 @@ pub fn observe(before: &Book, frame: &[u8], answer: &Answer, after: &Book) {
         Event::DayEnd { .. } => {
             reach_if(ended > 0, "day end: an auction ends");
             reach_if(ended > 1, "day end: several auctions end");
+            let national = &before.national;
+            reach_if(
+                national.known() != 0 && national.range != FRESH_RANGE,
+                "day end: national prices and a range are set",
+            );
+        }
+        Event::NationalPrices { series, bid, offer } => {
+            reach(match (bid, offer) {
+                (0, 0) => "national: both prices missing",
+                (0, _) | (_, 0) => "national: one price missing",
+                _ => "national: both prices known",
+            });
+            reach_if(bid != 0 && bid == offer, "national: equal prices");
+            let gone = |side, price| price == 0 && before.national.price(series, side).is_some();
+            reach_if(
+                gone(BUY, bid) || gone(SELL, offer),
+                "national: a price is taken away",
+            );
+        }
+        Event::ExecutionRange { cents } => {
+            let (old, new) = (before.national.range, u32::from(cents));
+            reach_if(new == 0, "range: 0");
+            reach_if(new < old, "range: narrowed");
+            reach_if(new > old, "range: widened");
+            reach_if(
+                new > old && !crossed_strategies(before).is_empty(),
+                "range: widened where orders rest crossed",
+            );
         }
     }
 }
 
 /// Counts what an opening did.
-fn count_opening(before: &Book, records: &[Record]) {
+fn count_opening(before: &Book, records: &[Record], after: &Book) {
     let fills = fills(before, records);
     let mut places = BTreeSet::new();
     for fill in &fills {
@@ -318,6 +527,19 @@ fn count_opening(before: &Book, records: &[Record]) {
         by_legs && !places.is_empty(),
         "opening: matches, then fills by legs",
     );
+    // Strategies that were shut before and stay crossed.
+    let mut crossed = crossed_strategies(after);
+    crossed.retain(|strategy| !before.all_open(*strategy as u8));
+    for strategy in &crossed {
+        reach_if(
+            places.iter().any(|place| place != strategy),
+            "opening: a strategy stays crossed, another matches",
+        );
+        reach_if(
+            by_legs,
+            "opening: a strategy stays crossed, orders fill by legs",
+        );
+    }
 }
 
 /// Counts what the end of one auction did; `ended` is its record 5.

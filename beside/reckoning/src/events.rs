@@ -1,11 +1,14 @@
-//! Document 01, "Refusals by cause" and "Events".
+//! Document 01, "Refusals by cause" and "Events"; kinds 9 and 10 and refusal 14
+//! of request 2026-01.
 
 use crate::book::{
     Auction, Book, Entry, LegOrder, BROKER_DEALER, BUY, COMPLEX_ORDERS, CUSTOMER, DAY,
     DO_NOT_AUCTION, IMMEDIATE, LAST_NUMBER, LEG_ORDERS, RECORDS, RESPONSE, SELL, SPACE, STRATEGIES,
     SWEEPS,
 };
+use crate::coverage::count_opening_pair;
 use crate::frames::{read, Event, Leg};
+use crate::national::crossed;
 use crate::nets::{normal, refused_5};
 use crate::passes::{meets, Holders};
 use crate::records::{Record, AUCTION_BEGUN, LEG_FILL};
@@ -18,21 +21,39 @@ pub struct Answer {
     pub records: Vec<Record>,
 }
 
-/// The causes of refusal that apply, as a set of their numbers.
+/// The refusals of events in the order in which they are checked: those of
+/// document 01 by number, as "The smallest number that applies is given"; 14 of
+/// request 2026-01 is "checked after 3". Later refusals join the table, "each
+/// checked at the place named".
+pub const ORDER: [u32; 14] = [1, 2, 3, 14, 4, 5, 6, 7, 8, 9, 10, 11, 12, 13];
+
+/// The place of each refusal in that order, by its number; there is no 0.
+const PLACES: [u32; ORDER.len() + 1] = {
+    let mut places = [u32::MAX; ORDER.len() + 1];
+    let mut place = 0;
+    while place < ORDER.len() {
+        places[ORDER[place] as usize] = place as u32;
+        place += 1;
+    }
+    places
+};
+
+/// The causes of refusal that apply, as a set of their places in the order.
 #[derive(Clone, Copy, Debug, Default, PartialEq, Eq)]
 pub struct Causes(u16);
 
 impl Causes {
-    fn add(&mut self, cause: u32) {
-        self.0 |= 1 << cause;
+    /// Adds a cause by its number.
+    pub fn add(&mut self, cause: u32) {
+        self.0 |= 1 << PLACES[cause as usize];
     }
 
-    /// "The smallest number that applies".
-    fn smallest(self) -> Option<u32> {
+    /// The number of the cause that is first in the order.
+    pub fn first(self) -> Option<u32> {
         if self.0 == 0 {
             None
         } else {
-            Some(self.0.trailing_zeros())
+            Some(ORDER[self.0.trailing_zeros() as usize])
         }
     }
 }
@@ -46,8 +67,8 @@ impl Book {
     }
 
     /// The same, the answer taking the place of an old one.
-    /// "The smallest number that applies is given […], and never otherwise.
-    /// Answer 0 is accepted." A refusal leaves the book as it was.
+    /// Of the refusals that apply the first in the order is given, "and never
+    /// otherwise. Answer 0 is accepted." A refusal leaves the book as it was.
     pub fn step_into(&mut self, frame: &[u8], space: usize, answer: &mut Answer) {
         let mut causes = Causes::default();
         // "record space under 15,360 numbers".
@@ -60,20 +81,20 @@ impl Book {
             Ok(event) => self.add_causes(event, &mut causes),
         }
         answer.records.clear();
-        match (causes.smallest(), event) {
+        match (causes.first(), event) {
             (None, Ok(event)) => {
                 answer.answer = 0;
                 answer.value = self.accept(&event, &mut answer.records);
                 assert!(answer.records.len() <= RECORDS, "none needs more");
             }
-            (smallest, _) => {
-                answer.answer = smallest.expect("a refused frame has a cause");
+            (first, _) => {
+                answer.answer = first.expect("a refused frame has a cause");
                 answer.value = 0;
             }
         }
     }
 
-    /// Adds every cause of refusal from 4 to 13 that applies to the event, one
+    /// Adds every cause of refusal from 4 to 14 that applies to the event, one
     /// condition per row of the table.
     fn add_causes(&self, event: &Event, causes: &mut Causes) {
         match *event {
@@ -143,6 +164,12 @@ impl Book {
                 }
             }
             Event::DayEnd { .. } => {}
+            Event::NationalPrices { bid, offer, .. } => {
+                if crossed(bid, offer) {
+                    causes.add(14);
+                }
+            }
+            Event::ExecutionRange { .. } => {}
         }
     }
 
@@ -280,6 +307,15 @@ impl Book {
             }
             Event::DayEnd { timer } => {
                 self.day_end(u32::from(timer), records);
+                0
+            }
+            // "Both kinds change nothing else."
+            Event::NationalPrices { series, bid, offer } => {
+                self.national.set(series, bid, offer);
+                0
+            }
+            Event::ExecutionRange { cents } => {
+                self.national.range = u32::from(cents);
                 0
             }
         }
@@ -420,8 +456,12 @@ impl Book {
     }
 
     /// "matches best buy with best sell (price, then number) while they meet,
-    /// at the lower number's limit, its order active".
+    /// at the lower number's limit, its order active". Request 2026-01: an
+    /// "opening match stops at the first fill that either complex party may not
+    /// take".
     fn opening_match(&mut self, strategy: u8, records: &mut Vec<Record>) {
+        let bounds = self.bounds(strategy);
+        let first = records.len();
         loop {
             let buy = self
                 .entries_of(strategy)
@@ -438,13 +478,13 @@ impl Book {
                     } else {
                         (sell, buy)
                     };
-                    self.whole_fill(
-                        &active,
-                        other.number,
-                        buy.units.min(sell.units),
-                        i64::from(active.limit),
-                        records,
-                    );
+                    let price = i64::from(active.limit);
+                    count_opening_pair(&bounds, price, records.len() > first);
+                    if !bounds.allow_both(price) {
+                        return;
+                    }
+                    let units = buy.units.min(sell.units);
+                    self.whole_fill(&active, other.number, units, price, records);
                 }
                 _ => return,
             }

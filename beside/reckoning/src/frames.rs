@@ -1,4 +1,5 @@
-//! Document 01, "Frames": reading, judging and writing of frames.
+//! Document 01, "Frames": reading, judging and writing of frames; kinds 9 and 10
+//! of request 2026-01.
 
 /// "per leg series (1) 0–31, side (1), ratio (1) 1–12".
 #[derive(Clone, Copy, Debug, Default, PartialEq, Eq)]
@@ -47,6 +48,11 @@ pub enum Event {
     Clock { milliseconds: u32 },
     /// Kind 8.
     DayEnd { timer: u16 },
+    /// Kind 9, of request 2026-01: "series, national bid (4) and offer (4), each
+    /// 0–99,999, 0 meaning missing".
+    NationalPrices { series: u8, bid: u32, offer: u32 },
+    /// Kind 10, of request 2026-01: "the range in cents (2), 0–9,999".
+    ExecutionRange { cents: u16 },
 }
 
 /// Refusal 1: the space is too short.
@@ -86,6 +92,8 @@ fn length_of_kind(frame: &[u8], kind: u16) -> Result<usize, u32> {
         6 => Ok(6),
         7 => Ok(8),
         8 => Ok(6),
+        9 => Ok(13),
+        10 => Ok(6),
         _ => Err(BAD_FRAME),
     }
 }
@@ -143,6 +151,14 @@ fn decode(frame: &[u8], kind: u16) -> Result<Event, u32> {
         },
         8 => Event::DayEnd {
             timer: two(frame, 4),
+        },
+        9 => Event::NationalPrices {
+            series: frame[4],
+            bid: four(frame, 5),
+            offer: four(frame, 9),
+        },
+        10 => Event::ExecutionRange {
+            cents: two(frame, 4),
         },
         _ => return Err(BAD_FRAME),
     })
@@ -208,6 +224,10 @@ fn fields_in_range(event: &Event) -> bool {
         Event::Series { series, state } => series <= 31 && state <= 1,
         Event::Clock { milliseconds } => milliseconds <= 86_400_000,
         Event::DayEnd { timer } => (1..=5_000).contains(&timer),
+        Event::NationalPrices { series, bid, offer } => {
+            series <= 31 && bid <= 99_999 && offer <= 99_999
+        }
+        Event::ExecutionRange { cents } => cents <= 9_999,
     }
 }
 
@@ -316,11 +336,21 @@ pub fn values(event: &Event) -> (u32, [i64; 19]) {
             list[0] = i64::from(timer);
             8
         }
+        Event::NationalPrices { series, bid, offer } => {
+            list[0] = i64::from(series);
+            list[1] = i64::from(bid);
+            list[2] = i64::from(offer);
+            9
+        }
+        Event::ExecutionRange { cents } => {
+            list[0] = i64::from(cents);
+            10
+        }
     };
     (kind, list)
 }
 
-/// The widths in bytes of the fields of kinds 2 to 8, in frame order.
+/// The widths in bytes of the fields of kinds 2 to 10, in frame order.
 fn widths(kind: u32) -> &'static [usize] {
     match kind {
         2 => &[2, 1, 1, 1, 1, 2, 4],
@@ -330,6 +360,8 @@ fn widths(kind: u32) -> &'static [usize] {
         6 => &[1, 1],
         7 => &[4],
         8 => &[2],
+        9 => &[1, 4, 4],
+        10 => &[2],
         _ => &[],
     }
 }

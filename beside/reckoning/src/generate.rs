@@ -1,7 +1,7 @@
 //! Inputs for comparison: frames and lists of events, each made from a seed.
 
 use crate::frames::{bytes, Event, Leg};
-pub use crate::lists::{list, long_list, stream, tail, Input, Options};
+pub use crate::lists::{list, long_list, national_list, stream, tail, Input, Options};
 
 /// A small deterministic source of numbers (splitmix64).
 #[derive(Clone, Debug)]
@@ -46,7 +46,10 @@ impl Random {
     }
 }
 
-/// The lowest and highest value of each field of kinds 2 to 8, in frame order.
+/// The highest kind there is.
+pub const LAST_KIND: u32 = 10;
+
+/// The lowest and highest value of each field of kinds 2 to 10, in frame order.
 fn field_ranges(kind: u32) -> &'static [(i64, i64)] {
     const LIMIT: (i64, i64) = (-9_999_999, 9_999_999);
     match kind {
@@ -65,11 +68,13 @@ fn field_ranges(kind: u32) -> &'static [(i64, i64)] {
         6 => &[(0, 31), (0, 1)],
         7 => &[(0, 86_400_000)],
         8 => &[(1, 5_000)],
+        9 => &[(0, 31), (0, 99_999), (0, 99_999)],
+        10 => &[(0, 9_999)],
         _ => &[],
     }
 }
 
-/// The event of a kind from 2 to 8 with these values in frame order. A value
+/// The event of a kind from 2 to 10 with these values in frame order. A value
 /// past its field's width keeps its low bytes.
 fn event_of(kind: u32, list: &[i64]) -> Event {
     match kind {
@@ -107,8 +112,16 @@ fn event_of(kind: u32, list: &[i64]) -> Event {
         7 => Event::Clock {
             milliseconds: list[0] as u32,
         },
-        _ => Event::DayEnd {
+        8 => Event::DayEnd {
             timer: list[0] as u16,
+        },
+        9 => Event::NationalPrices {
+            series: list[0] as u8,
+            bid: list[1] as u32,
+            offer: list[2] as u32,
+        },
+        _ => Event::ExecutionRange {
+            cents: list[0] as u16,
         },
     }
 }
@@ -136,7 +149,7 @@ pub fn valid_event(random: &mut Random, kind: u32) -> Event {
 /// valid, and strategies with values in legs past their count.
 pub fn edge_events(random: &mut Random) -> Vec<Event> {
     let mut events = Vec::new();
-    for kind in 2..=8 {
+    for kind in 2..=LAST_KIND {
         let ranges = field_ranges(kind);
         for (field, (low, high)) in ranges.iter().enumerate() {
             for value in [low - 1, *low, low + 1, high - 1, *high, high + 1] {
@@ -179,10 +192,10 @@ pub fn edge_events(random: &mut Random) -> Vec<Event> {
     events
 }
 
-/// An event of a kind from 1 to 7 with one field at an end of its range or one
-/// past it, the others valid.
-pub fn edge_event(random: &mut Random) -> Event {
-    let kind = random.range(1, 7) as u32;
+/// An event of one of the kinds with one field at an end of its range or one past
+/// it, the others valid.
+pub fn edge_event(random: &mut Random, kinds: &[u32]) -> Event {
+    let kind = random.pick(kinds);
     if kind == 1 {
         let mut event = valid_event(random, 1);
         if let Event::Strategy { count, legs } = &mut event {
@@ -217,7 +230,12 @@ fn frame_of(kind: u16, body: &[u8]) -> Vec<u8> {
 /// A valid frame with one thing wrong: bytes flipped, cut off or added, a
 /// wrong length field, another kind.
 pub fn damaged_frame(random: &mut Random) -> Vec<u8> {
-    let kind = random.range(1, 8) as u32;
+    damaged_frame_up_to(random, LAST_KIND)
+}
+
+/// The same of a frame of kind 1 up to this one.
+pub fn damaged_frame_up_to(random: &mut Random, last: u32) -> Vec<u8> {
+    let kind = random.range(1, i64::from(last)) as u32;
     let mut frame = bytes(&valid_event(random, kind));
     match random.below(8) {
         0 => {
@@ -280,7 +298,7 @@ fn two_near(random: &mut Random, number: i64) -> u16 {
 pub fn frames(seed: u64, amount: usize) -> Vec<Vec<u8>> {
     let mut random = Random::new(seed);
     let mut list = Vec::new();
-    for kind in 1..=8 {
+    for kind in 1..=LAST_KIND {
         for _ in 0..amount {
             list.push(bytes(&valid_event(&mut random, kind)));
         }
@@ -303,10 +321,10 @@ pub fn frames(seed: u64, amount: usize) -> Vec<Vec<u8>> {
             list.push(frame_of(1, &body));
         }
     }
-    // Every length from 0 to 64 for every kind from 0 to 9, fields zero, one
+    // Every length from 0 to 64 for every kind from 0 to 11, fields zero, one
     // or random; the first bytes alone where the length is under 4.
     for length in 0..=64usize {
-        for kind in 0..=9u16 {
+        for kind in 0..=LAST_KIND as u16 + 1 {
             for fill in 0..4 {
                 let body: Vec<u8> = (4..length.max(4))
                     .map(|_| match fill {
@@ -334,13 +352,14 @@ pub fn frames(seed: u64, amount: usize) -> Vec<Vec<u8>> {
         let length = random.below(80);
         list.push((0..length).map(|_| random.bits() as u8).collect());
         // Any bytes under a right head.
-        let kind = random.range(1, 8) as u16;
+        let kind = random.range(1, i64::from(LAST_KIND)) as u16;
         let length = match kind {
             1 => 1 + 3 * random.range(2, 6) as usize,
             2 => 12,
             3 | 4 => 10,
             5 => 6,
             7 => 4,
+            9 => 9,
             _ => 2,
         };
         let mut body: Vec<u8> = (0..length)

@@ -1,5 +1,6 @@
-//! A second implementation of the complex book of document 01, written for
-//! comparison with the engine: plain structures, one function per sentence.
+//! A second implementation of the complex book of document 01 with request
+//! 2026-01 of document 02, written for comparison with the engine: plain
+//! structures, one function per sentence.
 
 #![forbid(unsafe_code)]
 #![deny(warnings)]
@@ -12,6 +13,7 @@ pub mod events;
 pub mod frames;
 pub mod generate;
 pub mod lists;
+pub mod national;
 pub mod nets;
 pub mod passes;
 pub mod records;

@@ -1,13 +1,15 @@
 //! Lists of events made from a seed. The maker keeps a book of its own, so that
-//! it can choose limits near the nets, members and numbers that exist, and so
-//! reach auctions, sharing, halts, openings and full tables.
+//! it can choose limits near the nets, members and numbers that exist, national
+//! prices near the own ones, and so reach auctions, sharing, halts, openings, full
+//! tables, and passes that stop at the range.
 
 use crate::book::{
     Book, Entry, BUY, COMPLEX_ORDERS, CUSTOMER, DAY, DO_NOT_AUCTION, IMMEDIATE, LAST_NUMBER,
-    LEG_ORDERS, MARKET_MAKER, RESPONSE, SPACE, STRATEGIES, SWEEPS,
+    LEG_ORDERS, MARKET_MAKER, RESPONSE, SELL, SPACE, STRATEGIES, SWEEPS,
 };
-use crate::frames::{bytes, Event, Leg};
-use crate::generate::{damaged_frame, edge_event, valid_event, Random};
+use crate::frames::{bytes, judge, Event, Leg};
+use crate::generate::{damaged_frame_up_to, edge_event, valid_event, Random, LAST_KIND};
+use crate::national::{Bounds, FRESH_RANGE};
 
 /// One event of a list: "a frame of any bytes, with a record space of any
 /// length", the length in numbers.
@@ -26,9 +28,19 @@ pub struct Options {
     pub day_ends: bool,
 }
 
-/// A list of about `events` events, ended by a day end in a third of the lists.
+/// A list of about `events` events of kinds 1 to 8, ended by a day end in a third
+/// of the lists. It stays as it is from request to request: the benchmark times
+/// it.
 pub fn list(seed: u64, events: usize, options: Options) -> Vec<Input> {
-    let mut maker = Maker::new(seed, options);
+    made(Maker::new(seed, options), events)
+}
+
+/// The same with kinds 9 and 10 of request 2026-01.
+pub fn national_list(seed: u64, events: usize, options: Options) -> Vec<Input> {
+    made(Maker::new(seed, options).with_national(seed), events)
+}
+
+fn made(mut maker: Maker, events: usize) -> Vec<Input> {
     if maker.random.chance(1, 3) {
         // A day end first, for another timer.
         let timer = maker.random.pick(&[1, 2, 100, 1_000, 4_999, 5_000]);
@@ -36,6 +48,11 @@ pub fn list(seed: u64, events: usize, options: Options) -> Vec<Input> {
     }
     maker.run(events);
     maker.finish()
+}
+
+/// Whether the streams and long lists of the seed have kinds 9 and 10.
+fn has_national(seed: u64) -> bool {
+    !seed.is_multiple_of(4)
 }
 
 /// The bytes after a stream's last frame: in one stream of four something that
@@ -56,7 +73,10 @@ pub fn stream(seed: u64, events: usize) -> Vec<u8> {
         loose: false,
         day_ends: true,
     };
-    let inputs = list(seed, events, options);
+    let inputs = match has_national(seed) {
+        true => national_list(seed, events, options),
+        false => list(seed, events, options),
+    };
     let frames = inputs.into_iter().flat_map(|input| input.frame);
     frames.chain(tail(seed).iter().copied()).collect()
 }
@@ -68,6 +88,9 @@ pub fn long_list(seed: u64, events: usize, loose: bool) -> Vec<Input> {
         day_ends: false,
     };
     let mut maker = Maker::new(seed, options);
+    if has_national(seed) {
+        maker = maker.with_national(seed);
+    }
     maker.run(500);
     maker.give_numbers(LAST_NUMBER - 100);
     maker.last_auction();
@@ -95,6 +118,10 @@ struct Maker {
     members: i64,
     /// How often series shut, in parts of 1,000 random events.
     halts: usize,
+    /// Where kinds 9 and 10 come: what chooses when, and how often of 8 times
+    /// national prices stay when their phase is over.
+    national: Option<Random>,
+    stays: usize,
 }
 
 impl Maker {
@@ -145,7 +172,31 @@ impl Maker {
             contracts: contracts.clamp(2, 9_999),
             members: random.pick(&[2, 4, 9, 65_535]),
             halts: random.pick(&[0, 5, 20]),
+            national: None,
+            stays: 0,
             random,
+        }
+    }
+
+    /// The same maker, for a list with kinds 9 and 10.
+    fn with_national(mut self, seed: u64) -> Maker {
+        let mut random = Random::new(seed ^ 0x2026_0001_9E15_0A17);
+        self.stays = random.pick(&[0, 0, 1, 4]);
+        self.national = Some(random);
+        self
+    }
+
+    /// Whether national prices come now: `part` times in `whole` where they come
+    /// at all.
+    fn national_now(&mut self, part: usize, whole: usize) -> bool {
+        (self.national.as_mut()).is_some_and(|random| random.chance(part, whole))
+    }
+
+    /// The kinds of single events, without a day end.
+    fn kinds(&self) -> &'static [u32] {
+        match self.national {
+            Some(_) => &[1, 2, 3, 4, 5, 6, 7, 9, 10],
+            None => &[1, 2, 3, 4, 5, 6, 7],
         }
     }
 
@@ -154,6 +205,11 @@ impl Maker {
         while self.list.len() < events {
             if self.random.chance(1, 60) {
                 self.heavy_phase();
+            }
+            if self.national_now(1, 5) {
+                self.national_phase();
+                self.refused_event();
+                self.refused_event();
             }
             match self.random.below(20) {
                 0..=7 => {
@@ -182,7 +238,8 @@ impl Maker {
         self.list
     }
 
-    /// A day end, half of the time while auctions run.
+    /// A day end, half of the time while auctions run and while national prices
+    /// are known.
     fn day_end_event(&mut self) {
         if !self.book.strategies.is_empty() && self.random.chance(1, 2) {
             for _ in 0..3 {
@@ -192,6 +249,9 @@ impl Maker {
                     self.start_auction(strategy);
                 }
             }
+        }
+        if self.national_now(1, 2) {
+            self.national_market();
         }
         let timer = self.random.range(1, 5_000) as u16;
         self.push(Event::DayEnd { timer });
@@ -273,6 +333,7 @@ impl Maker {
                 });
                 choices.push(middle.sum());
             }
+            choices.extend(self.near_bounds(strategy));
         } else {
             choices.push(0);
         }
@@ -524,6 +585,12 @@ impl Maker {
             let series = self.some_series();
             return self.series_event(series, 0);
         }
+        if self.national_now(self.stays, 100) {
+            return match self.random.below(3) {
+                0 => self.range_event(),
+                _ => self.national_event(),
+            };
+        }
         let full = self.book.complex_orders().count() >= COMPLEX_ORDERS - 1
             || self.book.leg_orders.len() >= LEG_ORDERS - 1;
         if full && self.random.chance(1, 2) {
@@ -554,7 +621,12 @@ impl Maker {
 
     /// A frame with damage.
     fn damage(&mut self) {
-        let mut frame = damaged_frame(&mut self.random);
+        let last = if self.national.is_some() {
+            LAST_KIND
+        } else {
+            8
+        };
+        let mut frame = damaged_frame_up_to(&mut self.random, last);
         if !self.options.loose {
             frame.resize(frame.len().max(4), 0);
             let length = frame.len() as u16;
@@ -567,15 +639,16 @@ impl Maker {
         self.push_frame(frame, SPACE);
     }
 
-    /// An event made for one of the refusals 1 to 11.
+    /// An event made for one of the refusals 1 to 11, or 14.
     fn refused_event(&mut self) {
         let strategy = self.some_strategy();
         let side = self.random.range(0, 1) as u8;
         let member = self.member();
-        match self.random.below(11) {
+        let cases = if self.national.is_some() { 13 } else { 11 };
+        match self.random.below(cases) {
             0 => {
                 if self.options.loose {
-                    let kind = self.random.range(1, 7) as u32;
+                    let kind = self.random.pick(self.kinds());
                     let event = valid_event(&mut self.random, kind);
                     let space = self.random.pick(&[0, 1, SPACE - 1]);
                     self.push_frame(bytes(&event), space);
@@ -583,9 +656,12 @@ impl Maker {
             }
             1 => self.damage(),
             2 => {
-                let event = edge_event(&mut self.random);
-                // A clock at its end would leave no time for auctions.
-                if !matches!(event, Event::Clock { .. }) {
+                let kinds = self.kinds();
+                let event = edge_event(&mut self.random, kinds);
+                // A clock at its end would leave no time for auctions; one past it
+                // is refused.
+                let clock = matches!(event, Event::Clock { .. });
+                if !clock || self.national.is_some() && judge(&bytes(&event)) != 0 {
                     self.push(event);
                 }
             }
@@ -643,11 +719,225 @@ impl Maker {
                     limit,
                 });
             }
+            11..=12 => self.crossed_event(),
             _ => {
                 let milliseconds = self.book.clock.saturating_sub(1);
                 self.push(Event::Clock { milliseconds });
             }
         }
+    }
+
+    /// The bounds of the strategy's fills, where the range is not a wide one.
+    fn near_bounds(&self, strategy: u8) -> Vec<i64> {
+        if self.book.national.range > 100 {
+            return Vec::new();
+        }
+        let Bounds { lowest, highest } = self.book.bounds(strategy);
+        let mut list = vec![lowest, highest];
+        list.retain(|bound| (i64::MIN + 1..i64::MAX).contains(bound));
+        list
+    }
+
+    /// National prices of a series near its own market: often so far from it that
+    /// fills there are out of range, sometimes equal, one or both missing.
+    fn national_prices(&mut self, series: u8) -> (u32, u32) {
+        let centre = self.centres[usize::from(series)];
+        let own = |side: u8, usual: i64| {
+            let best = self.book.depth(series, side);
+            best.map_or(usual, |best| i64::from(best.price))
+        };
+        let (bid, offer) = (own(BUY, centre - 2), own(SELL, centre + 2));
+        let shift = self.random.pick(&[-5, -3, -2, -1, 0, 0, 0, 1, 2, 3, 5]);
+        let bid = bid + shift + self.random.range(-1, 1);
+        let offer = offer + shift + self.random.range(-1, 1);
+        let price = |price: i64| price.clamp(1, 99_999) as u32;
+        let (bid, offer) = (price(bid.min(offer)), price(offer.max(bid)));
+        match self.random.below(40) {
+            0 => (0, 0),
+            1..=2 => (bid, 0),
+            3..=4 => (0, offer),
+            5..=7 => (bid, bid),
+            _ => (bid, offer),
+        }
+    }
+
+    fn national_prices_event(&mut self, series: u8) {
+        let (bid, offer) = self.national_prices(series);
+        self.push(Event::NationalPrices { series, bid, offer });
+    }
+
+    /// National prices of a series in use, seldom of any series.
+    fn national_event(&mut self) {
+        let series = match self.random.chance(1, 20) {
+            true => self.random.range(0, 31) as u8,
+            false => self.some_series(),
+        };
+        self.national_prices_event(series);
+    }
+
+    /// National prices that are crossed, or nearly so.
+    fn crossed_event(&mut self) {
+        let series = self.some_series();
+        let (bid, offer) = self.national_prices(series);
+        let (bid, offer) = match self.random.below(8) {
+            0 => (bid.max(1), 0),
+            1 => (offer, offer),
+            2 => (99_999, 1),
+            _ => (offer.max(bid).max(1) + 1, offer.max(1)),
+        };
+        self.push(Event::NationalPrices { series, bid, offer });
+    }
+
+    fn range_event(&mut self) {
+        let cents = match self.random.below(12) {
+            0..=3 => 0,
+            4..=5 => 1,
+            6..=8 => self.random.range(2, 8) as u16,
+            9 => self.random.range(9, 9_999) as u16,
+            10 => 10_000 - self.random.range(1, 2) as u16,
+            _ => (self.book.national.range + 1).min(9_999) as u16,
+        };
+        self.push(Event::ExecutionRange { cents });
+    }
+
+    /// National prices of all series in use, and a range.
+    fn national_market(&mut self) {
+        for series in self.series.clone() {
+            self.national_prices_event(series);
+        }
+        self.range_event();
+    }
+
+    /// The range is wide again, or all national prices are taken away.
+    fn end_national(&mut self) {
+        if self.random.chance(1, 3) {
+            let cents = FRESH_RANGE as u16;
+            self.push(Event::ExecutionRange { cents });
+            return;
+        }
+        let known = self.book.national.known();
+        for series in (0..32).filter(|series| known >> series & 1 == 1) {
+            self.push(Event::NationalPrices {
+                series,
+                bid: 0,
+                offer: 0,
+            });
+        }
+    }
+
+    /// National prices, then what they bear upon: passes, auctions, openings.
+    fn national_phase(&mut self) {
+        if self.book.strategies.is_empty() {
+            return self.strategy_event();
+        }
+        let strategy = self.some_strategy();
+        self.make_ready(strategy);
+        self.national_market();
+        for _ in 0..self.random.range(1, 3) {
+            match self.random.below(8) {
+                0..=2 => self.crossing_phase(),
+                3 => self.stopped_auction(),
+                4 => self.auction_phase(),
+                5..=6 => self.halt_phase(),
+                _ => self.leg_phase(),
+            }
+            match self.random.below(4) {
+                0 => self.range_event(),
+                1 => self.national_event(),
+                _ => {}
+            }
+        }
+        if !self.random.chance(self.stays, 8) {
+            self.end_national();
+        }
+    }
+
+    /// A limit at which an order of this side may not fill: a buy's above its
+    /// bound, a sell's below; none where its net is missing.
+    fn forbidden_limit(&mut self, strategy: u8, side: u8) -> Option<i32> {
+        let Bounds { lowest, highest } = self.book.bounds(strategy);
+        let beyond = self.random.range(1, 3);
+        let limit = match side {
+            BUY if highest < i64::MAX => highest + beyond,
+            SELL if lowest > i64::MIN => lowest - beyond,
+            _ => return None,
+        };
+        Some(limit.clamp(-9_999_999, 9_999_999) as i32)
+    }
+
+    /// Day orders of market makers on both sides around the bounds, so that some
+    /// rest crossed; then leg orders, a wider range, and orders that meet them.
+    fn crossing_phase(&mut self) {
+        let strategy = self.some_strategy();
+        self.make_ready(strategy);
+        let side = self.random.range(0, 1) as u8;
+        let entries = self.random.range(2, 6) as usize;
+        self.make_complex_room(entries + 2);
+        for _ in 0..entries {
+            let own = match self.random.chance(3, 4) {
+                true => side,
+                false => 1 - side,
+            };
+            let forbidden = self.forbidden_limit(strategy, own);
+            let limit = match forbidden {
+                Some(limit) if self.random.chance(1, 2) => limit,
+                _ => self.some_limit(strategy),
+            };
+            self.complex_event(strategy, own, MARKET_MAKER, DAY, limit);
+        }
+        for _ in 0..self.random.below(3) {
+            let legs = self.book.legs(strategy);
+            let leg = self.random.pick(legs);
+            let leg_side = self.random.range(0, 1) as u8;
+            self.make_leg_room(1);
+            self.leg_order_event(leg.series, leg_side);
+        }
+        if self.random.chance(1, 2) {
+            let wider = self.book.national.range + self.random.range(1, 9) as u32;
+            let cents = wider.min(9_999) as u16;
+            self.push(Event::ExecutionRange { cents });
+        }
+        for _ in 0..self.random.range(1, 2) {
+            let limit = self.some_limit(strategy);
+            let life = self.random.pick(&[DAY, IMMEDIATE]);
+            self.complex_event(strategy, 1 - side, MARKET_MAKER, life, limit);
+        }
+    }
+
+    /// An auction with answers that may not fill at their own limits, so that the
+    /// starter's pass stops there and its rest is met in theirs.
+    fn stopped_auction(&mut self) {
+        let strategy = self.some_strategy();
+        self.make_ready(strategy);
+        if !self.book.auction_runs(strategy) {
+            self.start_auction(strategy);
+        }
+        let Some(auction) = self.book.auctions[usize::from(strategy)] else {
+            return;
+        };
+        let side = 1 - auction.side;
+        for _ in 0..self.random.range(1, 4) {
+            let forbidden = self.forbidden_limit(strategy, side);
+            let limit = match forbidden {
+                Some(limit) if self.random.chance(3, 4) => limit,
+                _ => self.some_limit(strategy),
+            };
+            if self.random.chance(1, 2) {
+                let (member, units) = (self.member(), self.some_units());
+                self.push(Event::Sweep {
+                    member,
+                    strategy,
+                    side,
+                    units,
+                    limit,
+                });
+            } else {
+                let life = self.random.pick(&[DAY, IMMEDIATE, RESPONSE]);
+                self.complex_event(strategy, side, MARKET_MAKER, life, limit);
+            }
+        }
+        let milliseconds = (self.book.clock + self.book.timer).min(86_400_000);
+        self.push(Event::Clock { milliseconds });
     }
 
     /// Opens every series of the strategy and gives it leg orders on both

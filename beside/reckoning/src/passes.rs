@@ -1,7 +1,7 @@
-//! Document 01, "Passes".
+//! Document 01, "Passes", within the bounds of request 2026-01.
 
 use crate::book::{Book, Entry, BUY, COMPLEX_ORDERS, DAY, ENTRIES};
-use crate::coverage::{count_allotment, count_leftover, count_turn};
+use crate::coverage::{count_allotment, count_leftover, count_stop, count_turn, Turn};
 use crate::nets::{net, ready, side_taken, LegPrice};
 use crate::records::{Record, LEG_FILL, WHOLE_FILL};
 use crate::table::Table;
@@ -133,8 +133,14 @@ impl Book {
     /// "A pass fills one active order. Repeat while units of it remain: take
     /// the best opposite limit in the strategy, or the leg net […] if the legs
     /// are ready and it is strictly better for the active order or no opposite
-    /// limit stands. Stop when neither meets its limit."
+    /// limit stands. Stop when neither meets its limit." Request 2026-01: "A
+    /// pass […] stops at the first fill that either complex party may not take".
+    /// All fills at one limit have one price, so a turn is made whole or not at
+    /// all.
     pub fn pass(&mut self, number: u32, holders: Holders, legs: bool, records: &mut Vec<Record>) {
+        // Reckoned at the first turn, and the same in all.
+        let mut bounds = None;
+        let first = records.len();
         while let Some(active) = self.entry(number) {
             let limit = i64::from(active.limit);
             let whole = if holders == Holders::Nobody {
@@ -153,16 +159,36 @@ impl Book {
                 None => true,
                 Some(price) => strictly_better(active.side, *net, price),
             });
-            match (prices, leg_turn, whole) {
-                (Some(prices), Some(net), _) if meets(active.side, limit, net) => {
-                    count_turn(holders, true, leg_net, whole);
-                    self.leg_fill(&active, prices, records);
-                }
-                (_, None, Some(price)) if meets(active.side, limit, price) => {
-                    count_turn(holders, false, leg_net, whole);
-                    self.whole_turn(&active, price, holders, records);
-                }
-                _ => return,
+            let by_legs = leg_turn.is_some();
+            let Some(price) = leg_turn.or(whole) else {
+                return;
+            };
+            if !meets(active.side, limit, price) {
+                return;
+            }
+            let bounds = *bounds.get_or_insert_with(|| self.bounds(active.strategy));
+            // Of the legs' fill the active order is the one complex party.
+            let allowed = if by_legs {
+                bounds.allow(active.side, price)
+            } else {
+                bounds.allow_both(price)
+            };
+            let turn = Turn {
+                holders,
+                by_legs,
+                price,
+                leg_net,
+                whole,
+                bounds,
+            };
+            if !allowed {
+                count_stop(self, &active, &turn, records.len() > first);
+                return;
+            }
+            count_turn(&turn);
+            match prices {
+                Some(prices) if by_legs => self.leg_fill(&active, prices, records),
+                _ => self.whole_turn(&active, price, holders, records),
             }
         }
     }

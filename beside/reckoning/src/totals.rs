@@ -1,7 +1,8 @@
-//! Document 01, "The totals after a list", reckoned from the events, the
-//! answers and the records alone; of the last book only the live quantities.
+//! Document 01, "The totals after a list", and what request 2026-01 claims of each
+//! fill, reckoned from the events, the answers and the records alone; of the last
+//! book only the live quantities.
 
-use crate::book::LAST_NUMBER;
+use crate::book::{BUY, LAST_NUMBER};
 use crate::events::Answer;
 use crate::frames::{read, Event, Leg};
 use crate::lists::Input;
@@ -111,6 +112,91 @@ fn strategies(inputs: &[Input], answers: &[Answer]) -> Result<BTreeMap<u32, Vec<
     Ok(held)
 }
 
+/// What the accepted kinds 9 and 10 before an event say.
+struct National {
+    /// The bid and offer of each series; 0 is missing.
+    prices: [[i128; 2]; 32],
+    range: i128,
+}
+
+impl National {
+    /// "a fresh book has 9,999"; "a fresh book misses all".
+    fn fresh() -> National {
+        National {
+            prices: [[0; 2]; 32],
+            range: 9_999,
+        }
+    }
+
+    /// Takes in an accepted event.
+    fn learn(&mut self, event: Result<Event, u32>) {
+        match event {
+            Ok(Event::NationalPrices { series, bid, offer }) => {
+                self.prices[usize::from(series)] = [i128::from(bid), i128::from(offer)];
+            }
+            Ok(Event::ExecutionRange { cents }) => self.range = i128::from(cents),
+            _ => {}
+        }
+    }
+
+    /// The national offer net for a buy, the bid net for a sell; none if it is
+    /// missing.
+    fn net(&self, legs: &[Leg], side: u8) -> Option<i128> {
+        let values = legs.iter().map(|leg| {
+            let [bid, offer] = self.prices[usize::from(leg.series)];
+            let price = if leg.side == side { offer } else { bid };
+            let value = i128::from(leg.ratio) * price;
+            match price {
+                0 => None,
+                _ if leg.side == BUY => Some(value),
+                _ => Some(-value),
+            }
+        });
+        values.sum()
+    }
+
+    /// Whether a fill of this side keeps to the range; a missing net bounds
+    /// nothing.
+    fn allows(&self, legs: &[Leg], side: u8, price: i128) -> bool {
+        match self.net(legs, side) {
+            None => true,
+            Some(net) if side == BUY => price <= net + self.range,
+            Some(net) => price >= net - self.range,
+        }
+    }
+}
+
+/// "each fill of a complex order or sweep keeps to the range and prices known when
+/// it was made": those of the accepted kinds 9 and 10 before the event. The nets
+/// take the legs of the accepted kind 1 event that answered the strategy.
+fn within_the_range(
+    inputs: &[Input],
+    answers: &[Answer],
+    orders: &BTreeMap<i64, Entered>,
+    strategies: &BTreeMap<u32, Vec<Leg>>,
+) -> Result<(), String> {
+    let mut national = National::fresh();
+    for (input, answer) in inputs.iter().zip(answers) {
+        if answer.answer != 0 {
+            continue;
+        }
+        let fills = (answer.records.iter()).filter(|record| record.kind == WHOLE_FILL);
+        for fill in fills {
+            let order = orders.get(&i64::from(fill.number));
+            let strategy = order.and_then(|order| order.strategy);
+            let legs = strategy.and_then(|strategy| strategies.get(&u32::from(strategy)));
+            let (Some(order), Some(legs)) = (order, legs) else {
+                return Err(format!("number {} fills in no strategy", fill.number));
+            };
+            if !national.allows(legs, order.side, i128::from(fill.price)) {
+                return Err(format!("number {} filled outside the range", fill.number));
+            }
+        }
+        national.learn(read(&input.frame));
+    }
+    Ok(())
+}
+
 /// The claims of "The totals after a list"; a description of the first one that
 /// fails. `live` is the lookup of the book after the list.
 pub fn check(
@@ -184,6 +270,8 @@ pub fn check(
             }
         }
     }
+
+    within_the_range(inputs, answers, &orders, &strategies)?;
 
     for (number, order) in &orders {
         let empty = Sums::default();

@@ -1,10 +1,10 @@
-//! Tests of document 01, "Frames".
+//! Tests of document 01, "Frames", and of kinds 9 and 10 of request 2026-01.
 
 #![forbid(unsafe_code)]
 #![deny(warnings)]
 
 use reckoning::frames::{bytes, judge, read, values, write, Event, Leg};
-use reckoning::generate::{edge_events, frames, valid_event, Random};
+use reckoning::generate::{edge_events, frames, valid_event, Random, LAST_KIND};
 
 #[test]
 fn open_series_0_is_the_bytes_of_the_paper() {
@@ -21,7 +21,7 @@ fn open_series_0_is_the_bytes_of_the_paper() {
 #[test]
 fn a_valid_event_is_read_as_written() {
     let mut random = Random::new(1);
-    for kind in 1..=8 {
+    for kind in 1..=LAST_KIND {
         for _ in 0..2_000 {
             let event = valid_event(&mut random, kind);
             let frame = bytes(&event);
@@ -87,6 +87,48 @@ fn a_leg_past_the_count_is_refused_by_the_writer() {
         write(&Event::Strategy { count: 2, legs }, &mut [0; 64]),
         Err(3)
     );
+}
+
+#[test]
+fn national_prices_and_a_range_as_bytes() {
+    let national = |series, bid, offer| Event::NationalPrices { series, bid, offer };
+    let range = |cents| Event::ExecutionRange { cents };
+    assert_eq!(
+        bytes(&national(2, 300, 99_999)),
+        [13, 0, 9, 0, 2, 44, 1, 0, 0, 159, 134, 1, 0]
+    );
+    assert_eq!(bytes(&range(9_999)), [6, 0, 10, 0, 15, 39]);
+    for (event, answer) in [
+        (national(31, 0, 0), 0),
+        (national(0, 99_999, 99_999), 0),
+        // A bid above the offer is for the book to refuse.
+        (national(0, 6, 5), 0),
+        (national(32, 5, 6), 3),
+        (national(0, 100_000, 0), 3),
+        (national(0, 0, 100_000), 3),
+        (range(0), 0),
+        (range(10_000), 3),
+        (range(65_535), 3),
+    ] {
+        let frame = bytes(&event);
+        assert_eq!(judge(&frame), answer, "{event:?}");
+        let mut space = [7; 16];
+        match answer {
+            0 => assert_eq!(write(&event, &mut space), Ok(frame.len())),
+            _ => assert_eq!(write(&event, &mut space), Err(3)),
+        }
+    }
+    // Kind 11 and a frame that is too short or too long.
+    for frame in [
+        &[6, 0, 11, 0, 0, 0][..],
+        &[8, 0, 11, 0, 0, 0, 0, 0],
+        &[5, 0, 10, 0, 0],
+        &[7, 0, 10, 0, 0, 0, 0],
+        &[12, 0, 9, 0, 0, 0, 0, 0, 0, 0, 0, 0],
+        &[14, 0, 9, 0, 0, 0, 0, 0, 0, 0, 0, 0, 0, 0],
+    ] {
+        assert_eq!(judge(frame), 2);
+    }
 }
 
 #[test]

@@ -3,11 +3,11 @@
 #![forbid(unsafe_code)]
 #![deny(warnings)]
 
-use reckoning::book::{depth, Book, Entry, BUY, RECORDS, SELL};
+use reckoning::book::{depth, Book, Entry, BUY, RECORDS, SELL, SPACE};
 use reckoning::coverage::{self, SITUATIONS};
 use reckoning::events::Answer;
-use reckoning::frames::{read, Event};
-use reckoning::generate::{list, long_list, stream, tail, Input, Options};
+use reckoning::frames::{bytes, read, Event, Leg};
+use reckoning::generate::{list, long_list, national_list, stream, tail, Input, Options};
 use reckoning::records::{Record, CANCELLED, LEG_FILL, WHOLE_FILL};
 use reckoning::tape::tape;
 use reckoning::totals::check;
@@ -61,10 +61,11 @@ fn holds(day: &Day) -> Result<(), String> {
 
 /// Facts that hold between events: no auction beside a shut series; sweeps,
 /// responses and immediates live only while their strategy's auction runs; a
-/// starter is live; no buy meets a sell where the strategy is all open and no
-/// auction runs, nor in a series' leg orders. Each table stands by number, and
-/// the depths that are kept are those of the leg orders.
-fn sound(book: &Book) {
+/// starter is live; no buy meets a sell in a series' leg orders, nor, on a day
+/// without national prices, where the strategy is all open and no auction runs.
+/// Each table stands by number, and the depths that are kept are those of the leg
+/// orders.
+fn sound(book: &Book, national: bool) {
     assert!(book.complex_orders().count() <= 16 && book.sweeps().count() <= 16);
     assert!(book.leg_orders.len() <= 32 && book.strategies.len() <= 16);
     assert!(book.entries.is_sorted_by(|a, b| a.number < b.number));
@@ -85,7 +86,7 @@ fn sound(book: &Book) {
             assert!(starter.group != 1 && starter.life.is_some_and(|life| life <= 1));
         } else {
             assert!(entries.iter().all(|entry| entry.life == Some(0)));
-            if book.all_open(strategy) {
+            if book.all_open(strategy) && !national {
                 let buys = entries.iter().filter(|e| e.side == 0).map(|e| e.limit);
                 let sells = entries.iter().filter(|e| e.side == 1).map(|e| e.limit);
                 if let (Some(buy), Some(sell)) = (buys.max(), sells.min()) {
@@ -99,73 +100,135 @@ fn sound(book: &Book) {
     }
 }
 
+/// What lists held, and the situations that they reached.
+#[derive(Default)]
+struct Reached {
+    events: usize,
+    /// Events by answer, accepted events by kind, records by kind.
+    answers: [u64; 15],
+    accepted: [u64; 11],
+    records: [u64; 6],
+    /// The most records of one event.
+    most: usize,
+    situations: BTreeMap<&'static str, u64>,
+}
+
+impl Reached {
+    fn add(&mut self, lists: &[Vec<Input>]) {
+        // The lists' makers have a book of their own, which is not counted.
+        coverage::take();
+        for inputs in lists {
+            let mut book = Book::first();
+            let mut national = false;
+            for input in inputs {
+                let before = book.clone();
+                let answer = book.step(&input.frame, input.space);
+                coverage::observe(&before, &input.frame, &answer, &book);
+                self.events += 1;
+                self.answers[answer.answer as usize] += 1;
+                if answer.answer == 0 {
+                    let event = read(&input.frame).expect("an accepted frame reads");
+                    self.accepted[reckoning::frames::values(&event).0 as usize] += 1;
+                    national |= matches!(event, Event::NationalPrices { .. });
+                    national &= !matches!(event, Event::DayEnd { .. });
+                    if self.events.is_multiple_of(16) {
+                        sound(&book, national);
+                    }
+                } else {
+                    assert_eq!(book, before, "a refusal leaves the book as it was");
+                    assert!(answer.records.is_empty() && answer.value == 0);
+                }
+                self.most = self.most.max(answer.records.len());
+                for record in &answer.records {
+                    self.records[record.kind as usize] += 1;
+                    assert!(!(1..=3).contains(&record.kind) || record.quantity > 0);
+                }
+            }
+        }
+        for (situation, count) in coverage::take() {
+            *self.situations.entry(situation).or_default() += count;
+        }
+    }
+
+    fn count(&self, situation: &str) -> u64 {
+        self.situations.get(situation).copied().unwrap_or(0)
+    }
+}
+
 #[test]
 fn every_situation_occurs() {
-    coverage::take();
-    let mut refusals = [0u64; 14];
-    let mut records = [0u64; 6];
-    let mut most = 0;
-    let mut events = 0;
-    let mut accepted = [0u64; 9];
     let options = Options {
         loose: true,
         day_ends: true,
     };
-    let mut lists: Vec<Vec<Input>> = (0..100).map(|seed| list(seed, 2_000, options)).collect();
-    lists.push(long_list(1, 2_000, true));
-    // The lists' makers have a book of their own; count the second run only.
-    coverage::take();
-    for inputs in &lists {
-        let mut book = Book::first();
-        for input in inputs {
-            let before = book.clone();
-            let answer = book.step(&input.frame, input.space);
-            coverage::observe(&before, &input.frame, &answer, &book);
-            events += 1;
-            refusals[answer.answer as usize] += 1;
-            if answer.answer == 0 {
-                let event = read(&input.frame).expect("an accepted frame reads");
-                accepted[reckoning::frames::values(&event).0 as usize] += 1;
-                if events % 16 == 0 {
-                    sound(&book);
-                }
-            } else {
-                assert_eq!(book, before, "a refusal leaves the book as it was");
-                assert!(answer.records.is_empty() && answer.value == 0);
-            }
-            most = most.max(answer.records.len());
-            for record in &answer.records {
-                records[record.kind as usize] += 1;
-                assert!(!(1..=3).contains(&record.kind) || record.quantity > 0);
-            }
-        }
+    let mut reached = Reached::default();
+    let plain: Vec<Vec<Input>> = (0..100).map(|seed| list(seed, 2_000, options)).collect();
+    reached.add(&plain);
+    // Without national prices nothing on the other side meets the starter's limit
+    // after its pass, no order rests crossed, and no pass stops.
+    for situation in reached.situations.keys() {
+        assert!(
+            *situation != "end: a later pass meets the starter's rest"
+                && !situation.contains("crossed")
+                && !situation.contains("stop"),
+            "{situation}"
+        );
     }
-    println!("events {events}, most records of one event {most}");
-    println!("answers 0 to 13: {refusals:?}");
-    println!("accepted by kind 1 to 8: {:?}", &accepted[1..]);
-    println!("records by kind 1 to 5: {:?}", &records[1..]);
-    let reached = coverage::take();
-    for (situation, count) in &reached {
+    let mut lists: Vec<Vec<Input>> = (0..100)
+        .map(|seed| national_list(seed, 2_000, options))
+        .collect();
+    lists.push(long_list(1, 2_000, true));
+    reached.add(&lists);
+    println!(
+        "events {}, most records of one event {}",
+        reached.events, reached.most
+    );
+    println!("answers 0 to 14: {:?}", reached.answers);
+    println!("accepted by kind 1 to 10: {:?}", &reached.accepted[1..]);
+    println!("records by kind 1 to 5: {:?}", &reached.records[1..]);
+    for (situation, count) in &reached.situations {
         println!("{count:>8}  {situation}");
     }
-    for (number, count) in refusals.iter().enumerate() {
+    for (number, count) in reached.answers.iter().enumerate() {
         assert!(*count >= 100, "answer {number} occurs {count} times");
     }
-    for (kind, count) in accepted.iter().enumerate().skip(1) {
+    for (kind, count) in reached.accepted.iter().enumerate().skip(1) {
         assert!(*count >= 30, "kind {kind} is accepted {count} times");
     }
-    for (kind, count) in records.iter().enumerate().skip(1) {
+    for (kind, count) in reached.records.iter().enumerate().skip(1) {
         assert!(*count >= 1_000, "record kind {kind} occurs {count} times");
     }
-    assert!(most <= RECORDS);
+    assert!(reached.most <= RECORDS);
     for situation in SITUATIONS {
-        let count = reached.get(situation).copied().unwrap_or(0);
+        let count = reached.count(situation);
         assert!(count >= 25, "{situation}: {count} times");
     }
-    // After the starter's pass nothing on the other side meets its limit.
-    assert!(!reached.contains_key("end: a later pass meets the starter's rest"));
-    for situation in reached.keys() {
+    for situation in reached.situations.keys() {
         assert!(SITUATIONS.contains(situation), "{situation} is not listed");
+    }
+}
+
+/// A number that another list would hardly have.
+fn digest(lists: impl Iterator<Item = Vec<Input>>) -> u64 {
+    let mut digest = 0xcbf2_9ce4_8422_2325_u64;
+    for input in lists.flatten() {
+        let space = (input.space as u64).to_le_bytes();
+        for byte in input.frame.into_iter().chain(space) {
+            digest = (digest ^ u64::from(byte)).wrapping_mul(0x100_0000_01b3);
+        }
+    }
+    digest
+}
+
+#[test]
+fn the_lists_of_kinds_1_to_8_stay_as_they_are() {
+    for (loose, day_ends, expected) in [
+        (false, true, 0x6e16_7103_6778_1439_u64),
+        (true, true, 0x2a6b_095f_8233_1aa7),
+    ] {
+        let options = Options { loose, day_ends };
+        let lists = (1..=60).map(|seed| list(seed, 2_500, options));
+        assert_eq!(digest(lists), expected, "loose {loose}");
     }
 }
 
@@ -180,7 +243,11 @@ fn totals_hold_over_a_million_events_and_no_event_needs_more_than_2560_records()
             loose: true,
             day_ends: seed % 2 == 0,
         };
-        let inputs = list(seed, 500 + 137 * (seed as usize % 40), options);
+        let length = 500 + 137 * (seed as usize % 40);
+        let inputs = match seed % 4 {
+            0 => list(seed, length, options),
+            _ => national_list(seed, length, options),
+        };
         for day in days(&inputs) {
             events += day.inputs.len();
             parts += 1;
@@ -367,6 +434,163 @@ fn the_checker_finds_fills_worse_than_the_limit() {
         worse += 1;
     }
     assert!(worse > 10);
+}
+
+/// Prices one past a bound that the limits of both parties of a whole fill allow:
+/// the event, the places of the two records 1, and the price.
+fn prices_past_a_bound(day: &Day) -> Vec<(usize, usize, usize, i64)> {
+    let mut book = Book::fresh(day.timer);
+    let mut limits: BTreeMap<i32, i64> = BTreeMap::new();
+    let mut list = Vec::new();
+    for (event, (input, answer)) in day.inputs.iter().zip(&day.answers).enumerate() {
+        if let Ok(Event::Complex { limit, .. } | Event::Sweep { limit, .. }) = read(&input.frame) {
+            limits.insert(answer.value as i32, i64::from(limit));
+        }
+        let records = &answer.records;
+        let mut at = 0;
+        while at < records.len() {
+            let first = at;
+            at += 1;
+            // Where whole met whole, the legs have price 0.
+            if records[first].kind != WHOLE_FILL || records[at].price != 0 {
+                continue;
+            }
+            let strategy = records[first].place as u8;
+            let second = at + book.legs(strategy).len();
+            at = second + 1;
+            let limit = |side: u8| {
+                let own = [first, second].map(|place| records[place]);
+                let party = own.iter().find(|record| record.side == i32::from(side));
+                limits[&party.expect("a party of each side").number]
+            };
+            let bounds = book.bounds(strategy);
+            let past = [
+                bounds.lowest.saturating_sub(1),
+                bounds.highest.saturating_add(1),
+            ];
+            for price in past {
+                if (limit(SELL)..=limit(BUY)).contains(&price) {
+                    list.push((event, first, second, price));
+                }
+            }
+        }
+        book.step(&input.frame, input.space);
+    }
+    list
+}
+
+#[test]
+fn the_checker_finds_fills_outside_the_range() {
+    // Both parties of a whole fill at a price one past a bound, which both their
+    // limits allow: the cash still balances.
+    let options = Options {
+        loose: true,
+        day_ends: false,
+    };
+    let mut found = 0;
+    for seed in 0..12 {
+        for good in days(&national_list(seed, 800, options)) {
+            assert_eq!(holds(&good), Ok(()));
+            for (event, first, second, price) in prices_past_a_bound(&good) {
+                let mut day = good.clone();
+                for place in [first, second] {
+                    day.answers[event].records[place].price = price as i32;
+                }
+                let claim = holds(&day).expect_err("a price past a bound");
+                assert!(claim.contains("outside the range"), "{claim}");
+                found += 1;
+            }
+        }
+    }
+    println!("found: {found}");
+    assert!(found > 50, "{found}");
+}
+
+/// A day with one whole fill at 200, between a buy at 200 and a sale at 180, when
+/// the national nets are 197 and 205 and the range is 2; then wider prices and
+/// another range.
+fn one_fill() -> Day {
+    let series = |series| Event::Series { series, state: 1 };
+    let prices = |series, bid, offer| Event::NationalPrices { series, bid, offer };
+    let range = |cents| Event::ExecutionRange { cents };
+    let leg = |series, side, ratio| Leg {
+        series,
+        side,
+        ratio,
+    };
+    let mut legs = [Leg::default(); 6];
+    // 1:1 after the division.
+    legs[..2].copy_from_slice(&[leg(1, SELL, 3), leg(0, BUY, 3)]);
+    let order = |side, limit| Event::Complex {
+        member: 9,
+        strategy: 0,
+        side,
+        class: 3,
+        life: 0,
+        units: 2,
+        limit,
+    };
+    let events = [
+        series(0),
+        series(1),
+        prices(0, 300, 305),
+        prices(1, 100, 103),
+        range(2),
+        Event::Strategy { count: 2, legs },
+        order(BUY, 200),
+        order(SELL, 180),
+        prices(0, 100, 900),
+        range(5_000),
+    ];
+    let inputs: Vec<Input> = (events.iter())
+        .map(|event| Input {
+            frame: bytes(event),
+            space: SPACE,
+        })
+        .collect();
+    days(&inputs).pop().expect("one day")
+}
+
+#[test]
+fn the_range_claim_goes_by_what_was_accepted_before_the_fill() {
+    const FILL: usize = 7;
+    let good = one_fill();
+    assert_eq!(holds(&good), Ok(()));
+    let at = |price: i32, change: &dyn Fn(&mut Day)| {
+        let mut day = good.clone();
+        // The buyer's limit shall allow the price.
+        day.inputs[FILL - 1].frame[12..].copy_from_slice(&220i32.to_le_bytes());
+        for record in &mut day.answers[FILL].records {
+            if record.kind == WHOLE_FILL {
+                record.price = price;
+            }
+        }
+        change(&mut day);
+        holds(&day)
+    };
+    let nothing = |_: &mut Day| {};
+    // From 197 - 2 to 205 + 2, whatever comes after.
+    for price in [195, 200, 207] {
+        assert_eq!(at(price, &nothing), Ok(()), "{price}");
+    }
+    for (price, number) in [(194, 2), (208, 1)] {
+        let claim = format!("number {number} filled outside the range");
+        assert_eq!(at(price, &nothing), Err(claim), "{price}");
+    }
+    // With a price or the range refused, or after the fill, the bound is another.
+    let refused = |event: usize| move |day: &mut Day| day.answers[event].answer = 1;
+    assert_eq!(at(208, &refused(2)), Ok(()));
+    assert_eq!(at(194, &refused(3)), Ok(()));
+    assert_eq!(at(208, &refused(4)), Ok(()), "a range of 9,999");
+    assert!(at(208, &refused(8)).is_err());
+    let after = |event: usize| {
+        move |day: &mut Day| {
+            day.inputs[event..=FILL].rotate_left(1);
+            day.answers[event..=FILL].rotate_left(1);
+        }
+    };
+    assert_eq!(at(208, &after(2)), Ok(()));
+    assert_eq!(at(208, &after(4)), Ok(()));
 }
 
 #[test]

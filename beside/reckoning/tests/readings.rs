@@ -4,182 +4,15 @@
 #![forbid(unsafe_code)]
 #![deny(warnings)]
 
+mod common;
+
+use common::*;
 use reckoning::book::{depth, Book, RowEntry, SPACE};
+use reckoning::events::{Causes, ORDER};
 use reckoning::frames::{bytes, Event, Leg};
 use reckoning::nets::normal;
 use reckoning::passes::{share, Given};
 use reckoning::tape::tape;
-
-const BUY: u8 = 0;
-const SELL: u8 = 1;
-const CUSTOMER: u8 = 1;
-const BROKER: u8 = 2;
-const MAKER: u8 = 3;
-const DAY: u8 = 0;
-const IMMEDIATE: u8 = 1;
-const RESPONSE: u8 = 2;
-const DO_NOT_AUCTION: u8 = 3;
-
-type Records = Vec<[i32; 6]>;
-
-fn strategy(legs: &[(u8, u8, u8)]) -> Event {
-    let mut row = [Leg::default(); 6];
-    for (place, (series, side, ratio)) in row.iter_mut().zip(legs) {
-        *place = Leg {
-            series: *series,
-            side: *side,
-            ratio: *ratio,
-        };
-    }
-    Event::Strategy {
-        count: legs.len() as u8,
-        legs: row,
-    }
-}
-
-fn complex(member: u16, of: u8, side: u8, class: u8, life: u8, units: u16, limit: i32) -> Event {
-    Event::Complex {
-        member,
-        strategy: of,
-        side,
-        class,
-        life,
-        units,
-        limit,
-    }
-}
-
-fn sweep(member: u16, of: u8, side: u8, units: u16, limit: i32) -> Event {
-    Event::Sweep {
-        member,
-        strategy: of,
-        side,
-        units,
-        limit,
-    }
-}
-
-fn leg_order(member: u16, series: u8, side: u8, contracts: u16, price: u32) -> Event {
-    Event::LegOrder {
-        member,
-        series,
-        side,
-        contracts,
-        price,
-    }
-}
-
-fn cancel(member: u16, number: u32) -> Event {
-    Event::Cancel { member, number }
-}
-
-fn open(series: u8) -> Event {
-    Event::Series { series, state: 1 }
-}
-
-fn shut(series: u8) -> Event {
-    Event::Series { series, state: 0 }
-}
-
-fn clock(milliseconds: u32) -> Event {
-    Event::Clock { milliseconds }
-}
-
-/// A book under test.
-struct Bench {
-    book: Book,
-}
-
-impl Bench {
-    fn new() -> Bench {
-        Bench {
-            book: Book::first(),
-        }
-    }
-
-    /// Series 0 at 300/305, series 1 at 100/103, 10 contracts each, as numbers 1
-    /// to 4 of members 1 to 4; strategy 0 buys 0 and sells 1: nets 197 bid, 205
-    /// offer.
-    fn market() -> Bench {
-        let mut bench = Bench::new();
-        bench.value(open(0));
-        bench.value(open(1));
-        bench.value(strategy(&[(0, BUY, 1), (1, SELL, 1)]));
-        bench.value(leg_order(1, 0, BUY, 10, 300));
-        bench.value(leg_order(2, 0, SELL, 10, 305));
-        bench.value(leg_order(3, 1, BUY, 10, 100));
-        bench.value(leg_order(4, 1, SELL, 10, 103));
-        bench
-    }
-
-    /// The market, with series 2 at 50/53 as numbers 5 and 6 of members 5 and
-    /// 6, and strategy 1 that buys 0 and sells 2: nets 247 bid, 255 offer.
-    fn two_strategies() -> Bench {
-        let mut bench = Bench::market();
-        bench.value(open(2));
-        bench.value(leg_order(5, 2, BUY, 10, 50));
-        bench.value(leg_order(6, 2, SELL, 10, 53));
-        assert_eq!(bench.value(strategy(&[(0, BUY, 1), (2, SELL, 1)])), 1);
-        bench
-    }
-
-    /// An accepted event: its value and its records.
-    fn accepted(&mut self, event: Event) -> (u32, Records) {
-        let answer = self.book.step(&bytes(&event), SPACE);
-        assert_eq!(answer.answer, 0, "{event:?}");
-        let records = answer.records.iter().map(|record| record.numbers());
-        (answer.value, records.collect())
-    }
-
-    fn value(&mut self, event: Event) -> u32 {
-        self.accepted(event).0
-    }
-
-    fn records(&mut self, event: Event) -> Records {
-        self.accepted(event).1
-    }
-
-    /// The answer to any event.
-    fn answer(&mut self, event: Event) -> u32 {
-        self.book.step(&bytes(&event), SPACE).answer
-    }
-}
-
-/// The records of one whole fill in a strategy that buys `first` and sells
-/// `second`, one each.
-fn whole_on(
-    place: i32,
-    series: (i32, i32),
-    active: (i32, u8),
-    other: i32,
-    units: i32,
-    price: i32,
-) -> Records {
-    let side = i32::from(active.1);
-    let mut records = Vec::new();
-    for (number, side) in [(active.0, side), (other, 1 - side)] {
-        records.push([1, number, place, side, units, price]);
-        records.push([2, number, series.0, side, units, 0]);
-        records.push([2, number, series.1, 1 - side, units, 0]);
-    }
-    records
-}
-
-/// The records of one whole fill in strategy 0 of the market.
-fn whole(active: (i32, u8), other: i32, units: i32, price: i32) -> Records {
-    whole_on(0, (0, 1), active, other, units, price)
-}
-
-/// The records of a buy by legs in strategy 0 of the market at 305 and 100.
-fn bought_by_legs(number: i32, units: i32) -> Records {
-    vec![
-        [1, number, 0, 0, units, 205],
-        [2, number, 0, 0, units, 305],
-        [2, number, 1, 1, units, 100],
-        [2, 2, 0, 1, units, 305],
-        [2, 3, 1, 0, units, 100],
-    ]
-}
 
 // Reading 1.
 
@@ -896,7 +729,8 @@ fn member_is_1_to_65535_wherever_it_stands() {
     }
 }
 
-// Reading 24.
+// Reading 24, with request 2026-01: the first in the order in which they are
+// checked. Among the causes that one event can have, the first is the smallest.
 
 #[test]
 fn the_smallest_refusal_is_given() {
@@ -905,6 +739,14 @@ fn the_smallest_refusal_is_given() {
     assert_eq!(bench.book.step(&frame, SPACE - 1).answer, 1);
     assert_eq!(bench.book.step(&frame[1..], SPACE - 1).answer, 1);
     assert_eq!(bench.book.step(&frame, SPACE).answer, 4);
+    assert_eq!(bench.answer(sweep(9, 9, BUY, 0, 1)), 4, "and 9 and 10");
+    assert_eq!(bench.answer(sweep(9, 0, BUY, 0, 1)), 9, "and 10");
+    // 14 can stand beside 1 alone: a frame refused 2 or 3 has no prices.
+    let crossed = bytes(&national(3, 6, 5));
+    assert_eq!(bench.book.step(&crossed, SPACE - 1).answer, 1);
+    assert_eq!(bench.book.step(&crossed, SPACE).answer, 14);
+    assert_eq!(bench.book.step(&crossed[1..], SPACE).answer, 2);
+    assert_eq!(bench.answer(national(32, 6, 5)), 3);
     bench.value(complex(9, 0, BUY, CUSTOMER, DAY, 1, 198));
     assert_eq!(bench.answer(cancel(8, 5)), 7, "another member's starter");
     assert_eq!(bench.answer(cancel(9, 5)), 8);
@@ -919,6 +761,33 @@ fn the_smallest_refusal_is_given() {
     }
     assert_eq!(bench.answer(leg_order(9, 0, BUY, 1, 1)), 12);
     assert_eq!(bench.answer(leg_order(9, 2, BUY, 1, 1)), 6);
+}
+
+#[test]
+fn fourteen_is_checked_after_3_and_before_4() {
+    // No kind has 14 and one of 4 to 13, so this is asked of the set of causes
+    // and not of a book.
+    let before = |first: u32, second: u32| match (first, second) {
+        (14, _) => second > 3,
+        (_, 14) => first <= 3,
+        _ => first < second,
+    };
+    assert_eq!(Causes::default().first(), None);
+    let mut all = Causes::default();
+    for first in 1..=14 {
+        all.add(first);
+        let mut one = Causes::default();
+        one.add(first);
+        assert_eq!(one.first(), Some(first));
+        for second in (1..=14).filter(|second| *second != first) {
+            let mut both = one;
+            both.add(second);
+            let answered = if before(first, second) { first } else { second };
+            assert_eq!(both.first(), Some(answered), "{first} and {second}");
+        }
+    }
+    assert_eq!(all.first(), Some(1));
+    assert_eq!(ORDER, [1, 2, 3, 14, 4, 5, 6, 7, 8, 9, 10, 11, 12, 13]);
 }
 
 #[test]

@@ -1,7 +1,9 @@
 //! The days that are compared: inputs of `tape`, made from seeds or by hand.
 
 use reckoning::frames::{bytes, judge, Event};
-use reckoning::generate::{frames, list, long_list, stream, Options, Random};
+use reckoning::generate::{
+    frames, list, long_list, national_list, stream, Options, Random, LAST_KIND,
+};
 use std::fmt;
 
 /// One input of `tape`.
@@ -12,7 +14,7 @@ pub enum Day {
     Generated { seed: u64, events: usize },
     /// A day that gives all 100,000 numbers and goes on.
     EveryNumber { seed: u64, events: usize },
-    /// Several days, a day end after each.
+    /// Several days, a day end after each; two of three have kinds 9 and 10.
     Several { seed: u64, days: u64, events: usize },
     /// Frames of any sort one after the other, most of them refused 2 or 3.
     Frames { seed: u64, amount: usize },
@@ -61,7 +63,12 @@ fn several(seed: u64, days: u64, events: usize) -> Vec<u8> {
     let mut random = Random::new(seed);
     let mut input = Vec::new();
     for day in 0..days {
-        for event in list(1_000 * seed + day, events, options) {
+        let own = 1_000 * seed + day;
+        let inputs = match own % 3 {
+            0 => list(own, events, options),
+            _ => national_list(own, events, options),
+        };
+        for event in inputs {
             input.extend(event.frame);
         }
         let timer = random.pick(&[1, 2, 50, 1_000, 4_999, 5_000]);
@@ -76,7 +83,7 @@ fn any_bytes(seed: u64) -> Vec<u8> {
     for _ in 0..random.below(20) {
         let length = random.range(4, 30) as usize;
         let mut frame: Vec<u8> = (0..length).map(|_| random.bits() as u8).collect();
-        frame[2] = random.range(0, 9) as u8;
+        frame[2] = random.range(0, i64::from(LAST_KIND) + 1) as u8;
         frame[3] = 0;
         input.extend(passable(frame));
     }

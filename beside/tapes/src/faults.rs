@@ -24,9 +24,9 @@ pub enum Ending {
     Never,
 }
 
-/// A frame of kind 2 to 8 with its right length, by its kind.
+/// A frame of kind 2 to 10 with its right length, by its kind.
 fn is(frame: &[u8], kind: u8) -> bool {
-    let lengths = [0, 0, 16, 14, 14, 10, 6, 8, 6];
+    let lengths = [0, 0, 16, 14, 14, 10, 6, 8, 6, 13, 6];
     frame.len() == lengths[usize::from(kind)] && frame[2] == kind && frame[3] == 0
 }
 
@@ -125,6 +125,47 @@ fn frame_faults() -> Vec<(&'static str, Fault)> {
                 }
             }),
         ),
+        ("range-of-one-byte", misread!(10, 5, 39 => 0)),
+        (
+            "range-one-more",
+            Fault::Frame(|frame| {
+                if is(frame, 10) && frame[4] < 15 {
+                    frame[4] += 1;
+                }
+            }),
+        ),
+        (
+            "national-bid-one-more",
+            Fault::Frame(|frame| {
+                if is(frame, 9) && frame[5..9] != [0; 4] {
+                    one_more(frame, 5);
+                }
+            }),
+        ),
+        (
+            "national-offer-one-more",
+            Fault::Frame(|frame| {
+                if is(frame, 9) && frame[9..13] != [0; 4] {
+                    one_more(frame, 9);
+                }
+            }),
+        ),
+        (
+            "national-prices-exchanged",
+            Fault::Frame(|frame| {
+                if is(frame, 9) {
+                    frame[5..13].rotate_left(4);
+                }
+            }),
+        ),
+        (
+            "national-prices-of-the-next-series",
+            Fault::Frame(|frame| {
+                if is(frame, 9) && frame[4] < 31 {
+                    frame[4] += 1;
+                }
+            }),
+        ),
         (
             "ratio-3-as-2",
             Fault::Frame(|frame| {
@@ -190,6 +231,22 @@ fn word_faults() -> Vec<(&'static str, Fault)> {
             Fault::Words(|words| {
                 if words[0] == "E" && words[2] == "13" {
                     words[2] = "12".to_string();
+                }
+            }),
+        ),
+        (
+            "14-as-3",
+            Fault::Words(|words| {
+                if words[0] == "E" && words[2] == "14" {
+                    words[2] = "3".to_string();
+                }
+            }),
+        ),
+        (
+            "14-accepted",
+            Fault::Words(|words| {
+                if words[0] == "E" && words[2] == "14" {
+                    words[2] = "0".to_string();
                 }
             }),
         ),

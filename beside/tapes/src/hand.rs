@@ -1,15 +1,17 @@
-//! Days made by hand: ends of the input, long frames, full tables, and numbers
-//! at the ends of their ranges.
+//! Days made by hand: ends of the input, long frames, full tables, numbers at the
+//! ends of their ranges, and fills at the bounds of the execution range.
 
 use crate::days::Day;
-use reckoning::book::{COMPLEX_ORDERS, LEG_ORDERS, STRATEGIES, SWEEPS};
+use reckoning::book::{Book, COMPLEX_ORDERS, LEG_ORDERS, SPACE, STRATEGIES, SWEEPS};
 use reckoning::frames::{bytes, Event, Leg};
+use reckoning::generate::LAST_KIND;
 
 const BUY: u8 = 0;
 const SELL: u8 = 1;
 const CUSTOMER: u8 = 1;
 const MARKET_MAKER: u8 = 3;
 const DAY: u8 = 0;
+const IMMEDIATE: u8 = 1;
 
 fn made(name: impl Into<String>, bytes: Vec<u8>) -> Day {
     Day::Made {
@@ -85,6 +87,14 @@ fn day_end(timer: u16) -> Event {
     Event::DayEnd { timer }
 }
 
+fn national_prices(series: u8, bid: u32, offer: u32) -> Event {
+    Event::NationalPrices { series, bid, offer }
+}
+
+fn range(cents: u16) -> Event {
+    Event::ExecutionRange { cents }
+}
+
 /// Document 01's worked example.
 pub fn example() -> Vec<u8> {
     let events = [
@@ -140,7 +150,8 @@ fn long_frame(kind: u16, length: u16, fill: u8) -> Vec<u8> {
 pub fn long_frames() -> Vec<Day> {
     let mut days = Vec::new();
     let open = bytes(&series(0, 1));
-    for kind in (0..=9).chain([255, 256, 257, 258, 262, 65_535]) {
+    let last = LAST_KIND as u16 + 1;
+    for kind in (0..=last).chain([255, 256, 257, 258, 262, 265, 266, 65_535]) {
         let mut input = example();
         for length in [4, 5, 6, 770, 771, 4_096, 32_768, 65_534, 65_535] {
             for fill in [0, 1, 255] {
@@ -257,16 +268,21 @@ fn full_leg_orders() -> Day {
     day("a full table of leg orders", &events)
 }
 
+/// Six legs with the largest ratios, so many of them bought.
+fn six_legs(buy_legs: u8) -> Vec<(u8, u8, u8)> {
+    (0..6)
+        .map(|leg| {
+            let side = if leg < buy_legs { BUY } else { SELL };
+            (31 - leg, side, 12 - leg)
+        })
+        .collect()
+}
+
 /// Numbers at the ends of their ranges.
 pub fn extremes() -> Vec<Day> {
     let mut days = Vec::new();
     for buy_legs in [6, 5, 3, 0] {
-        let legs: Vec<(u8, u8, u8)> = (0..6)
-            .map(|leg| {
-                let side = if leg < buy_legs { BUY } else { SELL };
-                (31 - leg, side, 12 - leg)
-            })
-            .collect();
+        let legs = six_legs(buy_legs);
         for (bid, offer) in [(1, 2), (1, 99_999), (99_998, 99_999)] {
             days.push(extreme(&legs, bid, offer));
         }
@@ -334,6 +350,124 @@ fn late(timer: u16, begin: u32) -> Day {
     ];
     day(
         &format!("an auction begun at {begin}, timer {timer}"),
+        &events,
+    )
+}
+
+/// Days of kinds 9 and 10: fields at the ends of their ranges, and fills at a bound
+/// and a cent past it.
+pub fn national() -> Vec<Day> {
+    let mut days = vec![national_fields(), national_day_ends()];
+    let prices = [
+        (1, 1),
+        (1, 99_999),
+        (99_999, 99_999),
+        (99_998, 99_999),
+        (1, 0),
+        (0, 99_999),
+        (0, 0),
+    ];
+    for buy_legs in [6, 5, 3, 0] {
+        for (bid, offer) in prices {
+            for cents in [None, Some(0), Some(9_999)] {
+                days.push(bounds(&six_legs(buy_legs), bid, offer, cents));
+            }
+        }
+    }
+    days
+}
+
+/// National prices and ranges with each field at its ends and past them: accepted,
+/// refused 3, refused 14.
+fn national_fields() -> Day {
+    let ends = [0, 1, 2, 99_998, 99_999, 100_000, u32::MAX];
+    let mut events = Vec::new();
+    for series in [0, 31, 32, 255] {
+        for bid in ends {
+            events.extend(ends.map(|offer| national_prices(series, bid, offer)));
+        }
+    }
+    events.extend([0, 1, 255, 256, 9_998, 9_999, 10_000, u16::MAX].map(range));
+    day("fields of kinds 9 and 10", &events)
+}
+
+/// A day end after national prices and a range; then the one without the other.
+fn national_day_ends() -> Day {
+    let market = [
+        series(0, 1),
+        series(1, 1),
+        strategy(&[(0, BUY, 1), (1, SELL, 1)]),
+    ];
+    let prices = [national_prices(0, 300, 305), national_prices(1, 100, 103)];
+    // Out of a range of 0, by a cent and by 9,999 and 10,000.
+    let mut orders = Vec::new();
+    for limit in [196, 197, 205, 206, 205 + 9_999, 206 + 9_999] {
+        orders.push(order(1, SELL, MARKET_MAKER, DAY, 2, limit));
+        orders.push(order(2, BUY, MARKET_MAKER, IMMEDIATE, 2, limit));
+        orders.push(order(3, BUY, MARKET_MAKER, IMMEDIATE, 9, 9_999_999));
+    }
+    let mut events = Vec::new();
+    for known in [true, false] {
+        events.extend(market);
+        events.extend(prices);
+        events.push(range(0));
+        events.extend(&orders);
+        events.push(day_end(5_000));
+        events.extend(market);
+        match known {
+            true => events.extend(prices),
+            false => events.push(range(0)),
+        }
+        events.extend(&orders);
+        events.push(day_end(5_000));
+    }
+    day("day ends after national prices and a range", &events)
+}
+
+/// A strategy of these legs, all with these national prices, and the range, if one is
+/// set: orders of both sides meet at each bound, and a cent to each side of it, one
+/// by one and in an opening.
+fn bounds(legs: &[(u8, u8, u8)], bid: u32, offer: u32, cents: Option<u16>) -> Day {
+    let mut events: Vec<Event> = (0..32).map(|number| series(number, 1)).collect();
+    events.push(strategy(legs));
+    for (number, _, _) in legs {
+        events.push(national_prices(*number, bid, offer));
+    }
+    events.extend(cents.map(range));
+    let mut book = Book::first();
+    for event in &events {
+        book.step(&bytes(event), SPACE);
+    }
+    let bounds = book.bounds(0);
+    let mut limits: Vec<i32> = Vec::new();
+    for bound in [bounds.lowest, bounds.highest] {
+        let known = (-9_999_998..=9_999_998).contains(&bound);
+        let bound = if known { bound as i32 } else { 0 };
+        limits.extend([bound - 1, bound, bound + 1]);
+    }
+    let mut given = 0;
+    for limit in limits {
+        for side in [BUY, SELL] {
+            for other in [DAY, IMMEDIATE] {
+                // The first rests, and is met; or both rest, until the series opens.
+                let shut = other == DAY;
+                if shut {
+                    events.push(series(legs[0].0, 0));
+                }
+                events.push(order(1, side, MARKET_MAKER, DAY, 5, limit));
+                events.push(order(2, 1 - side, MARKET_MAKER, other, 5, limit));
+                if shut {
+                    events.push(series(legs[0].0, 1));
+                }
+                events.push(cancel(1, given + 1));
+                events.push(cancel(2, given + 2));
+                given += 2;
+            }
+        }
+    }
+    let sides: Vec<u8> = legs.iter().map(|(_, side, _)| *side).collect();
+    day(
+        &format!("national prices {bid} and {offer}, range {cents:?}, sides {sides:?}"),
         &events,
     )
 }

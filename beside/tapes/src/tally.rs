@@ -3,15 +3,19 @@
 
 use reckoning::book::{Book, SPACE};
 use reckoning::coverage;
+use reckoning::generate::LAST_KIND;
 use std::collections::BTreeMap;
 use std::fmt;
+
+/// Stands for every kind that is unknown, and for what is no frame.
+pub const OTHER: u32 = 0;
 
 #[derive(Default)]
 pub struct Tally {
     pub days: u64,
     pub bytes: u64,
     pub lines: u64,
-    /// Events by kind (9 for every other, and for what is no frame) and answer.
+    /// Events by kind, or `OTHER`, and answer.
     pub events: BTreeMap<(u32, u32), u64>,
     /// Records by kind.
     pub records: BTreeMap<u32, u64>,
@@ -38,11 +42,42 @@ pub fn frames(input: &[u8]) -> Vec<&[u8]> {
 }
 
 /// The kind that a frame's bytes say.
-fn kind_of(frame: Option<&&[u8]>) -> u32 {
+pub fn kind_of(frame: &[u8]) -> u32 {
     match frame {
-        Some([_, _, low, high, ..]) => u32::from(u16::from_le_bytes([*low, *high])).min(9),
-        _ => 9,
+        [_, _, low, high, ..] => match u32::from(u16::from_le_bytes([*low, *high])) {
+            kind if kind <= LAST_KIND => kind,
+            _ => OTHER,
+        },
+        _ => OTHER,
     }
+}
+
+/// The kinds by number, and then `OTHER`.
+pub fn kinds() -> impl Iterator<Item = u32> {
+    (1..=LAST_KIND).chain([OTHER])
+}
+
+/// The name of a kind.
+pub fn name_of(kind: u32) -> String {
+    match kind {
+        OTHER => "other".to_string(),
+        kind => kind.to_string(),
+    }
+}
+
+/// The situations that a list of frames reaches, each with the length of its
+/// record space.
+pub fn situations<'a>(
+    list: impl Iterator<Item = (&'a [u8], usize)>,
+) -> BTreeMap<&'static str, u64> {
+    coverage::take();
+    let mut book = Book::first();
+    for (frame, space) in list {
+        let before = book.clone();
+        let answer = book.step(frame, space);
+        coverage::observe(&before, frame, &answer, &book);
+    }
+    coverage::take()
 }
 
 impl Tally {
@@ -60,10 +95,7 @@ impl Tally {
             let number = |at: usize| number(at).unwrap_or(0);
             match words.first() {
                 Some(&"E") => {
-                    let kind = match kind_of(frames.get(index)) {
-                        0 => 9,
-                        kind => kind,
-                    };
+                    let kind = frames.get(index).map_or(OTHER, |frame| kind_of(frame));
                     *self.events.entry((kind, number(2) as u32)).or_default() += 1;
                     self.highest = self.highest.max(number(3));
                     self.most = self.most.max(number(4));
@@ -72,19 +104,7 @@ impl Tally {
                 _ => *self.records.entry(number(1) as u32).or_default() += 1,
             }
         }
-        self.observe(&frames);
-    }
-
-    /// Counts the situations of a day.
-    fn observe(&mut self, frames: &[&[u8]]) {
-        coverage::take();
-        let mut book = Book::first();
-        for frame in frames {
-            let before = book.clone();
-            let answer = book.step(frame, SPACE);
-            coverage::observe(&before, frame, &answer, &book);
-        }
-        for (situation, count) in coverage::take() {
+        for (situation, count) in situations(frames.into_iter().map(|frame| (frame, SPACE))) {
             *self.situations.entry(situation).or_default() += count;
         }
     }
@@ -118,7 +138,7 @@ impl Tally {
 
     /// How many events had the answer.
     pub fn answered(&self, answer: u32) -> u64 {
-        (1..=9).map(|kind| self.of(kind, answer)).sum()
+        kinds().map(|kind| self.of(kind, answer)).sum()
     }
 
     pub fn written(&self, kind: u32) -> u64 {
@@ -140,11 +160,8 @@ impl fmt::Display for Tally {
             self.bytes,
             self.lines
         )?;
-        for kind in 1..=9 {
-            let name = match kind {
-                9 => "other".to_string(),
-                kind => kind.to_string(),
-            };
+        for kind in kinds() {
+            let name = name_of(kind);
             let counts: Vec<String> = (self.events.iter())
                 .filter(|((of, _), _)| *of == kind)
                 .map(|((_, answer), count)| format!("{answer}: {count}"))

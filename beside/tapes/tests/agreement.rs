@@ -5,15 +5,16 @@
 #![deny(warnings)]
 
 use reckoning::coverage::SITUATIONS;
+use reckoning::generate::LAST_KIND;
 use std::path::Path;
 use std::time::Duration;
 use tapes::agree::agrees;
 use tapes::days::{
     any_frames, damaged_frames, every_number, generated, inputs_of_any_bytes, several_days, Day,
 };
-use tapes::hand::{ends, extremes, full_tables, long_frames};
+use tapes::hand::{ends, extremes, full_tables, long_frames, national};
 use tapes::program::{Delivery, Program};
-use tapes::tally::Tally;
+use tapes::tally::{Tally, OTHER};
 
 /// The tally, printed; or the difference, which fails the test.
 fn agreed(what: &str, days: &[Day]) -> Tally {
@@ -51,7 +52,9 @@ const ANSWERS: &[(u32, &[u32])] = &[
     (6, &[0, 2, 3]),
     (7, &[0, 2, 3, 11]),
     (8, &[0, 2]),
-    (9, &[2]),
+    (9, &[0, 2, 3, 14]),
+    (10, &[0, 2, 3]),
+    (OTHER, &[2]),
 ];
 
 #[test]
@@ -64,7 +67,8 @@ fn generated_days() {
             assert!(count >= 50, "kind {kind}, answer {answer}: {count}");
         }
     }
-    for answer in (0..=12).filter(|answer| *answer != 1) {
+    // 1 is for calls, and 13 for days that give every number.
+    for answer in (0..=14).filter(|answer| ![1, 13].contains(answer)) {
         let count = tally.answered(answer);
         assert!(count >= 2_000, "answer {answer}: {count}");
     }
@@ -72,6 +76,11 @@ fn generated_days() {
         let count = tally.written(kind);
         assert!(count >= 20_000, "records of kind {kind}: {count}");
     }
+    for kind in [9, 10] {
+        let count = tally.of(kind, 0);
+        assert!(count >= 20_000, "accepted events of kind {kind}: {count}");
+    }
+    assert!(SITUATIONS.len() >= 103);
     for situation in SITUATIONS {
         let count = tally.reached(situation);
         assert!(count >= 100, "{situation}: {count}");
@@ -88,7 +97,10 @@ fn days_that_give_every_number() {
         let count = tally.of(kind, 13);
         assert!(count >= 50, "kind {kind}, answer 13: {count}");
     }
-    assert!(tally.of(3, 0) >= 100 && tally.of(5, 0) >= 100);
+    for kind in [3, 5, 9, 10] {
+        let count = tally.of(kind, 0);
+        assert!(count >= 100, "accepted events of kind {kind}: {count}");
+    }
 }
 
 #[test]
@@ -100,13 +112,18 @@ fn several_days_in_a_row() {
     for kind in 1..=5 {
         assert!(tally.written(kind) >= 1_000, "records of kind {kind}");
     }
+    assert!(tally.of(9, 0) >= 1_000 && tally.of(10, 0) >= 1_000 && tally.of(9, 14) >= 100);
+    let stopped = tally.reached("complex: the pass stops at the range");
+    let set = tally.reached("day end: national prices and a range are set");
+    assert!(stopped >= 20 && set >= 20, "{stopped}, {set}");
 }
 
 #[test]
 fn frames_of_any_sort() {
     let tally = agreed("frames of any sort", &any_frames(20));
     assert!(tally.total() >= 200_000);
-    for kind in 1..=8 {
+    assert!(tally.of(9, 14) >= 500);
+    for kind in 1..=LAST_KIND {
         for answer in [2, 3] {
             let count = tally.of(kind, answer);
             assert!(count >= 500, "kind {kind}, answer {answer}: {count}");
@@ -119,7 +136,7 @@ fn damaged_frames_alone() {
     let tally = agreed("damaged frames alone", &damaged_frames(20));
     assert!(tally.total() >= 100_000);
     assert_eq!(tally.total(), tally.answered(2) + tally.answered(3));
-    for kind in 1..=8 {
+    for kind in 1..=LAST_KIND {
         for answer in [2, 3] {
             let count = tally.of(kind, answer);
             assert!(count >= 500, "kind {kind}, answer {answer}: {count}");
@@ -134,7 +151,7 @@ fn inputs_of_few_bytes() {
     days.extend(inputs_of_any_bytes(400));
     let tally = agreed("inputs of few bytes, and cut ones", &days);
     assert!(made >= 500);
-    assert!(tally.of(9, 2) >= 500, "inputs that stop");
+    assert!(tally.of(OTHER, 2) >= 500, "inputs that stop");
 }
 
 #[test]
@@ -143,7 +160,7 @@ fn frames_of_up_to_65535_bytes() {
     assert!(tally.bytes >= 50_000_000);
     // After each long frame the program goes on.
     assert!(tally.of(6, 0) >= 1_000);
-    for kind in 1..=8 {
+    for kind in 1..=LAST_KIND {
         assert!(tally.of(kind, 2) >= 100, "kind {kind}, answer 2");
     }
 }
@@ -196,4 +213,34 @@ fn numbers_at_the_ends_of_their_ranges() {
     let tally = agreed("extremes", &extremes());
     assert!(tally.written(1) >= 1_000 && tally.written(2) >= 5_000);
     assert!(tally.of(7, 0) >= 1_000 && tally.of(7, 11) >= 6);
+}
+
+#[test]
+fn national_prices_and_fills_at_the_bounds() {
+    let days = national();
+    let tally = agreed("national prices", &days);
+    assert!(days.len() >= 80);
+    for (kind, answers) in [(9, &[0, 3, 14][..]), (10, &[0, 3])] {
+        for answer in answers {
+            let count = tally.of(kind, *answer);
+            assert!(count >= 2, "kind {kind}, answer {answer}: {count}");
+        }
+    }
+    for (situation, least) in [
+        ("turn: whole at the buyer's bound", 50),
+        ("turn: whole at the seller's bound", 50),
+        ("stop: limit above the active buyer's bound", 50),
+        ("stop: limit above the other buyer's bound", 50),
+        ("stop: limit below the active seller's bound", 50),
+        ("stop: limit below the other seller's bound", 50),
+        ("opening: a match at a bound", 50),
+        ("opening: a match stops above the buyer's bound", 50),
+        ("opening: a match stops below the seller's bound", 50),
+        ("turn: only the buyer is bound", 10),
+        ("turn: only the seller is bound", 10),
+        ("day end: national prices and a range are set", 2),
+    ] {
+        let count = tally.reached(situation);
+        assert!(count >= least, "{situation}: {count}");
+    }
 }

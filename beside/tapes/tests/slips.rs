@@ -1,6 +1,7 @@
 //! The comparison finds slips in the book itself: the reckoning's sources with
 //! one edit each are built anew, and their tape has to differ from the
-//! reckoning's. Among them are the slips that document 01 names.
+//! reckoning's. Among them are the slips that document 01 names, and those of
+//! request 2026-01.
 
 #![forbid(unsafe_code)]
 #![deny(warnings)]
@@ -10,7 +11,7 @@ use std::path::Path;
 use std::time::Duration;
 use tapes::agree::agrees;
 use tapes::days::{any_frames, every_number, generated, several_days, Day};
-use tapes::hand::{ends, extremes, full_tables};
+use tapes::hand::{ends, extremes, full_tables, national};
 use tapes::program::Program;
 use tapes::slips::{built, Slip};
 
@@ -310,10 +311,10 @@ const SLIPS: &[Slip] = &[
         "if units > 0 && self.sweeps()",
     ),
     (
-        "the largest refusal",
+        "the last refusal in the order",
         "events.rs",
-        "Some(self.0.trailing_zeros())",
-        "Some(15 - self.0.leading_zeros())",
+        "Some(ORDER[self.0.trailing_zeros() as usize])",
+        "Some(ORDER[15 - self.0.leading_zeros() as usize])",
     ),
     (
         "number 100,000 not given",
@@ -327,6 +328,231 @@ const SLIPS: &[Slip] = &[
         "if milliseconds < self.clock {",
         "if milliseconds <= self.clock && milliseconds > 0 {",
     ),
+    // Request 2026-01: the bounds.
+    (
+        "only the active party bound",
+        "passes.rs",
+        "                bounds.allow_both(price)\n",
+        "                bounds.allow(active.side, price)\n",
+    ),
+    (
+        "only the other party bound",
+        "passes.rs",
+        "                bounds.allow_both(price)\n",
+        "                bounds.allow(1 - active.side, price)\n",
+    ),
+    (
+        "leg orders bound too",
+        "passes.rs",
+        "                bounds.allow(active.side, price)\n",
+        "                bounds.allow_both(price)\n",
+    ),
+    (
+        "a fill by legs not bound",
+        "passes.rs",
+        "                bounds.allow(active.side, price)\n",
+        "                true\n",
+    ),
+    (
+        "the limit bound in the place of the price",
+        "passes.rs",
+        "                bounds.allow(active.side, price)\n",
+        "                bounds.allow(active.side, limit)\n",
+    ),
+    (
+        "the seller bound by the offer net",
+        "national.rs",
+        "let bid_net = self.national_net(strategy, SELL);",
+        "let bid_net = self.national_net(strategy, BUY);",
+    ),
+    (
+        "the buyer bound by the bid net",
+        "national.rs",
+        "let offer_net = self.national_net(strategy, BUY);",
+        "let offer_net = self.national_net(strategy, SELL);",
+    ),
+    (
+        "the range put on the bid net",
+        "national.rs",
+        "|net| net - range)",
+        "|net| net + range)",
+    ),
+    (
+        "the range taken off the offer net",
+        "national.rs",
+        "|net| net + range)",
+        "|net| net - range)",
+    ),
+    (
+        "equal to the buyer's bound refused",
+        "national.rs",
+        "            price <= self.highest\n",
+        "            price < self.highest\n",
+    ),
+    (
+        "equal to the seller's bound refused",
+        "national.rs",
+        "            price >= self.lowest\n",
+        "            price > self.lowest\n",
+    ),
+    (
+        "a missing net of one side that frees both",
+        "national.rs",
+        "        let range = i64::from(self.national.range);\n",
+        "        let range = i64::from(self.national.range);\n        if self.national_net(strategy, BUY).is_none() || self.national_net(strategy, SELL).is_none() {\n            return Bounds::NONE;\n        }\n",
+    ),
+    (
+        "a missing price as 0 in a net",
+        "national.rs",
+        "            0 => None,\n            price => Some(price),\n",
+        "            price => Some(price),\n",
+    ),
+    (
+        "national nets without ratios",
+        "national.rs",
+        "                leg: *leg,\n",
+        "                leg: crate::frames::Leg { ratio: 1, ..*leg },\n",
+    ),
+    (
+        "a fresh range of 9,998",
+        "national.rs",
+        "pub const FRESH_RANGE: u32 = 9_999;",
+        "pub const FRESH_RANGE: u32 = 9_998;",
+    ),
+    // Request 2026-01: what stops.
+    (
+        "the legs tried after a forbidden limit",
+        "passes.rs",
+        "            let leg_net = prices.map(net);\n",
+        "            let leg_net = prices.map(net);\n            let whole = whole.filter(|price| self.bounds(active.strategy).allow_both(*price));\n",
+    ),
+    (
+        "the next limit tried after a forbidden one",
+        "passes.rs",
+        "let limits = self.opposite(active).map(|entry| entry.limit);",
+        "let bounds = self.bounds(active.strategy);\n        let limits = self.opposite(active).map(|entry| entry.limit);\n        let limits = limits.filter(|limit| bounds.allow_both(i64::from(*limit)));",
+    ),
+    (
+        "a day order cancelled where its pass stops",
+        "passes.rs",
+        "                count_stop(self, &active, &turn, records.len() > first);\n",
+        "                self.cancel_live(number, records);\n",
+    ),
+    (
+        "only the first turn of a pass tested",
+        "passes.rs",
+        "            if !allowed {\n",
+        "            if !allowed && records.len() == first {\n",
+    ),
+    (
+        "numbered passes not tested",
+        "passes.rs",
+        "            if !allowed {\n",
+        "            if !allowed && holders != Holders::Numbered {\n",
+    ),
+    (
+        "legs-only passes not tested",
+        "passes.rs",
+        "            if !allowed {\n",
+        "            if !allowed && holders != Holders::Nobody {\n",
+    ),
+    (
+        "the starter's pass not tested",
+        "passes.rs",
+        "            if !allowed {\n",
+        "            if !allowed && !(holders == Holders::Shared && self.auction_runs(active.strategy)) {\n",
+    ),
+    (
+        "a starter's pass that stops ends the others too",
+        "auctions.rs",
+        "        let meanwhile: Table<Entry, ENTRIES> = self\n",
+        "        let stopped = self.entry(auction.starter).is_some_and(|starter| {\n            let limit = i64::from(starter.limit);\n            self.entries_of(strategy).any(|entry| {\n                entry.side != starter.side\n                    && crate::passes::meets(starter.side, limit, i64::from(entry.limit))\n            })\n        });\n        if stopped {\n            return self.close_auction(strategy, records);\n        }\n        let meanwhile: Table<Entry, ENTRIES> = self\n",
+    ),
+    (
+        "an auction not begun where its order may not fill",
+        "events.rs",
+        "            && better()\n",
+        "            && better()\n            && self.bounds(order.strategy).allow(order.side, limit)\n",
+    ),
+    (
+        "the opening match not tested",
+        "events.rs",
+        "                    if !bounds.allow_both(price) {\n                        return;\n                    }\n",
+        "",
+    ),
+    (
+        "only the active party of an opening match bound",
+        "events.rs",
+        "if !bounds.allow_both(price) {",
+        "if !bounds.allow(active.side, price) {",
+    ),
+    (
+        "an opening match that stops ends the others too",
+        "events.rs",
+        "                    self.opening_match(strategy, records);\n",
+        "                    self.opening_match(strategy, records);\n                    let own = |side: u8| self.entries_of(strategy).filter(move |entry| entry.side == side);\n                    let sell = own(SELL).map(|entry| entry.limit).min();\n                    if sell.is_some() && own(BUY).map(|entry| entry.limit).max() >= sell {\n                        break;\n                    }\n",
+    ),
+    (
+        "an opening match that stops ends the legs-only passes too",
+        "events.rs",
+        "                    self.opening_match(strategy, records);\n",
+        "                    self.opening_match(strategy, records);\n                    let own = |side: u8| self.entries_of(strategy).filter(move |entry| entry.side == side);\n                    let sell = own(SELL).map(|entry| entry.limit).min();\n                    if sell.is_some() && own(BUY).map(|entry| entry.limit).max() >= sell {\n                        return;\n                    }\n",
+    ),
+    // Request 2026-01: kinds 9 and 10.
+    (
+        "a price of 0 that keeps the old one",
+        "national.rs",
+        "        self.prices[usize::from(series)] = [bid, offer];\n",
+        "        let old = self.prices[usize::from(series)];\n        let kept = |new: u32, old: u32| if new == 0 { old } else { new };\n        let (bid, offer) = (kept(bid, old[0]), kept(offer, old[1]));\n        self.prices[usize::from(series)] = [bid, offer];\n",
+    ),
+    (
+        "crossed prices accepted",
+        "events.rs",
+        "                if crossed(bid, offer) {\n",
+        "                if crossed(bid, offer) && bid > 99_999 {\n",
+    ),
+    (
+        "equal prices refused",
+        "national.rs",
+        "    bid > offer && offer != 0\n",
+        "    bid >= offer && offer != 0\n",
+    ),
+    (
+        "a missing offer crossed",
+        "national.rs",
+        "    bid > offer && offer != 0\n",
+        "    bid > offer\n",
+    ),
+    (
+        "14 checked before 3",
+        "events.rs",
+        "            Err(refusal) => causes.add(*refusal),\n",
+        "            Err(3) if frame[2] == 9 && crossed(u32::from_le_bytes([frame[5], frame[6], frame[7], frame[8]]), u32::from_le_bytes([frame[9], frame[10], frame[11], frame[12]])) => causes.add(14),\n            Err(refusal) => causes.add(*refusal),\n",
+    ),
+    (
+        "passes after national prices",
+        "events.rs",
+        "                self.national.set(series, bid, offer);\n",
+        "                self.national.set(series, bid, offer);\n                self.legs_only_passes(series, records);\n",
+    ),
+    (
+        "matches after a wider range",
+        "events.rs",
+        "                self.national.range = u32::from(cents);\n",
+        "                self.national.range = u32::from(cents);\n                for strategy in 0..self.strategies.len() as u8 {\n                    if self.all_open(strategy) && !self.auction_runs(strategy) {\n                        self.opening_match(strategy, records);\n                    }\n                }\n",
+    ),
+    (
+        "the range kept over the day end",
+        "events.rs",
+        "        *self = Book::fresh(timer);\n",
+        "        let range = self.national.range;\n        *self = Book::fresh(timer);\n        self.national.range = range;\n",
+    ),
+    (
+        "national prices kept over the day end",
+        "events.rs",
+        "        *self = Book::fresh(timer);\n",
+        "        let mut national = self.national.clone();\n        national.range = 9_999;\n        *self = Book::fresh(timer);\n        self.national = national;\n",
+    ),
 ];
 
 /// A part of the days that the proved tape is compared on.
@@ -336,6 +562,7 @@ fn days() -> Vec<Day> {
     days.extend(several_days(10));
     days.extend(any_frames(1));
     days.extend(extremes());
+    days.extend(national());
     days.extend(ends().into_iter().step_by(40));
     days.extend(every_number(1));
     days
@@ -362,5 +589,5 @@ fn slips_in_the_book_are_found() {
     }
     assert!(missed.is_empty(), "slips not found: {missed:#?}");
     println!("slips found: {}", SLIPS.len());
-    assert!(SLIPS.len() >= 50);
+    assert!(SLIPS.len() >= 85);
 }
