@@ -94,6 +94,14 @@ check "price: a leg order's fill" fails opening 's/^R 2 7 1 0 2 100$/R 2 7 1 0 2
     'day 1, number 7: filled at 101, above its limit 100' \
     'day 1, cash: paid 3301, but received 3299'
 check "it is seen in the table" in_table
+check "range: fills after a range that is refused" fails national-prices 's/^E 15 0 0 0$/E 15 3 0 0/' \
+    'day 1, number 6: filled at 210, above the national offer net 202 + range 2 = 204' \
+    'day 1, number 11: filled at 205, above the national offer net 198 + range 2 = 200'
+check "it is seen in the table" in_table
+check "national prices: a fill above the bound" fails national-prices 's/^R 1 5 0 0 2 205$/R 1 5 0 0 2 206/' \
+    'day 1, number 5: filled at 206, above the national offer net 202 + range 3 = 205' \
+    'day 1, cash: paid 3166, but received 3164'
+check "it is seen in the table" in_table
 check "paid: one price for each party" fails auction 's/^R 1 5 0 0 2 94$/R 1 5 0 0 2 93/' \
     'day 1, cash: paid 2673, but received 2675'
 check "it is seen in the table" in_table

@@ -14,9 +14,45 @@ static void check(const char *what, uint32_t answer, uint32_t wanted) {
     }
 }
 
+/* An event, and its frame: the one is written as the other, and read as it was. */
+static void both_ways(const char *what, const uint32_t *event, const uint8_t *frame,
+                      uint32_t length) {
+    uint8_t space[COMPLEX_BOOK_LONGEST];
+    uint32_t values[COMPLEX_BOOK_NUMBERS];
+
+    check(what, complex_book_write(event, COMPLEX_BOOK_NUMBERS, space, sizeof space), length);
+    check(what, memcmp(space, frame, length) == 0, 1);
+    check(what, complex_book_judge(frame, length), 0);
+    check(what, complex_book_judge(frame, length - 1), 2);
+    check(what, complex_book_read(frame, length, values, COMPLEX_BOOK_NUMBERS), 0);
+    check(what, memcmp(values, event, sizeof values) == 0, 1);
+}
+
+/* Kinds 9 and 10. That a national bid is above its offer is for the book to refuse. */
+static void national(void) {
+    const uint32_t prices[COMPLEX_BOOK_NUMBERS] = {COMPLEX_BOOK_NATIONAL_PRICES, 31, 295, 310};
+    const uint8_t prices_frame[13] = {13, 0, 9, 0, 31, 0x27, 1, 0, 0, 0x36, 1, 0, 0};
+    const uint32_t missing[COMPLEX_BOOK_NUMBERS] = {COMPLEX_BOOK_NATIONAL_PRICES, 0, 99999, 0};
+    const uint8_t missing_frame[13] = {13, 0, 9, 0, 0, 0x9f, 0x86, 1, 0, 0, 0, 0, 0};
+    const uint32_t crossed[COMPLEX_BOOK_NUMBERS] = {COMPLEX_BOOK_NATIONAL_PRICES, 0, 310, 295};
+    const uint8_t crossed_frame[13] = {13, 0, 9, 0, 0, 0x36, 1, 0, 0, 0x27, 1, 0, 0};
+    const uint32_t range[COMPLEX_BOOK_NUMBERS] = {COMPLEX_BOOK_EXECUTION_RANGE, 9999};
+    const uint8_t range_frame[6] = {6, 0, 10, 0, 0x0f, 0x27};
+    const uint32_t high[COMPLEX_BOOK_NUMBERS] = {COMPLEX_BOOK_EXECUTION_RANGE, 10000};
+    const uint32_t unknown[COMPLEX_BOOK_NUMBERS] = {11, 1};
+    uint8_t space[COMPLEX_BOOK_LONGEST];
+
+    both_ways("national prices", prices, prices_frame, 13);
+    both_ways("a missing national price", missing, missing_frame, 13);
+    both_ways("a national bid above its offer", crossed, crossed_frame, 13);
+    both_ways("execution range", range, range_frame, 6);
+    check("range 10,000", complex_book_write(high, COMPLEX_BOOK_NUMBERS, space, sizeof space), 3);
+    check("kind 11", complex_book_write(unknown, COMPLEX_BOOK_NUMBERS, space, sizeof space), 3);
+}
+
 int main(void) {
     /* a sweep: member 3 sells 10 of strategy 0 at -5 */
-    const uint32_t sweep[COMPLEX_BOOK_NUMBERS] = {3, 3, 0, 1, 10, 10000000 - 5};
+    const uint32_t sweep[COMPLEX_BOOK_NUMBERS] = {COMPLEX_BOOK_SWEEP, 3, 0, 1, 10, 10000000 - 5};
     const uint8_t frame[14] = {14, 0, 3, 0, 3, 0, 0, 1, 10, 0, 0xfb, 0xff, 0xff, 0xff};
     uint8_t space[COMPLEX_BOOK_LONGEST + 1];
     uint32_t values[COMPLEX_BOOK_NUMBERS + 1];
@@ -39,5 +75,6 @@ int main(void) {
     space[7] = 2; /* the side */
     check("judge, a side of 2", complex_book_judge(space, 14), 3);
     check("read, a side of 2", complex_book_read(space, 14, values, COMPLEX_BOOK_NUMBERS), 3);
+    national();
     return failures == 0 ? 0 : 1;
 }

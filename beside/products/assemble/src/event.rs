@@ -113,6 +113,14 @@ impl<'a> Words<'a> {
         }
     }
 
+    fn number_or(&mut self, field: Field, values: Values) -> Result<Said<'a>, String> {
+        let is = |(known, _): &(&str, u32)| self.rest.first() == Some(&known.as_bytes());
+        match values.iter().any(is) {
+            true => self.choice(field, values),
+            false => self.number(field),
+        }
+    }
+
     fn end(&self) -> Result<(), String> {
         match self.rest.first() {
             None => Ok(()),
@@ -149,6 +157,7 @@ fn fields_of<'a>(form: &Form, rest: &'a [&'a [u8]]) -> Result<Vec<Said<'a>>, Str
             Part::Word(word) => words.word(word)?,
             Part::Number(field) => list.push(words.number(*field)?),
             Part::Choice(field, values) => list.push(words.choice(*field, values)?),
+            Part::NumberOr(field, values) => list.push(words.number_or(*field, values)?),
         }
     }
     words.end()?;

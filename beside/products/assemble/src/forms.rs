@@ -13,9 +13,9 @@ pub struct Field {
 }
 
 impl Field {
-    /// "A price or limit is in cents".
+    /// "A price or limit is in cents"; so are the national prices.
     pub fn in_cents(&self) -> bool {
-        self.name == "price" || self.name == "limit"
+        ["price", "limit", "bid", "offer"].contains(&self.name)
     }
 }
 
@@ -47,8 +47,10 @@ pub enum Part {
     Number(Field),
     /// One of these words.
     Choice(Field, Values),
+    /// A whole number, or one of these words.
+    NumberOr(Field, Values),
 }
-use Part::{Choice, Number, Word};
+use Part::{Choice, Number, NumberOr, Word};
 
 /// A line of one event: its first word, its kind, its other parts in their
 /// order, and the values that the first word stands for.
@@ -67,6 +69,8 @@ const LIVES: Values = &[
     ("response", 2),
     ("do-not-auction", 3),
 ];
+/// A national price that is missing.
+const MISSING: Values = &[("none", 0)];
 
 /// The kind of a strategy. Its line is a list of legs, for which no `Form`
 /// stands.
@@ -170,6 +174,25 @@ pub const FORMS: &[Form] = &[
         parts: &[Word("timer"), Number(field("timer", 1))],
         fixed: &[],
     },
+    Form {
+        word: "national-prices",
+        kind: 9,
+        parts: &[
+            Word("series"),
+            Number(field("series", 1)),
+            Word("bid"),
+            NumberOr(field("bid", 2), MISSING),
+            Word("offer"),
+            NumberOr(field("offer", 3), MISSING),
+        ],
+        fixed: &[],
+    },
+    Form {
+        word: "execution-range",
+        kind: 10,
+        parts: &[Number(field("cents", 1))],
+        fixed: &[],
+    },
 ];
 
 impl Form {
@@ -180,6 +203,9 @@ impl Form {
             Word(word) => word.to_string(),
             Number(field) => field.name.to_uppercase(),
             Choice(_, values) => names(values).join("|"),
+            NumberOr(field, values) => {
+                format!("{}|{}", field.name.to_uppercase(), names(values).join("|"))
+            }
         }));
         words.join(" ")
     }
@@ -191,7 +217,7 @@ impl Form {
         for part in self.parts {
             match part {
                 Word(_) => {}
-                Number(field) | Choice(field, _) => row[field.place] = 1,
+                Number(field) | Choice(field, _) | NumberOr(field, _) => row[field.place] = 1,
             }
         }
         for (field, _) in self.fixed {

@@ -7,7 +7,8 @@
 use assemble::assemble;
 use assemble::codec::{read, write, Row};
 
-/// Each form, with its frame written by hand from document 01's table.
+/// Each form, with its frame written by hand from document 01's table, and from
+/// request 2026-01.
 const FRAMES: &[(&str, &[u8])] = &[
     ("open 0", &[6, 0, 6, 0, 0, 1]),
     ("open 31", &[6, 0, 6, 0, 31, 1]),
@@ -60,6 +61,25 @@ const FRAMES: &[(&str, &[u8])] = &[
     ),
     ("clock 86400000", &[8, 0, 7, 0, 0, 0x5c, 0x26, 5]),
     ("day-end timer 5000", &[6, 0, 8, 0, 0x88, 0x13]),
+    (
+        "national-prices series 3 bid 295 offer 310",
+        &[13, 0, 9, 0, 3, 0x27, 1, 0, 0, 0x36, 1, 0, 0],
+    ),
+    (
+        "national-prices series 31 bid none offer 99999",
+        &[13, 0, 9, 0, 31, 0, 0, 0, 0, 0x9f, 0x86, 1, 0],
+    ),
+    (
+        "national-prices series 0 bid 1 offer none",
+        &[13, 0, 9, 0, 0, 1, 0, 0, 0, 0, 0, 0, 0],
+    ),
+    // A bid above the offer is a frame; the book refuses it.
+    (
+        "national-prices series 0 bid 310 offer 295",
+        &[13, 0, 9, 0, 0, 0x36, 1, 0, 0, 0x27, 1, 0, 0],
+    ),
+    ("execution-range 25", &[6, 0, 10, 0, 25, 0]),
+    ("execution-range 9999", &[6, 0, 10, 0, 0x0f, 0x27]),
 ];
 
 #[test]
@@ -95,7 +115,8 @@ fn commas_stand_with_or_without_blanks() {
     }
 }
 
-/// Each number of each form as `@`, with its name and its range in document 01.
+/// Each number of each form as `@`, with its name and its range in document 01 or
+/// in request 2026-01.
 const RANGES: &[(&str, &str, i64, i64)] = &[
     ("open @", "series", 0, 31),
     ("shut @", "series", 0, 31),
@@ -181,6 +202,15 @@ const RANGES: &[(&str, &str, i64, i64)] = &[
     ("cancel member 1 number @", "number", 1, 100_000),
     ("clock @", "milliseconds", 0, 86_400_000),
     ("day-end timer @", "timer", 1, 5_000),
+    ("national-prices series @ bid 1 offer 2", "series", 0, 31),
+    ("national-prices series 0 bid @ offer 2", "bid", 0, 99_999),
+    (
+        "national-prices series 0 bid none offer @",
+        "offer",
+        0,
+        99_999,
+    ),
+    ("execution-range @", "cents", 0, 9_999),
 ];
 
 #[test]
@@ -309,6 +339,44 @@ const BAD: &[(&str, &str)] = &[
     ("clock 5s", "'5s' is no whole number for the milliseconds"),
     ("day-end 5000", "'5000' stands in the place of 'timer'"),
     ("day-end timer", "the line ends before the timer"),
+    (
+        "national-prices 0 bid 1 offer 2",
+        "'0' stands in the place of 'series'",
+    ),
+    (
+        "national-prices series none bid 1 offer 2",
+        "'none' is no whole number for the series",
+    ),
+    (
+        "national-prices series 0 offer 2 bid 1",
+        "'offer' stands in the place of 'bid'",
+    ),
+    (
+        "national-prices series 0 bid 1",
+        "the line ends before 'offer'",
+    ),
+    (
+        "national-prices series 0 bid 1 offer",
+        "the line ends before the offer",
+    ),
+    (
+        "national-prices series 0 bid 2.95 offer 310",
+        "'2.95' is no whole number of cents for the bid; the form is: national-prices series SERIES bid BID|none offer OFFER|none",
+    ),
+    (
+        "national-prices series 0 bid 295 offer None",
+        "'None' is no whole number of cents for the offer",
+    ),
+    (
+        "national-prices series 0 bid none offer none none",
+        "'none' stands after the end of the event",
+    ),
+    ("execution-range", "the line ends before the cents"),
+    (
+        "execution-range none",
+        "'none' is no whole number for the cents; the form is: execution-range CENTS",
+    ),
+    ("execution-range 25 cents", "'cents' stands after the end"),
 ];
 
 #[test]
@@ -383,7 +451,38 @@ fn line(row: &Row) -> String {
         5 => format!("cancel member {} number {}", row[1], row[2]),
         6 => format!("{} {}", ["shut", "open"][row[2] as usize], row[1]),
         7 => format!("clock {}", row[1]),
-        _ => format!("day-end timer {}", row[1]),
+        8 => format!("day-end timer {}", row[1]),
+        9 => format!(
+            "national-prices series {} bid {} offer {}",
+            row[1],
+            national(row[2]),
+            national(row[3])
+        ),
+        _ => format!("execution-range {}", row[1]),
+    }
+}
+
+fn national(price: u32) -> String {
+    match price {
+        0 => "none".to_string(),
+        _ => price.to_string(),
+    }
+}
+
+/// "0 meaning missing": the word and the number are one price.
+#[test]
+fn a_missing_national_price_is_none_or_0() {
+    for line in [
+        "national-prices series 7 bid @ offer 310",
+        "national-prices series 7 bid 295 offer @",
+        "national-prices series 7 bid @ offer @",
+    ] {
+        let with = |price: &str| assemble(line.replace('@', price).as_bytes());
+        let frame = with("none").expect("a line");
+        assert_eq!(frame.len(), 13, "{line}");
+        for price in ["0", "00", "-0"] {
+            assert_eq!(with(price), Ok(frame.clone()), "{line}");
+        }
     }
 }
 
@@ -398,11 +497,11 @@ fn random(state: &mut u64) -> u32 {
 #[test]
 fn what_is_read_from_a_frame_is_written_as_its_line_and_back() {
     let mut state = 1;
-    let mut counts = [0; 9];
+    let mut counts = [0; 11];
     while counts[1..].iter().any(|count| *count < 500) {
         // Any row; the writer says which are events.
         let mut row: Row = [0; 20];
-        row[0] = 1 + random(&mut state) % 8;
+        row[0] = 1 + random(&mut state) % 10;
         let legs = 2 + random(&mut state) as usize % 5;
         for number in &mut row[1..2 + 3 * legs] {
             *number = random(&mut state) >> (random(&mut state) % 31);

@@ -1,5 +1,7 @@
-//! The claims of "The totals after a list": what of them does not hold on a day.
+//! The claims of "The totals after a list" and of request 2026-01: what of them does
+//! not hold on a day.
 
+use crate::national::Bounded;
 use crate::totals::{Entry, Totals};
 
 /// Says what does not hold, in the order of the tables.
@@ -11,6 +13,7 @@ pub fn check(totals: &Totals, fails: &mut impl FnMut(String)) {
     for entry in totals.entries() {
         check_limit(&entry, fails);
     }
+    check_bounded(totals, fails);
     for entry in totals.entries() {
         check_legs(totals, &entry, fails);
     }
@@ -75,6 +78,29 @@ fn check_limit(entry: &Entry, fails: &mut impl FnMut(String)) {
         "number {}: filled at {worst}, {than} its limit {}",
         entry.number, entry.terms.limit
     ));
+}
+
+fn check_bounded(totals: &Totals, fails: &mut impl FnMut(String)) {
+    for (number, fills) in totals.bounded() {
+        let Bounded {
+            side,
+            price,
+            net,
+            range,
+        } = fills.worst;
+        if !fills.worst.holds() {
+            fails(match side {
+                0 => format!(
+                    "number {number}: filled at {price}, above the national offer net {net} + range {range} = {}",
+                    net + range
+                ),
+                _ => format!(
+                    "number {number}: filled at {price}, below the national bid net {net} - range {range} = {}",
+                    net - range
+                ),
+            });
+        }
+    }
 }
 
 fn check_legs(totals: &Totals, entry: &Entry, fails: &mut impl FnMut(String)) {

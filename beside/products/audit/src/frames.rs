@@ -133,19 +133,37 @@ pub struct Terms {
     pub limit: i64,
 }
 
-/// A leg of a strategy: its series and its ratio in lowest terms.
+impl Terms {
+    /// None of a leg order.
+    pub fn strategy(&self) -> Option<i64> {
+        match self.what {
+            What::ComplexOrder { strategy } | What::Sweep { strategy } => Some(strategy.into()),
+            What::LegOrder { .. } => None,
+        }
+    }
+}
+
+/// A leg of a strategy: its series, its side and its ratio in lowest terms.
 #[derive(Clone, Copy, Debug, PartialEq, Eq, PartialOrd, Ord)]
 pub struct Leg {
     pub series: i64,
+    pub side: i64,
     pub ratio: i64,
 }
 
-/// What of an event the totals speak of.
+/// What of an event the claims speak of.
 #[derive(Clone, Debug, PartialEq, Eq)]
 pub enum Event {
     Strategy(Vec<Leg>),
     Entry(Terms),
     DayEnd,
+    /// Bid and offer of a series; 0 is a missing one.
+    National {
+        series: u32,
+        prices: [u32; 2],
+    },
+    /// The execution range.
+    Range(u32),
     Other,
     Refused(u32),
 }
@@ -170,6 +188,7 @@ fn legs(row: &Row) -> Vec<Leg> {
     let mut legs: Vec<Leg> = (given.iter())
         .map(|leg| Leg {
             series: i64::from(leg[0]),
+            side: i64::from(leg[1]),
             ratio: i64::from(leg[2] / common),
         })
         .collect();
@@ -207,6 +226,11 @@ pub fn event(part: Part) -> Event {
         }
         4 => entry(What::LegOrder { series: row[2] }, 4, i64::from(row[5])),
         8 => Event::DayEnd,
+        9 => Event::National {
+            series: row[1],
+            prices: [row[2], row[3]],
+        },
+        10 => Event::Range(row[1]),
         _ => Event::Other,
     }
 }

@@ -1,5 +1,6 @@
-//! Document 01, "The totals after a list", seen on one list: its frames, and the
-//! lines that the program `tape` prints for them, are all that is read. Frames
+//! Document 01, "The totals after a list", and request 2026-01, "each fill […] keeps
+//! to the range and prices known when it was made", seen on one list: its frames, and
+//! the lines that the program `tape` prints for them, are all that is read. Frames
 //! are read by the proved reader. There is no book here.
 //!
 //! What is live comes from a second play of the same frames with a day end after
@@ -16,6 +17,7 @@ pub mod day;
 pub mod failures;
 pub mod frames;
 pub mod lines;
+pub mod national;
 pub mod plays;
 pub mod report;
 pub mod stop;

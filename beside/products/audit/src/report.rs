@@ -7,7 +7,7 @@ use crate::failures::Failures;
 use crate::frames::What;
 use crate::table::Column::{self, Number, Word};
 use crate::table::Table;
-use crate::totals::{Entry, Totals};
+use crate::totals::{BoundedFills, Totals};
 use std::io::{self, Write};
 
 pub struct Report<'a, W> {
@@ -19,8 +19,8 @@ fn said(holds: bool) -> String {
     if holds { "holds" } else { "FAILS" }.to_string()
 }
 
-fn side(entry: &Entry) -> String {
-    match entry.terms.side {
+fn side(side: i64) -> String {
+    match side {
         0 => "buy".to_string(),
         _ => "sell".to_string(),
     }
@@ -59,7 +59,7 @@ fn numbers(totals: &Totals) -> impl Iterator<Item = [String; 11]> + '_ {
             what.to_string(),
             entry.terms.member.to_string(),
             place,
-            side(&entry),
+            side(entry.terms.side.into()),
             entry.terms.limit.to_string(),
             entry.terms.quantity.to_string(),
             entry.filled.to_string(),
@@ -83,13 +83,41 @@ fn worst_fills(totals: &Totals) -> impl Iterator<Item = [String; 6]> + '_ {
     totals.entries().filter_map(|entry| {
         Some([
             entry.number.to_string(),
-            side(&entry),
+            side(entry.terms.side.into()),
             entry.terms.limit.to_string(),
             entry.worst?.to_string(),
             entry.better()?.to_string(),
             said(entry.limit_holds()),
         ])
     })
+}
+
+const BOUNDED: [Column; 8] = [
+    Number("number"),
+    Word("side"),
+    Number("bounded fills"),
+    Number("worst fill"),
+    Number("national net"),
+    Number("range"),
+    Number("better by"),
+    Word(""),
+];
+
+fn bounded(totals: &Totals) -> impl Iterator<Item = [String; 8]> + '_ {
+    totals
+        .bounded()
+        .map(|(number, BoundedFills { count, worst })| {
+            [
+                number.to_string(),
+                side(worst.side),
+                count.to_string(),
+                worst.price.to_string(),
+                worst.net.to_string(),
+                worst.range.to_string(),
+                worst.better().to_string(),
+                said(worst.holds()),
+            ]
+        })
 }
 
 const LEGS: [Column; 8] = [
@@ -202,6 +230,12 @@ impl<W: Write> Report<'_, W> {
             "no number has a fill",
             WORST_FILLS,
             || worst_fills(totals),
+        )?;
+        self.section(
+            "Each number with a fill that a national net bounds: its worst against net and range, in cents",
+            "no national net bounds a fill",
+            BOUNDED,
+            || bounded(totals),
         )?;
         self.section(
             "Each leg of a complex order or sweep with a fill: contracts = ratio x units",

@@ -1,9 +1,11 @@
-//! The sums of "The totals after a list", for one day. They are added up record
-//! by record and held by number, never by event. Records may come in any order:
-//! a number's records count, too, if they come before it enters.
+//! The sums of "The totals after a list", for one day, and the fills that national
+//! nets bound. They are added up record by record and held by number, never by
+//! event. Records may come in any order: a number's records count, too, if they come
+//! before it enters.
 
-use crate::frames::{Leg, Terms, What};
+use crate::frames::{Event, Leg, Terms, What};
 use crate::lines::Record;
+use crate::national::{Bounded, National};
 use std::collections::btree_map::Entry as Slot;
 use std::collections::BTreeMap;
 
@@ -69,6 +71,14 @@ pub struct Other {
     pub live: i128,
 }
 
+/// The records 1 of a number that a national net bounds.
+#[derive(Clone, Copy, Debug, PartialEq, Eq)]
+pub struct BoundedFills {
+    pub count: u64,
+    /// The one that is better than its bound by the least.
+    pub worst: Bounded,
+}
+
 /// The records of one number and kind.
 #[derive(Clone, Copy, Debug, Default, PartialEq, Eq)]
 struct Fills {
@@ -104,14 +114,14 @@ pub struct Totals {
     contracts: BTreeMap<(i64, i64), i128>,
     series: BTreeMap<i64, Traded>,
     whole_cash: Cash,
+    /// The national prices and the range that are known so far.
+    national: National,
+    bounded: BTreeMap<i64, BoundedFills>,
 }
 
 impl Entry {
     pub fn strategy(&self) -> Option<i64> {
-        match self.terms.what {
-            What::ComplexOrder { strategy } | What::Sweep { strategy } => Some(strategy.into()),
-            What::LegOrder { .. } => None,
-        }
+        self.terms.strategy()
     }
 
     pub fn sum_holds(&self) -> bool {
@@ -243,6 +253,7 @@ impl Totals {
             WHOLE_FILL => {
                 own.whole_fills.add(record);
                 self.whole_cash.add(record);
+                self.add_bounded(record);
             }
             LEG_FILL => {
                 own.leg_fills.add(record);
@@ -252,6 +263,44 @@ impl Totals {
             _ => own.cancelled += i128::from(record.quantity),
         }
         Ok(())
+    }
+
+    /// An accepted event, after its records: it may set what bounds later ones.
+    pub fn apply(&mut self, event: &Event) {
+        self.national.apply(event);
+    }
+
+    /// "each fill of a complex order or sweep keeps to the range and prices known
+    /// when it was made". A strategy that no event has answered yet has no net. There
+    /// is room, as each number here has records.
+    fn add_bounded(&mut self, record: &Record) {
+        let parties = self.parties(record);
+        let rows = parties.iter().flat_map(|(strategy, side)| {
+            let rows = self.strategies.get(strategy).into_iter().flatten();
+            rows.filter_map(|legs| self.national.bounded(legs, *side, record.price))
+        });
+        let Some(worst) = rows.min_by_key(Bounded::better) else {
+            return;
+        };
+        let fills = self.bounded.entry(record.number);
+        let fills = fills.or_insert(BoundedFills { count: 0, worst });
+        fills.count += 1;
+        if worst.better() < fills.worst.better() {
+            fills.worst = worst;
+        }
+    }
+
+    /// The strategy and side of a record 1: those of the complex order or sweep that
+    /// entered with its number, or its own where the number has not entered.
+    fn parties(&self, record: &Record) -> Vec<(i64, i64)> {
+        let number = record.number;
+        if !self.has_entered(number) {
+            return vec![(record.place, record.side)];
+        }
+        let entered = self.entered.range((number, 0)..=(number, usize::MAX));
+        entered
+            .filter_map(|(_, terms)| Some((terms.strategy()?, terms.side.into())))
+            .collect()
     }
 
     fn add_contracts(&mut self, record: &Record) -> Result<(), String> {
@@ -355,6 +404,11 @@ impl Totals {
             records: own.records,
             live: own.live,
         })
+    }
+
+    /// The fills that a national net bounds, by number.
+    pub fn bounded(&self) -> impl Iterator<Item = (i64, BoundedFills)> + '_ {
+        (self.bounded.iter()).map(|(number, fills)| (*number, *fills))
     }
 
     pub fn series(&self) -> impl Iterator<Item = (i64, Traded)> + '_ {

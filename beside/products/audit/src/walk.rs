@@ -69,10 +69,13 @@ impl<F: Read, L: BufRead, E: BufRead, W: Write> Walk<'_, F, L, E, W> {
         }
         self.day.ended = accepted && turn.event == Event::DayEnd;
         if accepted {
-            let added = self.add_event(turn);
+            let added = self.add_event(&turn);
             added.map_err(|said| self.plays.wrong_line(&said))?;
         }
         self.add_records()?;
+        if accepted {
+            self.day.totals.apply(&turn.event);
+        }
         if self.plays.first_difference() {
             self.fails("played twice, it differs");
         }
@@ -87,11 +90,11 @@ impl<F: Read, L: BufRead, E: BufRead, W: Write> Walk<'_, F, L, E, W> {
         self.report.fails(&self.day, &failure);
     }
 
-    fn add_event(&mut self, turn: Turn) -> Result<(), String> {
+    fn add_event(&mut self, turn: &Turn) -> Result<(), String> {
         let value = turn.answer.value;
-        match turn.event {
-            Event::Entry(terms) if value != 0 => self.day.totals.enter(value, terms),
-            Event::Strategy(legs) => self.day.totals.define(value, legs),
+        match &turn.event {
+            Event::Entry(terms) if value != 0 => self.day.totals.enter(value, *terms),
+            Event::Strategy(legs) => self.day.totals.define(value, legs.clone()),
             _ => Ok(()),
         }
     }

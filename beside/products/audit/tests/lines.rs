@@ -317,21 +317,35 @@ fn events_are_read_with_their_terms() {
         read("leg-order member 7 buy 8 of series 31 at 99999"),
         terms(What::LegOrder { series: 31 }, 7, 0, 8, 99_999)
     );
-    let leg = |series, ratio| Leg { series, ratio };
+    let leg = |series, side, ratio| Leg {
+        series,
+        side,
+        ratio,
+    };
     assert_eq!(
         read("strategy 9 buy 12, 3 sell 8, 5 buy 4"),
-        Event::Strategy(vec![leg(3, 2), leg(5, 1), leg(9, 3)])
+        Event::Strategy(vec![leg(3, 1, 2), leg(5, 0, 1), leg(9, 0, 3)])
     );
     assert_eq!(
         read("strategy 0 buy 2, 1 sell 6"),
-        Event::Strategy(vec![leg(0, 1), leg(1, 3)])
+        Event::Strategy(vec![leg(0, 0, 1), leg(1, 1, 3)])
     );
     assert_eq!(read("day-end timer 1"), Event::DayEnd);
+    assert_eq!(
+        read("national-prices series 31 bid 99999 offer none"),
+        Event::National {
+            series: 31,
+            prices: [99_999, 0]
+        }
+    );
+    assert_eq!(read("execution-range 25"), Event::Range(25));
     for line in ["open 0", "cancel member 1 number 1", "clock 0"] {
         assert_eq!(read(line), Event::Other);
     }
     assert_eq!(read("bytes 06 00 06 00 20 01"), Event::Refused(3));
+    assert_eq!(read("bytes 04 00 0b 00"), Event::Refused(2));
     assert_eq!(read("bytes 04 00 09 00"), Event::Refused(2));
+    assert_eq!(read("bytes 06 00 0a 00 10 27"), Event::Refused(3));
     assert_eq!(event(Part::Stop), Event::Refused(2));
 }
 

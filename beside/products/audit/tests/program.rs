@@ -165,8 +165,8 @@ fn a_stop_beside_something_wrong() {
 #[test]
 fn a_stop_at_the_end_leaves_the_status_0() {
     let [day, lines, printed] = REFUSALS;
-    let (before, _) = lines.split_once("E 40 ").expect("the last event");
-    let end = "E 40 0 0 4\nR 5 3 0 0 0 0\nR 3 1 0 0 5 0\nR 3 2 0 1 15 0\nR 3 3 0 0 3 0\n";
+    let (before, _) = lines.split_once("E 42 ").expect("the last event");
+    let end = "E 42 0 0 4\nR 5 3 0 0 0 0\nR 3 1 0 0 5 0\nR 3 2 0 1 15 0\nR 3 3 0 0 3 0\n";
     let words = files("refusals", day, lines, &format!("{before}{end}"));
     let at = fs::metadata(&words[0]).expect("a file").len() - 5;
     let said = format!("audit: tape stopped at byte {at} of the frames, whose length field is 6 (past the end of the input); nothing stands after it\n");

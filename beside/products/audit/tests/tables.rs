@@ -223,6 +223,82 @@ impl Day {
         self.entered().iter().filter_map(row).collect()
     }
 
+    /// The national net that bounds a side in the strategy; none where a price of it
+    /// is missing, or no event up to this one answered the strategy.
+    fn national_net(
+        &self,
+        prices: &[[i64; 2]; 32],
+        strategy: i64,
+        side: i64,
+        at: usize,
+    ) -> Option<i64> {
+        let answered = |logged: &&Logged| logged.kind == 1 && logged.value == strategy;
+        let fields = self.log[..=at].iter().find(answered)?.fields;
+        let ratios = self.legs(strategy);
+        let given = fields[1..].chunks(3).take(ratios.len());
+        let nets: Vec<(i64, i64)> = given
+            .zip(ratios)
+            .map(|(leg, (series, ratio))| {
+                let [bid, offer] = prices[series as usize];
+                // A buy of a buy leg and a sell of a sell leg pay the offer.
+                let price = if (leg[1] + side) % 2 == 0 { offer } else { bid };
+                (price, price * ratio * (1 - 2 * leg[1]))
+            })
+            .collect();
+        let known = nets.iter().all(|(price, _)| *price > 0);
+        known.then(|| nets.iter().map(|(_, net)| net).sum())
+    }
+
+    /// Number, side, price, net, range and how much better of each bounded fill.
+    fn bounded_fills(&self) -> Vec<[i64; 6]> {
+        let (mut prices, mut range) = ([[0; 2]; 32], 9_999);
+        let mut entered: Vec<Entered> = Vec::new();
+        let mut list = Vec::new();
+        for (at, logged) in self.log.iter().enumerate() {
+            entered.extend(Entered::of(logged));
+            for fill in logged.records.iter().filter(|record| record[0] == 1) {
+                let [_, number, place, side, _, price] = *fill;
+                let (place, side) = match entered.iter().find(|one| one.number == number) {
+                    Some(own) if own.kind == 4 => continue,
+                    Some(own) => (own.place, own.side),
+                    None if side == 0 || side == 1 => (place, side),
+                    None => continue,
+                };
+                if let Some(net) = self.national_net(&prices, place, side, at) {
+                    let sign = 1 - 2 * side;
+                    let better = sign * net + range - sign * price;
+                    list.push([number, side, price, net, range, better]);
+                }
+            }
+            match logged.kind {
+                9 => {
+                    let [series, bid, offer, ..] = logged.fields;
+                    prices[series as usize] = [bid, offer];
+                }
+                10 => range = logged.fields[0],
+                _ => {}
+            }
+        }
+        list
+    }
+
+    fn bounded(&self) -> Vec<String> {
+        let fills = self.bounded_fills();
+        let numbers: BTreeSet<i64> = fills.iter().map(|fill| fill[0]).collect();
+        let row = |number: i64| {
+            let own: Vec<&[i64; 6]> = fills.iter().filter(|fill| fill[0] == number).collect();
+            let worst = own.iter().min_by_key(|fill| fill[5]).expect("a fill");
+            let [_, side, price, net, range, better] = **worst;
+            format!(
+                "{number} {} {} {price} {net} {range} {better} {}",
+                ["buy", "sell"][side as usize],
+                own.len(),
+                said(better >= 0)
+            )
+        };
+        numbers.into_iter().map(row).collect()
+    }
+
     fn on_legs(&self) -> Vec<String> {
         let mut rows = Vec::new();
         for entered in self.entered().iter().filter(|entered| entered.kind != 4) {
@@ -326,6 +402,12 @@ impl Day {
                 self.worst_fills(),
             ),
             (
+                "Each number with a fill that a national net bounds: its worst against net and range, in cents",
+                "number side bounded fills worst fill national net range better by",
+                "no national net bounds a fill",
+                self.bounded(),
+            ),
+            (
                 "Each leg of a complex order or sweep with a fill: contracts = ratio x units",
                 "number strategy units series ratio ratio x units contracts",
                 "no complex order or sweep has a fill",
@@ -358,6 +440,12 @@ fn played(input: &[u8]) -> Vec<String> {
     tape(input, &mut printed).expect("a Vec takes every line");
     let text = String::from_utf8(printed).expect("text");
     text.lines().map(str::to_string).collect()
+}
+
+/// How many numbers have a fill that a national net bounds.
+fn bounded(input: &[u8], lines: &[String], ended: &[String]) -> usize {
+    let days = days(input, lines, ended);
+    days.iter().map(|day| day.bounded().len()).sum()
 }
 
 /// Compares what is printed with the sums, and answers how many failures there
@@ -393,12 +481,15 @@ fn with_end(input: &[u8]) -> Vec<u8> {
 
 #[test]
 fn the_tables_of_generated_days() {
+    let mut numbers = 0;
     for seed in 1..=48 {
         let input = stream(seed, 250);
         let (lines, ended) = (played(&input), played(&with_end(&input)));
         let failures = compared(&input, &lines, &ended, &format!("seed {seed}"));
         assert_eq!(failures, 0);
+        numbers += bounded(&input, &lines, &ended);
     }
+    assert!(numbers > 100, "{numbers}");
 }
 
 /// Another value in a field of a record 1, 2 or 3.
@@ -441,4 +532,40 @@ fn the_tables_of_lines_that_were_tampered_with() {
         failures += compared(&input, &first, &ended, &format!("seed {seed}"));
     }
     assert!(failures > 500, "{failures}");
+}
+
+/// The frames with other bids in kind 9 and other ranges in kind 10.
+fn with_other_prices(input: &[u8], random: &mut Random) -> Vec<u8> {
+    let mut bytes = input.to_vec();
+    let mut rest = &mut bytes[..];
+    while rest.len() >= 4 {
+        let length = usize::from(rest[0]) + 256 * usize::from(rest[1]);
+        if length < 4 || length > rest.len() {
+            break;
+        }
+        let (frame, after) = rest.split_at_mut(length);
+        match (frame[2], length) {
+            // The highest price, 99,999, ends in four ones: none leaves its range.
+            (9, 13) => frame[5] ^= random.below(16) as u8,
+            (10, 6) => frame[4..].copy_from_slice(&[random.below(8) as u8, 0]),
+            _ => {}
+        }
+        rest = after;
+    }
+    bytes
+}
+
+/// The same lines for frames with other national prices: fills that were between
+/// their bounds no longer are, and nothing else fails.
+#[test]
+fn the_tables_where_national_prices_are_others() {
+    let mut random = Random::new(13);
+    let mut failures = 0;
+    for seed in 1..=48 {
+        let input = stream(seed, 250);
+        let (lines, ended) = (played(&input), played(&with_end(&input)));
+        let others = with_other_prices(&input, &mut random);
+        failures += compared(&others, &lines, &ended, &format!("seed {seed}"));
+    }
+    assert!(failures > 50, "{failures}");
 }

@@ -15,6 +15,8 @@ pub const KINDS: &[(u32, &str)] = &[
     (6, "series"),
     (7, "clock"),
     (8, "day end"),
+    (9, "national prices"),
+    (10, "execution range"),
 ];
 
 /// The kinds that other modules speak of.
@@ -69,7 +71,7 @@ impl Event {
         Some(i64::from(row[field.place]) - field.more)
     }
 
-    /// The same as a word where the field is a choice of words.
+    /// The same as a word where the field has words for its values.
     pub fn word(&self, name: &str) -> Option<String> {
         let row = self.row()?;
         let (field, words) = field(row[0], name)?;
@@ -107,7 +109,9 @@ impl Event {
         words.extend(form.parts.iter().map(|part| match part {
             FormPart::Word(word) => word.to_string(),
             FormPart::Number(field) => (i64::from(row[field.place]) - field.more).to_string(),
-            FormPart::Choice(field, values) => word(values, row[field.place]),
+            FormPart::Choice(field, values) | FormPart::NumberOr(field, values) => {
+                word(values, row[field.place])
+            }
         }));
         Some(words.join(" "))
     }
@@ -138,6 +142,8 @@ fn fields(form: &Form) -> impl Iterator<Item = (Field, Values)> + '_ {
     form.parts.iter().filter_map(|part| match part {
         FormPart::Word(_) => None,
         FormPart::Number(field) => Some((*field, &[][..])),
-        FormPart::Choice(field, values) => Some((*field, *values)),
+        FormPart::Choice(field, values) | FormPart::NumberOr(field, values) => {
+            Some((*field, *values))
+        }
     })
 }

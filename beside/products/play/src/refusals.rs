@@ -1,5 +1,5 @@
-//! The causes of refusals in words: those of document 01's table, said for the
-//! event at hand where its fields are known.
+//! The causes of refusals in words: those of document 01's table and of request
+//! 2026-01, said for the event at hand where its fields are known.
 
 use crate::event::{kind_name, Event};
 use assemble::framing::Why;
@@ -116,6 +116,12 @@ const CAUSES: &[(i64, Of, &str)] = &[
     (12, Kinds(&[4]), "the table of leg orders is full"),
     (12, All, "the table needed is full"),
     (13, All, "a new order number is due and 100,000 were given"),
+    (
+        14,
+        Kinds(&[9]),
+        "the national bid of series {series}, {bid}, is above its national offer, {offer}",
+    ),
+    (14, All, "a national bid above a national offer, neither 0"),
 ];
 
 /// The cause of a refusal of this event.
@@ -141,7 +147,7 @@ fn is_of(of: &Of, event: &Event) -> bool {
 }
 
 /// The words with each name's value in its place, if all are known.
-fn filled(words: &str, event: &Event) -> Option<String> {
+pub fn filled(words: &str, event: &Event) -> Option<String> {
     let mut text = String::new();
     for (index, part) in words.split(['{', '}']).enumerate() {
         // Every second part is a name.

@@ -18,7 +18,7 @@ const CAUSES: &[(&str, i64, &str)] = &[
         "its length field is 255, past the end of the input",
     ),
     ("bytes 04", 2, "it is a lone last byte"),
-    ("bytes 04 00 09 00", 2, "kind 9 is unknown"),
+    ("bytes 04 00 0b 00", 2, "kind 11 is unknown"),
     ("bytes 04 00 00 01", 2, "kind 256 is unknown"),
     (
         "bytes 05 00 06 00 00",
@@ -31,11 +31,31 @@ const CAUSES: &[(&str, i64, &str)] = &[
         "4 bytes are a wrong length for kind 1, strategy",
     ),
     (
+        "bytes 04 00 09 00",
+        2,
+        "4 bytes are a wrong length for kind 9, national prices",
+    ),
+    (
+        "bytes 0e 00 09 00 00*10",
+        2,
+        "14 bytes are a wrong length for kind 9, national prices",
+    ),
+    (
+        "bytes 0d 00 0a 00 00*9",
+        2,
+        "13 bytes are a wrong length for kind 10, execution range",
+    ),
+    (
         "bytes 06 00 06 00 20 01",
         3,
         "a field of this frame of kind 6, series, is outside its range",
     ),
-    ("bytes 04 00 09 00", 3, "a field is outside its range"),
+    (
+        "bytes 06 00 0a 00 10 27",
+        3,
+        "a field of this frame of kind 10, execution range, is outside its range",
+    ),
+    ("bytes 04 00 0b 00", 3, "a field is outside its range"),
     (
         "complex-order member 1 customer buy 1 of strategy 3 day at 5",
         4,
@@ -134,7 +154,22 @@ const CAUSES: &[(&str, i64, &str)] = &[
         13,
         "a new order number is due and 100,000 were given",
     ),
-    ("clock 1", 14, "no cause is known for this number"),
+    (
+        "national-prices series 7 bid 310 offer 295",
+        14,
+        "the national bid of series 7, 310, is above its national offer, 295",
+    ),
+    (
+        "bytes 0d 00 09 00 1f 9f 86 01 00 01 00 00 00",
+        14,
+        "the national bid of series 31, 99999, is above its national offer, 1",
+    ),
+    (
+        "clock 1",
+        14,
+        "a national bid above a national offer, neither 0",
+    ),
+    ("clock 1", 15, "no cause is known for this number"),
     ("clock 1", -1, "no cause is known for this number"),
 ];
 
@@ -149,7 +184,7 @@ fn each_refusal_has_its_words() {
         assert!(told.ends_with(&format!(": {said}")), "{line}: {told}");
         assert_eq!(reader::lines(&words), Ok(lines.into_bytes()), "{line}");
     }
-    for refusal in 1..=13 {
+    for refusal in 1..=14 {
         assert!(CAUSES.iter().any(|(_, known, _)| *known == refusal));
     }
 }

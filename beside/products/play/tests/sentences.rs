@@ -251,6 +251,61 @@ totals of day 1, events 0 to 3
     );
 }
 
+/// What kinds 9 and 10 set is said where they are accepted.
+#[test]
+fn national_prices_and_the_execution_range() {
+    tells(
+        "\
+national-prices series 0 bid 295 offer 310
+national-prices series 31 bid none offer 0
+execution-range 25
+bytes 0d 00 09 00 07 01 00 00 00 00 00 00 00 06 00 0a 00 0f 27
+national-prices series 0 bid 310 offer 295
+execution-range 0
+",
+        "E 0 0 0 0\nE 1 0 0 0\nE 2 0 0 0\nE 3 0 0 0\nE 4 0 0 0\nE 5 14 0 0\nE 6 0 4 1\n",
+        "\
+line 1: national-prices series 0 bid 295 offer 310
+  event 0: accepted, national prices of series 0: bid 295, offer 310
+line 2: national-prices series 31 bid none offer 0
+  event 1: accepted, national prices of series 31: bid none, offer none
+line 3: execution-range 25
+  event 2: accepted, execution range 25
+line 4: bytes 0d 00 09 00 07 01 00 00 00 00 00 00 00 06 00 0a 00 0f 27
+  event 3 (national-prices series 7 bid 1 offer none): accepted, national prices of series 7: bid 1, offer none
+line 4, from its byte 14 on
+  event 4 (execution-range 9999): accepted, execution range 9999
+line 5: national-prices series 0 bid 310 offer 295
+  event 5: refused 14, the national bid of series 0, 310, is above its national offer, 295
+line 6: execution-range 0
+  event 6: accepted, execution range 0; value 4; counts 1 records
+totals of day 1, events 0 to 6
+  6 events accepted, 1 refused: 1 with 14
+  no auctions
+  no fills
+  no cancels
+  cash in cents: 0 paid, 0 received
+  nothing is live
+",
+    );
+    // A frame that cannot be read says nothing that is set.
+    tells(
+        "bytes 04 00 09 00",
+        "E 0 0 0 0\n",
+        "\
+line 1: bytes 04 00 09 00
+  event 0: accepted
+totals of day 1, event 0
+  1 event accepted, none refused
+  no auctions
+  no fills
+  no cancels
+  cash in cents: 0 paid, 0 received
+  nothing is live
+",
+    );
+}
+
 #[test]
 fn numbers_begin_anew_after_a_day_end() {
     tells(

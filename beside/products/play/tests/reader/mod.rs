@@ -236,6 +236,25 @@ struct Event {
     records: Vec<Record>,
 }
 
+/// What national prices are set, after ", national ".
+fn national(rest: &mut Rest) -> Option<()> {
+    rest.text("prices of series ")?;
+    rest.number()?;
+    for side in [": bid ", ", offer "] {
+        rest.text(side)?;
+        if rest.text("none").is_none() {
+            rest.number()?;
+        }
+    }
+    Some(())
+}
+
+/// What range is set, after ", execution ".
+fn range(rest: &mut Rest) -> Option<()> {
+    rest.text("range ")?;
+    rest.number().map(|_| ())
+}
+
 fn event(sentence: &str) -> Option<Event> {
     let mut rest = Rest(sentence);
     rest.text("event ")?;
@@ -249,8 +268,11 @@ fn event(sentence: &str) -> Option<Event> {
     let mut value = 0;
     let answer = match first.one_of(&["accepted", "refused "])? {
         0 => {
-            if first.one_of(&[", number ", ", strategy "]).is_some() {
-                value = first.number()?;
+            match first.one_of(&[", number ", ", strategy ", ", national ", ", execution "]) {
+                None => {}
+                Some(0 | 1) => value = first.number()?,
+                Some(2) => national(&mut first)?,
+                Some(_) => range(&mut first)?,
             }
             first.end()?;
             0
