@@ -34,10 +34,10 @@ use Rattle.rules.specs.Given.{strategyGiven, orderGiven, sweepGiven, legOrderGi
 use Rattle.rules.specs.Refusals.{firstCause, causes, illFormed, strategiesFull}
 use Rattle.rules.specs.Step.{valueOf, accept}
 use Rattle.rules.specs.Fits.{FitOrderGiven, FitSweepGiven, FitLegOrderGiven}
-use Rattle.rules.specs.Valid.{FitEntry, FitOrder, Valid}
+use Rattle.rules.specs.Valid.{FitEntry, FitOrder, Priced, Valid}
 use Rattle.rules.proofs.Entering.{enterOrder-room, live-pos}
 use Rattle.rules.proofs.Validity.{order-clear, sweep-clear, legOrder-clear}
-use Rattle.ranges.specs.Fit.{Fit, Priced, fit-sound}
+use Rattle.ranges.specs.Fit.{Fit, fit-sound}
 use Rattle.records.specs.Space.{Room}
 use Rattle.records.specs.Done.{Done}
 use Rattle.sweeps.specs.Sweeps.{MayEnter}

@@ -30,6 +30,8 @@ use Rattle.records.specs.Done.{Done}
 use Rattle.fills.specs.Fills.{withEntry, cancel-room, cancel-stores}
 use Rattle.auctions.specs.Auctions.{answersIn, answer-by, auctioned, put-is}
 use Rattle.entries.specs.Entered.{entered, entered-is}
+use Rattle.nets.specs.declared.LegBests.{LegBests}
+use Rattle.nets.specs.Legs.{legBests, netWhere, net-where}
 use Rattle.passes.specs.Passes.{stopsAt, oppositeIn, netIn, pass-still}
 use Rattle.complex_orders.specs.declared.Arrival.{Arrival}
 use Rattle.complex_orders.specs.declared.Arrival.the-variants as A
@@ -68,6 +70,12 @@ does i b A.Starts = begin i b
 does i b A.Passes = trades i b
 
 -- laws
+
+-- whether its pass does nothing, by what is met on the legs
+pub idle-found : (e : Entry) (s : Strategy) (es : List Entry) (os : List LegOrder) {p : LegBests} {net : ℕ} {r : Bool} → p ≡ legBests os (e .side) s → net ≡ netWhere p
+    → r ≡ stopsAt (turnAt e (oppositeIn Shared es e) net) → r ≡ idleIn e s es os
+unfolding netIn pick
+idle-found e s es os f g h = h ∙ ap (λ (n : ℕ). stopsAt (turnAt e (oppositeIn Shared es e) n)) (g ∙ net-where os (e .side) s f)
 
 -- the arrival by what the code has found
 module _ (e : Entry) (s : Strategy) (opened : ℕ) (es : List Entry) (os : List LegOrder) where

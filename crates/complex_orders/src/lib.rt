@@ -7,10 +7,10 @@ ghost use Rattle.base.specs.Pick.{pick};
 ghost use Rattle.base.specs.All.{All};
 ghost use Rattle.rules.specs.Sizes.{tableRows};
 ghost use Rattle.rules.specs.Events.{freeSlot, restOrCancel, mayStart, trades, onOrder};
-ghost use Rattle.rules.specs.Valid.{FitEntry, FitOrder};
+ghost use Rattle.rules.specs.Valid.{FitEntry, FitOrder, Priced};
 ghost use Rattle.records.specs.Space.{Room};
 ghost use Rattle.records.specs.Done.{Done};
-ghost use Rattle.ranges.specs.Fit.{FitLegs, Priced, Fit};
+ghost use Rattle.ranges.specs.Fit.{FitLegs, Fit};
 ghost use Rattle.complex_orders.specs.ComplexOrders.{startsIn, restsAs, waitsAs, arrivalOf};
 use auctions::answers;
 use auctions::begin;
@@ -19,7 +19,8 @@ use entries::insert;
 use fills::cancel_entry;
 use fills::cancel_record;
 use fills::cut_entry;
-use nets::leg_prices;
+use nets::leg_bests;
+use nets::ready_net;
 use passes::idle;
 use passes::pass;
 use records::After;
@@ -65,12 +66,12 @@ fn may_start(e: Entry) -> bool
 
 // Whether it does: its limit is better than the known leg net of its own side.
 fn starts(e: Entry, s: Strategy, os: [LegOrder; State::LEG_ORDERS]) -> bool
-    requires { ⌜ All FitOrder os × FitLegs s ⌝ }
+    requires { ⌜ All FitOrder os × All Priced os × FitLegs s ⌝ }
     ensures { λ r. ⌜ r ≡ startsIn e s os ⌝ }
 {
     if may_start(e) {
         let on = other(e.side);
-        let p = leg_prices(os, on, s);
+        let p = leg_bests(os, on, s);
         let net = p.net;
         if net == 0 {
             return false;
@@ -122,7 +123,9 @@ fn arrives(
         if starts(e, s, os) {
             return Arrival::Starts;
         }
-        if idle(Allocation::Shared, true, e, es, os, s) {
+        let p = leg_bests(os, e.side, s);
+        let net = ready_net(p);
+        if idle(Allocation::Shared, e, es, net) {
             return rests(e);
         }
         return Arrival::Passes;

@@ -20,8 +20,9 @@ use Rattle.rules.specs.declared.Depth.the-variants as D
 use Rattle.rules.specs.State.{noOrder}
 use Rattle.rules.specs.Nets.{stands, priceWith, priceStep, priceOf, lot, lotAt, lots}
 use Rattle.rules.specs.Lookups.{LookedUp, values, refusedBy, depthTells, depthOf, noOrderEntry, asOrder, wellFormed, wellFormedAt, rowDepth}
-use Rattle.rules.specs.Valid.{FitOrder, Valid}
-use Rattle.ranges.specs.Fit.{Priced, priced-at, priced-sound}
+use Rattle.rules.specs.Valid.{FitOrder, Priced, Valid}
+use Rattle.rules.proofs.Bests.{priced-sound}
+use Rattle.ranges.specs.Fit.{priced-at}
 use Rattle.lookups.specs.Lookups.{bookDepth, entryOf, lentAt, lentRow}
 use Rattle.depths.specs.declared.RowOrders.{RowOrders}
 

@@ -10,12 +10,13 @@ use Rattle.rules.specs.State.{noOrder, orderAt, withOrders, withLast}
 use Rattle.rules.specs.Moves.{still, and-then}
 use Rattle.rules.specs.Auctions.{legPasses}
 use Rattle.rules.specs.Events.{liveOrder, behind, enterOrder, freeOrderSlot, tradeAll, ifRests, onLegOrder}
-use Rattle.rules.specs.Valid.{FitOrder}
+use Rattle.rules.specs.Valid.{FitOrder, Priced}
 use Rattle.rules.proofs.Control.{tradeAll-kept, shrinks-kept}
 use Rattle.rules.proofs.Entering.{fit-no-order}
 use Rattle.rules.proofs.Tables.{behind-all, behind-length}
 use Rattle.records.specs.Done.{Done}
-use Rattle.ranges.specs.Fit.{Fit, Priced, priced-none, fit-done}
+use Rattle.ranges.specs.Fit.{Fit, fit-done}
+use Rattle.rules.proofs.Bests.{priced-none}
 use Rattle.matching.specs.Places.{nextAt, passes-none}
 use Rattle.base.specs.Pick.{pick-true, pick-false}
 

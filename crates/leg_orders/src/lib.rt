@@ -2,10 +2,10 @@
 ghost use Prim.Native.Nat.{_<_};
 ghost use Rattle.rules.specs.Sizes.{tableRows};
 ghost use Rattle.rules.specs.Events.{freeOrderSlot, onLegOrder};
-ghost use Rattle.rules.specs.Valid.{FitOrder};
+ghost use Rattle.rules.specs.Valid.{FitOrder, Priced};
 ghost use Rattle.records.specs.Space.{Room};
 ghost use Rattle.records.specs.Done.{Done};
-ghost use Rattle.ranges.specs.Fit.{Fit, Priced};
+ghost use Rattle.ranges.specs.Fit.{Fit};
 use legs::free_order_slot;
 use legs::insert;
 use matching::PLACES;

@@ -1,11 +1,12 @@
 -- A fill by legs, of an entry, the leg orders and a strategy; what its parts leave; and the fill by what the code has found.
-use mathlib.Core.Path.{_≡_, refl}
-use mathlib.Core.List.{List, _++_}
-use Prim.Native.Nat.{ℕ, _+_, _*_, _≤_}
-use native.Mathlib.Nat.{mul-le-mul, le-trans}
+use mathlib.Core.Path.{_≡_, refl, sym, _∙_, ap}
+use mathlib.Core.List.{List, [], _∷_, _++_}
+use Prim.Native.Nat.{ℕ, _+_, _*_, _≤_, _<_, min}
+use native.Mathlib.Nat.{mul-le-mul}
+use native.Mathlib.Omega.{arith}
 use lib.IntN.{ℤ}
 use lib.ListN.{getD}
-use Rattle.base.specs.Walks.{slot, joinN, walk-first, walk-next}
+use Rattle.base.specs.Walks.{slot, stored, joinN, walk-first, walk-next, walk-same, join-same, stored-at, table-slot}
 use Rattle.rules.specs.declared.Leg.{Leg}
 use Rattle.rules.specs.declared.Strategy.{Strategy}
 use Rattle.rules.specs.declared.Entry.{Entry}
@@ -13,13 +14,12 @@ use Rattle.rules.specs.declared.LegOrder.{LegOrder}
 use Rattle.rules.specs.declared.State.{State}
 use Rattle.rules.specs.declared.Record.{Record}
 use Rattle.rules.specs.State.{noLeg, entryAt, strategyOf, withOrders}
-use Rattle.rules.specs.Nets.{prices, netOf, unitsOf}
-use Rattle.rules.specs.Fills.{partyRecords, cut, legQuotas, orderRows, cutOrders, orderRecordsAt, cutStep, cutByLegs, takeLegs, legFill, takesAt, legTake}
-use Rattle.rules.proofs.Turns.{units-most}
+use Rattle.rules.specs.Nets.{priceAt, prices, netOf, unitsOf}
+use Rattle.rules.specs.Fills.{wholeRecord, legRecord, legRecordAt, partyRecords, cut, LegTake, legQuotas, orderRows, cutOrders, orderRecordsAt, cutStep, cutByLegs, takeLegs, legFill, takesAt, legTake}
 use Rattle.records.specs.Space.{Appended, Room, wrote-first, wrote-next}
 use Rattle.records.specs.Done.{Done, done-of, room-of}
-use Rattle.nets.specs.declared.LegPrices.{LegPrices}
-use Rattle.nets.specs.Nets.{legPrices}
+use Rattle.nets.specs.declared.LegBests.{LegBests}
+use Rattle.nets.specs.Legs.{legBests, legs-known, units-cut}
 use Rattle.legging.specs.declared.AfterLegs.{AfterLegs}
 
 -- one leg: its records are written, and its quotas taken from the rows
@@ -67,22 +67,61 @@ legs-next {os = os} {side = side} {q = q} {legs = legs} {ps = ps} {i = i} g d =
 pub contracts-fit : (r q : ℕ) → r ≤ 12 → q ≤ 9999 → r * q ≤ 119_988
 contracts-fit r q a b = mul-le-mul a b
 
--- the fill by the prices and units that the code has found
-module _ (e : Entry) (os : List LegOrder) (s : Strategy) {p : LegPrices} {q : ℕ} (found : p ≡ legPrices os (e .side) s) (units : q ≡ unitsOf os (e .side) s (p .prices) (e .units)) where
+-- PRICES THAT AGREE ON THE LEGS IN USE make the same fill
+
+module _ (e : Entry) (os : List LegOrder) (s : Strategy) (q : ℕ) (ps qs : List ℕ) (same : (i : ℕ) → i < s .count → slot ps i ≡ slot qs i) where
+  party-same : (level : ℕ) → partyRecords e s q level ps ≡ partyRecords e s q level qs
+  unfolding partyRecords
+  party-same level =
+      ap (λ (rs : List Record). (wholeRecord e q level ∷ []) ++ rs)
+      (join-same (legRecordAt e (s .legs) q ps) (legRecordAt e (s .legs) q qs) (s .count) (λ i h. ap (λ (x : ℕ). legRecord e q x (getD (s .legs) i noLeg) ∷ []) (same i h)))
+
+  take-same : (i : ℕ) → i < s .count → takesAt (e .side) q (s .legs) ps i ≡ takesAt (e .side) q (s .legs) qs i
+  take-same i h = ap (λ (x : ℕ). legTake (e .side) (getD (s .legs) i noLeg .ratio * q) x (getD (s .legs) i noLeg)) (same i h)
+
+  orders-same : cutByLegs os (takesAt (e .side) q (s .legs) ps) (s .count) ≡ cutByLegs os (takesAt (e .side) q (s .legs) qs) (s .count)
+  unfolding cutByLegs
+  orders-same =
+      walk-same (cutStep os (takesAt (e .side) q (s .legs) ps)) (cutStep os (takesAt (e .side) q (s .legs) qs)) os (s .count)
+      (λ i rows h. ap (λ (t : LegTake). cutOrders rows (legQuotas os t)) (take-same i h))
+
+  rows-same : joinN (orderRecordsAt os (takesAt (e .side) q (s .legs) ps)) (s .count) ≡ joinN (orderRecordsAt os (takesAt (e .side) q (s .legs) qs)) (s .count)
+  rows-same =
+      join-same (orderRecordsAt os (takesAt (e .side) q (s .legs) ps)) (orderRecordsAt os (takesAt (e .side) q (s .legs) qs)) (s .count)
+      (λ i h. ap (λ (t : LegTake). joinN (orderRows os (legQuotas os t) (t .price)) 32) (take-same i h))
+
+-- the fill by what the code has found on the legs
+module _ (e : Entry) (os : List LegOrder) (s : Strategy) {p : LegBests} {q : ℕ} (few : e .units ≤ 9999) (most : s .count ≤ 6) (found : p ≡ legBests os (e .side) s)
+    (some : ¬ (p .net ≡ 0)) (units : q ≡ min (p .units) (e .units)) where
+  abbrev ps : List ℕ
+  ps = prices os (e .side) (s .legs)
+
+  abbrev met : LegBests
+  met = record { prices = stored 6 (priceAt os (e .side) (s .legs)) (s .count); units = unitsOf os (e .side) s ps 9999; net = netOf s ps }
+
+  is-met : p ≡ met
+  is-met = legs-known os (e .side) s found some
+
+  same : (i : ℕ) → i < s .count → slot ps i ≡ slot (p .prices) i
+  unfolding prices
+  same i h = table-slot (priceAt os (e .side) (s .legs)) 0 6 i (omega arith) ∙ sym (ap (λ (b : LegBests). slot (b .prices) i) is-met ∙ stored-at 6 (priceAt os (e .side) (s .legs)) (s .count) i h)
+
   pub units-found : q ≡ unitsByLegs e os s
-  unfolding unitsByLegs legPrices
-  units-found = rw (units, found)
+  unfolding unitsByLegs
+  units-found = units ∙ ap (λ (b : LegBests). min (b .units) (e .units)) is-met ∙ sym (units-cut os (e .side) s ps (e .units) few)
 
   pub orders-found : ordersByLegs e os s ≡ cutByLegs os (takesAt (e .side) q (s .legs) (p .prices)) (s .count)
-  unfolding ordersByLegs unitsByLegs legPrices
-  orders-found = rw (units, found)
+  unfolding ordersByLegs
+  orders-found = rw (sym units-found) (orders-same e os s q ps (p .prices) same)
 
   pub records-found : recordsByLegs e os s ≡ partyRecords e s q (p .net) (p .prices) ++ joinN (orderRecordsAt os (takesAt (e .side) q (s .legs) (p .prices))) (s .count)
-  unfolding recordsByLegs unitsByLegs legPrices
-  records-found = rw (units, found)
+  unfolding recordsByLegs
+  records-found =
+      let n : netOf s ps ≡ p .net = sym (ap (λ (b : LegBests). b .net) is-met) in
+      rw (sym units-found, n) (cc (party-same e os s q ps (p .prices) same (p .net), rows-same e os s q ps (p .prices) same))
 
-  pub units-few : e .units ≤ 9999 → q ≤ 9999
-  units-few h = rw units (le-trans (units-most _ _ _ _ _) h)
+  pub units-few : q ≤ 9999
+  units-few = omega arith
 
 -- a fill by legs in a book is that of its entry, leg orders and strategy
 pub by-legs : (a : ℕ) (b : State) →

@@ -1,19 +1,18 @@
 // Fills of whole against legs.
 ghost use mathlib.Core.Path.{_≡_};
 ghost use Prim.Native.Nat.{_+_, _*_, _-_, _<_, _≤_};
-ghost use Rattle.base.specs.All.{All};
 ghost use Rattle.base.specs.Walks.{joinN};
 ghost use Rattle.rules.specs.Sizes.{tableRows};
-ghost use Rattle.rules.specs.Valid.{FitOrder};
 ghost use Rattle.rules.specs.Fills.{legQuotas, orderRows, orderRecordsAt, cutOrders, takesAt, legTake};
 ghost use Rattle.records.specs.Space.{Appended, Room};
 ghost use Rattle.ranges.specs.Fit.{FitLegs};
+ghost use Rattle.nets.specs.Legs.{legBests};
 ghost use Rattle.legging.specs.Legging.{OneLeg, AllLegs, recordsByLegs, FilledByLegs};
 use fills::party_records;
-use nets::leg_prices;
+use nets::LegBests;
 use nets::lots;
-use nets::units_of;
 use quotas::in_turn;
+use records::least;
 use rules::Entry;
 use rules::Leg;
 use rules::LegOrder;
@@ -138,21 +137,21 @@ fn all_legs(
     c
 }
 
-// Entry e of strategy s at the leg net: as many units as it has and the best prices hold.
+// Entry e of strategy s at the leg net: as many units as it has and the best prices hold. They have been found, and are p.
 pub fn leg_fill(
     e: Entry,
+    p: LegBests,
     os: [LegOrder; State::LEG_ORDERS],
     s: Strategy,
     space: &mut [i32],
     n: usize,
 ) -> AfterLegs
-    requires { ⌜ All FitOrder os × FitLegs s × (e .units ≤ 9999) ⌝ }
+    requires { ⌜ FitLegs s × (e .units ≤ 9999) × (p ≡ legBests os (e .side) s) × ¬ (p .net ≡ 0) ⌝ }
     requires { ⌜ Room (now space) n (recordsByLegs e os s) ⌝ }
     ensures { λ t. ⌜ FilledByLegs (now (space .entry)) (now (space .exit)) n t e os s ⌝ }
 {
-    let p = leg_prices(os, e.side, s);
     let ps = p.prices;
-    let q = units_of(os, e.side, s, ps, e.units);
+    let q = least(p.units, e.units);
     let m = party_records(space, n, e, s, q, p.net, ps);
     let c = all_legs(os, e.side, q, s, ps, space, m);
     let rows = c.rows;

@@ -1,35 +1,36 @@
 -- Depth over the book's own table, and the laws of the lookups.
 use mathlib.Core.Path.{_≡_, refl, sym, _∙_, ap}
 use mathlib.Core.Bool.{Bool}
-use mathlib.Core.List.{List}
-use Prim.Native.Nat.{ℕ, _+_, _-_, _^_, _≤_, _<_}
+use mathlib.Core.List.{List, [], _∷_}
+use Prim.Native.Nat.{ℕ, _+_, _≤_, _<_}
 use native.Mathlib.Nat.{add-le-add}
 use native.Mathlib.Omega.{arith}
-use lib.Bits.{bitAnd}
 use lib.Count.{ones, trailingZeros}
-use lib.Dec.{ltb}
+use lib.Dec.{eqb, ltb}
 use lib.ListN.{getD, set, replicate}
 use Rattle.base.specs.Pick.{pick, pick-all, tests}
 use Rattle.base.specs.All.{All}
-use Rattle.base.specs.Walks.{sumN, slot, table, seam, sum-le, sum-more, seam-first, seam-next, seam-last}
+use Rattle.base.specs.Walks.{sumN, table, seam, sum-le, sum-more, seam-first, seam-next, seam-last}
 use Rattle.base.specs.Sets.{lowestOf}
-use Rattle.base.specs.SetLaws.{minus-and, minus-lt, size-ones}
+use Rattle.base.specs.SetLaws.{minus-lt, size-ones}
 use Rattle.rules.specs.declared.LegOrder.{LegOrder}
 use Rattle.rules.specs.declared.OrderEntry.{OrderEntry}
 use Rattle.rules.specs.declared.State.{State}
+use Rattle.rules.specs.declared.Best.{Best}
 use Rattle.rules.specs.declared.Depth.the-variants as D
 use Rattle.rules.specs.declared.Shut.the-variants as S
 use Rattle.rules.specs.Sizes.{tableRows}
 use Rattle.rules.specs.State.{noOrder}
 use Rattle.rules.specs.Strategies.{shutSet}
-use Rattle.rules.specs.Nets.{priceOf, lots}
+use Rattle.rules.specs.Nets.{bestOf}
 use Rattle.rules.specs.Refusals.{undefined}
-use Rattle.rules.specs.Lookups.{LookedUp, refusedBy, depthTells, shutTells, noOrderEntry, unitsOfNumber, contractsOfNumber, liveQuantity, depthOf, shutLegs}
+use Rattle.rules.specs.Lookups.{LookedUp, values, refusedBy, depthTells, shutTells, noOrderEntry, unitsOfNumber, contractsOfNumber, liveQuantity, depthOf, shutLegs}
 use Rattle.rules.specs.Valid.{FitEntry, FitOrder}
-use Rattle.nets.specs.declared.Best.{Best}
 use Rattle.ranges.specs.Fit.{fit-entry, fit-order}
-use Rattle.nets.specs.Nets.{contractsAt, contracts-lots}
-use Rattle.nets.specs.Best.{bestOf}
+
+-- a best price and its contracts as a depth: empty where there is no price
+unfoldable pub bestTells : Best → LookedUp
+bestTells b = pick (eqb (b .price) 0) (values []) (values (b .price ∷ (b .contracts ∷ [])))
 
 -- "3 if series or side is out of range"
 unfoldable pub bookDepth : List LegOrder → ℕ → ℕ → LookedUp
@@ -84,6 +85,19 @@ module _ (b : State) (n : ℕ) where
           sum-le (contractsOfNumber b n) 9999 (λ j. held-most _ (fit-order os j .contracts)) i,
         )
 
+-- the depth is that of the best
+pub depth-best-of : (os : List LegOrder) (s side : ℕ) → depthOf os s side ≡ bestTells (bestOf os s side)
+unfolding depthOf bestTells bestOf
+depth-best-of os s side = refl
+
+pub tells-empty : (b : Best) → b .price ≡ 0 → depthTells D.Empty ≡ bestTells b
+unfolding depthTells bestTells
+tells-empty b z = search tests
+
+pub tells-best : (b : Best) → ¬ (b .price ≡ 0) → depthTells (D.Best (b .price) (b .contracts)) ≡ bestTells b
+unfolding depthTells bestTells
+tells-best b z = search tests
+
 -- depth by what the code tests
 module _ (os : List LegOrder) (s side : ℕ) where
   pub depth-series : 31 < s → depthTells (D.Refused 3) ≡ bookDepth os s side
@@ -94,22 +108,9 @@ module _ (os : List LegOrder) (s side : ℕ) where
   unfolding bookDepth depthTells
   depth-side h g = search tests
 
-  module _ (h : s ≤ 31) (g : side ≤ 1) {b : Best} (e : b ≡ bestOf os s side) where
-    price-is : priceOf os s side ≡ b .price
-    unfolding bestOf
-    price-is = sym (ap (λ (x : Best). x .price) e)
-
-    contracts-is : sumN (slot (lots os s side (b .price))) 32 ≡ b .contracts
-    unfolding bestOf
-    contracts-is = sym (contracts-lots os s side (b .price)) ∙ ap (contractsAt os s side) (sym price-is) ∙ sym (ap (λ (x : Best). x .contracts) e)
-
-    pub depth-empty : b .price ≡ 0 → depthTells D.Empty ≡ bookDepth os s side
-    unfolding bookDepth depthOf depthTells
-    depth-empty z = rw price-is (search tests)
-
-    pub depth-best : ¬ (b .price ≡ 0) → depthTells (D.Best (b .price) (b .contracts)) ≡ bookDepth os s side
-    unfolding bookDepth depthOf depthTells
-    depth-best z = rw (price-is, contracts-is) (search tests)
+  pub depth-is : s ≤ 31 → side ≤ 1 → {b : Best} {x : LookedUp} → b ≡ bestOf os s side → x ≡ bestTells b → x ≡ bookDepth os s side
+  unfolding bookDepth
+  depth-is h g e t = t ∙ ap bestTells e ∙ rw (sym (depth-best-of os s side)) (search tests)
 
 -- the shut legs by what the code tests
 pub shut-undefined : (b : State) (k : ℕ) → b .defined ≤ k → shutTells (S.Refused 4) ≡ shutLegs b k

@@ -16,6 +16,7 @@ use Rattle.base.specs.Walks.{firstN, first-le, first-holds, first-before, lt-or
 use Rattle.rules.specs.declared.Strategy.{Strategy}
 use Rattle.rules.specs.declared.Entry.{Entry}
 use Rattle.rules.specs.declared.LegOrder.{LegOrder}
+use Rattle.rules.specs.declared.Best.{Best}
 use Rattle.rules.specs.declared.State.{State}
 use Rattle.rules.specs.declared.Allocation.the-variants.{LegsOnly}
 use Rattle.rules.specs.State.{noStrategy, noEntry, entryAt, strategyAt}
@@ -28,8 +29,9 @@ use Rattle.rules.proofs.Only.{Only, only-each, legPass-only, live-in}
 use Rattle.rules.proofs.Turns.{then-still}
 use Rattle.records.specs.Space.{Room}
 use Rattle.records.specs.Done.{Done, done-of, room-of, Visited, visit-none, visit-moves, visit-room, visit-all}
-use Rattle.ranges.specs.Fit.{Fit, fit-done}
-use Rattle.nets.specs.Ready.{netReady}
+use Rattle.ranges.specs.Fit.{FitLegs, Fit, fit-done}
+use Rattle.nets.specs.Bests.{bestTable}
+use Rattle.nets.specs.Legs.{netReady, netOn, net-on}
 use Rattle.passes.specs.Passes.{stopsAt, legs-still}
 use Rattle.matching.specs.Searches.{Searched, searched-past, searched-here, searched-all}
 use Rattle.matching.specs.Matching.{passesLegs, legs-not, legs-yes, in-yes, in-not}
@@ -37,6 +39,10 @@ use Rattle.matching.specs.Matching.{passesLegs, legs-not, legs-yes, in-y
 -- whether strategy t gets passes by legs only, and the pass of its entry e would do something but for its bounds
 unfoldable pub actsIn : Entry → Strategy → List LegOrder → ℕ → ℕ → Bool
 actsIn e t os opened s = both (passesLegs t s opened) (not (stopsAt (turnAt e 0 (netReady os (e .side) t))))
+
+-- .. by the table of all bests
+unfoldable pub actsOn : Entry → Strategy → List Best → ℕ → ℕ → Bool
+actsOn e t bs opened s = both (passesLegs t s opened) (not (stopsAt (turnAt e 0 (netOn bs (e .side) t))))
 
 -- whether place p, which is slot p % 32 of strategy p / 32, holds a day order of that strategy whose pass would do something
 -- but for its bounds
@@ -69,6 +75,11 @@ placePass s p b = pick (passesLegs (strategyAt b (p / 32)) s (b .opened)) (legPa
 -- with a second test that fails not both hold
 no-second : (t : Bool) {u : Bool} → u ≡ false → both t u ≡ false
 no-second t e = pick-all (λ (x : Bool). x ≡ false) t e refl
+
+-- the table of all bests tells what the leg orders do
+pub acts-on : (e : Entry) (t : Strategy) (os : List LegOrder) (opened s : ℕ) {bs : List Best} {r : Bool} → FitLegs t → bs ≡ bestTable os → r ≡ actsOn e t bs opened s → r ≡ actsIn e t os opened s
+unfolding actsOn actsIn
+acts-on e t os opened s f g h = h ∙ rw (g, net-on os (e .side) t f) refl
 
 -- a place by its strategy and slot
 place-strategy : (k i : ℕ) → i < 32 → (k * 32 + i) / 32 ≡ k

@@ -5,21 +5,25 @@ ghost use Rattle.base.specs.All.{All};
 ghost use Rattle.rules.specs.Sizes.{strategySlots, tableRows};
 ghost use Rattle.rules.specs.Moves.{each};
 ghost use Rattle.rules.specs.Auctions.{dayOrder, legPasses, matchAll, matchIn};
-ghost use Rattle.rules.specs.Valid.{FitEntry, FitOrder};
+ghost use Rattle.rules.specs.Valid.{FitEntry, FitOrder, Priced};
 ghost use Rattle.records.specs.Space.{Room};
 ghost use Rattle.records.specs.Done.{Done};
-ghost use Rattle.ranges.specs.Fit.{FitLegs, Fit, Priced};
+ghost use Rattle.ranges.specs.Fit.{FitLegs, Fit};
+ghost use Rattle.nets.specs.Bests.{FitBest};
 ghost use Rattle.matching.specs.Matching.{openWith, passesLegs, aheadOf, bestEntry, meet, mayMatchIn, matched};
-ghost use Rattle.matching.specs.Places.{actsIn, nextPass};
+ghost use Rattle.matching.specs.Places.{actsOn, nextPass};
 use fills::whole_fill;
 use national::bounds;
 use national::may_meet;
-use nets::net_ready;
+use nets::SERIES_SIDES;
+use nets::bests;
+use nets::net_on;
 use passes::legs_idle;
 use passes::pass;
 use records::After;
 use records::least;
 use rules::Allocation;
+use rules::Best;
 use rules::Bounds;
 use rules::Entry;
 use rules::LegOrder;
@@ -64,12 +68,12 @@ fn day_order(k: usize, e: Entry) -> bool
 }
 
 // Whether strategy t gets passes by legs only, and the pass of its entry e would do something but for its bounds.
-fn acts_in(e: Entry, t: Strategy, os: [LegOrder; State::LEG_ORDERS], opened: u32, s: u8) -> bool
-    requires { ⌜ All FitOrder os × All Priced os × FitLegs t ⌝ }
-    ensures { λ r. ⌜ r ≡ actsIn e t os opened s ⌝ }
+fn acts_in(e: Entry, t: Strategy, bs: [Best; SERIES_SIDES], opened: u32, s: u8) -> bool
+    requires { ⌜ All FitBest bs × FitLegs t ⌝ }
+    ensures { λ r. ⌜ r ≡ actsOn e t bs opened s ⌝ }
 {
     if passes_legs(t, s, opened) {
-        let net = net_ready(os, e.side, t);
+        let net = net_on(bs, e.side, t);
         return !legs_idle(e, net);
     }
     false
@@ -88,6 +92,7 @@ pub fn next_pass(
     requires { ⌜ All FitLegs ss × All FitEntry es × All FitOrder os × All Priced os ⌝ }
     ensures { λ r. ⌜ r ≡ nextPass ss es os opened s from ⌝ }
 {
+    let bs = bests(os);
     let mut best: usize = PLACES;
     let mut i: usize = 0;
     while i < State::ROWS {
@@ -98,7 +103,7 @@ pub fn next_pass(
             if from <= at {
                 if at < best {
                     let t = ss[k];
-                    if acts_in(e, t, os, opened, s) {
+                    if acts_in(e, t, bs, opened, s) {
                         best = at;
                     }
                 }

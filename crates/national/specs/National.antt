@@ -6,10 +6,10 @@ use Prim.Native.Nat.{ℕ, zero, suc, _≤_, _<_}
 use native.Mathlib.Omega.{arith}
 use borrow.Author.Tests.{eq-eqb, ne-eqb, le-ltb}
 use lib.Dec.{eqb}
-use lib.ListN.{getD, drop, replicate, List·getD-append}
+use lib.ListN.{getD}
 use Rattle.base.specs.Pick.{pick, pick-all}
 use Rattle.base.specs.All.{All}
-use Rattle.base.specs.Walks.{allN, slot, table, stored, seam, sum-same, all-stop, length-table, table-slot}
+use Rattle.base.specs.Walks.{allN, slot, stored, stored-at, sum-same, all-stop, table-slot}
 use Rattle.rules.specs.declared.Leg.{Leg}
 use Rattle.rules.specs.declared.Strategy.{Strategy}
 use Rattle.rules.specs.declared.Quote.{Quote}
@@ -53,10 +53,6 @@ net-same s ps qs h =
       sum-same (weightAt 0 (s .legs) ps) (weightAt 0 (s .legs) qs) (s .count) (λ i l. rw (h i l)),
       sum-same (weightAt 1 (s .legs) ps) (weightAt 1 (s .legs) qs) (s .count) (λ i l. rw (h i l)),
     )
-
-stored-at : (n : ℕ) (f : ℕ → ℕ) (k i : ℕ) → i < k → slot (stored n f k) i ≡ f i
-unfolding stored seam
-stored-at n f k i h = List·getD-append (table f k) (drop k (replicate n 0)) 0 i (omega (arith, length-table f k)) ∙ table-slot f 0 k i h
 
 module _ (qs : List Quote) (side : ℕ) (s : Strategy) (m : s .count ≤ 6) where
   price-at : (i : ℕ) → i < 6 → slot (nationalPrices qs side (s .legs)) i ≡ nationalPrice qs side (getD (s .legs) i noLeg)

@@ -1,3 +1,3 @@
 pub mod Nets
-pub mod Best
-pub mod Ready
+pub mod Bests
+pub mod Legs

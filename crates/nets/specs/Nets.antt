@@ -1,4 +1,4 @@
--- Bounds of prices, contracts and nets, and the rules by what the code tests.
+-- Ranges of prices and nets, and the rules by what the code tests.
 use mathlib.Core.Path.{_≡_, refl, sym}
 use mathlib.Core.Bool.{Bool, true, false, not}
 use mathlib.Core.List.{List}
@@ -10,25 +10,16 @@ use lib.Dec.{eqb}
 use lib.ListN.{getD}
 use Rattle.base.specs.Pick.{pick, pick-all, pick-false, tests}
 use Rattle.base.specs.All.{All}
-use Rattle.base.specs.Walks.{sumN, slot, walk, sum-le, sum-same, table-slot}
+use Rattle.base.specs.Walks.{slot, walk, sum-le}
 use Rattle.rules.specs.declared.Leg.{Leg}
 use Rattle.rules.specs.declared.Strategy.{Strategy}
 use Rattle.rules.specs.declared.LegOrder.{LegOrder}
-use Rattle.rules.specs.State.{noLeg, noOrder}
+use Rattle.rules.specs.State.{noLeg}
 use Rattle.rules.specs.Sides.{other, legSide, bestPrice}
-use Rattle.rules.specs.Nets.{stands, priceWith, priceStep, priceOf, lot, lotAt, lots, legPrice, priceAt, prices, known, weight, weightAt, weighed, netOf}
+use Rattle.rules.specs.Nets.{stands, priceWith, priceStep, priceOf, lot, legPrice, priceAt, prices, known, weight, weightAt, weighed, netOf}
 use Rattle.rules.specs.Valid.{FitLeg, FitOrder}
 use Rattle.ranges.specs.Most.{AtMost, table-most}
 use Rattle.ranges.specs.Fit.{FitLegs, fit-leg, fit-order}
-use Rattle.nets.specs.declared.LegPrices.{LegPrices}
-
--- the contracts of a series and side at a price
-unfoldable pub contractsAt : List LegOrder → ℕ → ℕ → ℕ → ℕ
-contractsAt os s side price = sumN (lotAt os s side price) 32
-
--- the best prices that a complex party of that side meets on the legs of a strategy, and their net
-unfoldable pub legPrices : List LegOrder → ℕ → Strategy → LegPrices
-legPrices os side s = record { prices = prices os side (s .legs); net = netOf s (prices os side (s .legs)) }
 
 -- whether an order stands in a series and side, by what the code tests: its series first, which differs most often
 module _ (s side : ℕ) (o : LegOrder) where
@@ -47,11 +38,6 @@ module _ (s side : ℕ) (o : LegOrder) where
       by : (t : Bool) → not t ≡ pick t false true
       by true = refl
       by false = refl
-
--- the contracts at a price are the sum over the lots
-pub contracts-lots : (os : List LegOrder) (s side price : ℕ) → contractsAt os s side price ≡ sumN (slot (lots os s side price)) 32
-unfolding contractsAt lots
-contracts-lots os s side price = sum-same _ _ 32 (λ i h. sym (table-slot (lotAt os s side price) 0 32 i h))
 
 pub weight-fits : (r x : ℕ) → r ≤ 12 → x ≤ 99_999 → r * x ≤ 1_199_988
 weight-fits r x a b = mul-le-mul a b
@@ -76,9 +62,6 @@ net-most s ps f m =
 pub lot-most : (s side price : ℕ) (o : LegOrder) → FitOrder o → lot s side price o ≤ 9999
 unfolding lot
 lot-most s side price o f = let P : ℕ → Type 0 = λ (y : ℕ). y ≤ 9999 in pick-all P _ (pick-all P _ (f .contracts) (omega arith)) (omega arith)
-
-pub contracts-most : (os : List LegOrder) (s side price : ℕ) → All FitOrder os → (k : ℕ) → sumN (lotAt os s side price) k ≤ k * 9999
-contracts-most os s side price a k = sum-le (lotAt os s side price) 9999 (λ i. lot-most s side price (getD os i noOrder) (fit-order a i)) k
 
 best-most : (side p q c : ℕ) → p ≤ c → q ≤ c → bestPrice side p q ≤ c
 unfolding bestPrice

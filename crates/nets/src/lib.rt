@@ -1,35 +1,61 @@
-// Best prices of the leg orders, nets, and the units that the legs give.
+// Best prices of the leg orders with the contracts at them, nets, and the units that the legs give.
 ghost use mathlib.Core.Path.{_≡_};
 ghost use Prim.Native.Nat.{_+_, _*_, _-_, _/_, _<_, _≤_};
 ghost use Rattle.base.specs.All.{All};
-ghost use Rattle.rules.specs.Nets.{stands, priceWith, priceOf, lot, lots, legPrice, prices, known, weight, weighed, netOf, legUnits, unitsOf};
-ghost use Rattle.rules.specs.Valid.{FitLeg, FitOrder};
+ghost use Rattle.rules.specs.Nets.{stands, lot, lots, known, weight, weighed, netOf, bestOf, startsAfresh, bestWith};
+ghost use Rattle.rules.specs.Valid.{FitLeg, FitOrder, Priced};
 ghost use Rattle.ranges.specs.Most.{AtMost};
-ghost use Rattle.ranges.specs.Fit.{FitLegs, Priced};
-ghost use Rattle.nets.specs.Nets.{contractsAt, legPrices};
-ghost use Rattle.nets.specs.Best.{bestOf, bestWith};
-ghost use Rattle.nets.specs.Ready.{netReady};
+ghost use Rattle.ranges.specs.Fit.{FitLegs};
+ghost use Rattle.nets.specs.Bests.{placeOf, bestTable, FitBest};
+ghost use Rattle.nets.specs.Legs.{sumsWith, legBests, netWhere, netOn};
 use records::least;
+use rules::Best;
 use rules::Leg;
 use rules::LegOrder;
 use rules::State;
 use rules::Strategy;
 use rules::ZERO_LEVEL;
-use sides::best_price;
+use sides::better;
 use sides::leg_side;
 use sides::other;
 
-// A best price and the contracts at it.
-pub struct Best {
-    pub price: u32,
-    pub contracts: u32,
-}
+// The best of each side of a series stands in one table: at place series * 2 + side.
+pub const SERIES_SIDES: usize = State::SERIES * 2;
 
-// The best price that a complex party meets on each leg (0: none), and the net of them, as a level (0: unknown).
-pub struct LegPrices {
+// The most units that an entry has.
+const MOST_UNITS: u32 = 9999;
+
+const NO_BEST: Best = Best {
+    price: 0,
+    contracts: 0,
+};
+
+// What a complex party meets on the legs of a strategy: the best price of each leg, the units that the contracts at these
+// prices give, at most 9,999, and the net of the prices, as a level. All are 0 where a leg has no price.
+pub struct LegBests {
     pub prices: [u32; 6],
+    pub units: u32,
     pub net: u32,
 }
+
+// The sums of the legs walked so far, over the buy legs and over the sell legs, and the units that they give.
+struct LegSums {
+    buys: u32,
+    sells: u32,
+    units: u32,
+}
+
+const NO_SUMS: LegSums = LegSums {
+    buys: 0,
+    sells: 0,
+    units: MOST_UNITS,
+};
+
+pub const NO_LEG_BESTS: LegBests = LegBests {
+    prices: [0; 6],
+    units: 0,
+    net: 0,
+};
 
 // Whether a leg order stands in that series and side.
 pub fn stands(s: u8, side: u8, o: LegOrder) -> bool
@@ -42,28 +68,6 @@ pub fn stands(s: u8, side: u8, o: LegOrder) -> bool
         return false;
     }
     o.contracts != 0
-}
-
-fn price_with(s: u8, side: u8, p: u32, o: LegOrder) -> u32
-    ensures { λ r. ⌜ r ≡ priceWith s side p o ⌝ }
-{
-    if stands(s, side, o) {
-        return best_price(side, p, o.price);
-    }
-    p
-}
-
-// The best price of a series and side, 0 where no order stands there.
-fn price_of(os: [LegOrder; State::LEG_ORDERS], s: u8, side: u8) -> u32
-    ensures { λ p. ⌜ p ≡ priceOf os s side ⌝ }
-{
-    let mut p: u32 = 0;
-    let mut i: usize = 0;
-    while i < State::LEG_ORDERS {
-        p = price_with(s, side, p, os[i]);
-        i += 1;
-    }
-    p
 }
 
 fn lot(s: u8, side: u8, price: u32, o: LegOrder) -> u32
@@ -89,40 +93,6 @@ pub fn lots(os: [LegOrder; State::LEG_ORDERS], s: u8, side: u8, price: u32) -> [
         i += 1;
     }
     xs
-}
-
-// The contracts of a series and side at a price.
-fn contracts_at(os: [LegOrder; State::LEG_ORDERS], s: u8, side: u8, price: u32) -> u32
-    requires { ⌜ All FitOrder os ⌝ }
-    ensures { λ n. ⌜ n ≡ contractsAt os s side price ⌝ }
-{
-    let mut n: u32 = 0;
-    let mut i: usize = 0;
-    while i < State::LEG_ORDERS {
-        n += lot(s, side, price, os[i]);
-        i += 1;
-    }
-    n
-}
-
-// The best price that a complex party of that side meets on a leg.
-fn leg_price(os: [LegOrder; State::LEG_ORDERS], side: u8, l: Leg) -> u32
-    ensures { λ p. ⌜ p ≡ legPrice os side l ⌝ }
-{
-    let on = other(leg_side(side, l));
-    price_of(os, l.series, on)
-}
-
-fn prices(os: [LegOrder; State::LEG_ORDERS], side: u8, legs: [Leg; 6]) -> [u32; 6]
-    ensures { λ ps. ⌜ ps ≡ prices os side legs ⌝ }
-{
-    let mut ps: [u32; 6] = [0; 6];
-    let mut i: usize = 0;
-    while i < 6 {
-        ps[i] = leg_price(os, side, legs[i]);
-        i += 1;
-    }
-    ps
 }
 
 // Whether no price is missing.
@@ -187,20 +157,6 @@ pub fn net_of(s: Strategy, ps: [u32; 6]) -> u32
     0
 }
 
-// The best prices that a complex party of that side meets on the legs of a strategy, and their net.
-pub fn leg_prices(os: [LegOrder; State::LEG_ORDERS], side: u8, s: Strategy) -> LegPrices
-    requires { ⌜ All FitOrder os × FitLegs s ⌝ }
-    ensures { λ r. ⌜ r ≡ legPrices os side s ⌝ }
-{
-    let legs = s.legs;
-    let ps = prices(os, side, legs);
-    let net = net_of(s, ps);
-    LegPrices {
-        prices: ps,
-        net: net,
-    }
-}
-
 // Rounded down.
 fn whole_units(contracts: u32, ratio: u32) -> u32
     requires { ⌜ 0 < ratio ⌝ }
@@ -209,37 +165,14 @@ fn whole_units(contracts: u32, ratio: u32) -> u32
     contracts / ratio
 }
 
-// The units of a leg's ratio that its contracts at a price give, rounded down.
-fn leg_units(os: [LegOrder; State::LEG_ORDERS], side: u8, price: u32, l: Leg) -> u32
-    requires { ⌜ All FitOrder os × (0 < l .ratio) ⌝ }
-    ensures { λ n. ⌜ n ≡ legUnits os side price l ⌝ }
+// Whether an order at price q starts the best price p of that side (0: none yet) afresh.
+fn starts_afresh(side: u8, p: u32, q: u32) -> bool
+    ensures { λ r. ⌜ r ≡ startsAfresh side p q ⌝ }
 {
-    let on = other(leg_side(side, l));
-    let n = contracts_at(os, l.series, on, price);
-    whole_units(n, l.ratio as u32)
-}
-
-// The units that the legs give at these prices, at most `most`.
-pub fn units_of(
-    os: [LegOrder; State::LEG_ORDERS],
-    side: u8,
-    s: Strategy,
-    ps: [u32; 6],
-    most: u32,
-) -> u32
-    requires { ⌜ All FitOrder os × FitLegs s ⌝ }
-    ensures { λ n. ⌜ n ≡ unitsOf os side s ps most ⌝ }
-{
-    let count = s.count as usize;
-    let legs = s.legs;
-    let mut n = most;
-    let mut i: usize = 0;
-    while i < count {
-        let units = leg_units(os, side, ps[i], legs[i]);
-        n = least(units, n);
-        i += 1;
+    if p == 0 {
+        return true;
     }
-    n
+    better(side, p, q)
 }
 
 // The pair with one order more: it starts afresh at a better price.
@@ -248,33 +181,28 @@ fn best_with(s: u8, side: u8, b: Best, o: LegOrder) -> Best
     ensures { λ r. ⌜ r ≡ bestWith s side b o ⌝ }
 {
     if stands(s, side, o) {
-        let p = best_price(side, b.price, o.price);
-        if p == b.price {
-            if o.price == b.price {
-                return Best {
-                    price: b.price,
-                    contracts: b.contracts + o.contracts,
-                };
-            }
-            return b;
+        if starts_afresh(side, b.price, o.price) {
+            return Best {
+                price: o.price,
+                contracts: o.contracts,
+            };
         }
-        return Best {
-            price: o.price,
-            contracts: o.contracts,
-        };
+        if o.price == b.price {
+            return Best {
+                price: b.price,
+                contracts: b.contracts + o.contracts,
+            };
+        }
     }
     b
 }
 
-// The best price of a series and side with the contracts at it, in one walk.
+// The best price of a series and side with the contracts at it, in one walk over the leg orders.
 pub fn best_of(os: [LegOrder; State::LEG_ORDERS], s: u8, side: u8) -> Best
     requires { ⌜ All FitOrder os × All Priced os ⌝ }
     ensures { λ b. ⌜ b ≡ bestOf os s side ⌝ }
 {
-    let mut b = Best {
-        price: 0,
-        contracts: 0,
-    };
+    let mut b = NO_BEST;
     let mut i: usize = 0;
     while i < State::LEG_ORDERS {
         b = best_with(s, side, b, os[i]);
@@ -283,39 +211,111 @@ pub fn best_of(os: [LegOrder; State::LEG_ORDERS], s: u8, side: u8) -> Best
     b
 }
 
-// The leg net that a complex party of that side meets where the legs give one unit, else 0. Each leg's best price and its
-// contracts are found in one walk.
-pub fn net_ready(os: [LegOrder; State::LEG_ORDERS], side: u8, s: Strategy) -> u32
+// The place of a side of a series.
+fn place_of(s: u8, side: u8) -> usize
+    requires { ⌜ (s < 32) × (side ≤ 1) ⌝ }
+    ensures { λ r. ⌜ r ≡ placeOf s side ⌝ }
+{
+    s as usize * 2 + side as usize
+}
+
+// The same of both sides of every series, in one walk: a leg order moves the pair of its own series and side alone.
+pub fn bests(os: [LegOrder; State::LEG_ORDERS]) -> [Best; SERIES_SIDES]
+    requires { ⌜ All FitOrder os × All Priced os ⌝ }
+    ensures { λ t. ⌜ t ≡ bestTable os ⌝ }
+{
+    let mut t = [NO_BEST; SERIES_SIDES];
+    let mut i: usize = 0;
+    while i < State::LEG_ORDERS {
+        let o = os[i];
+        let at = place_of(o.series, o.side);
+        t[at] = best_with(o.series, o.side, t[at], o);
+        i += 1;
+    }
+    t
+}
+
+// The sums with one leg more, and the best that is met on it.
+fn sums_with(n: LegSums, l: Leg, b: Best) -> LegSums
+    requires { ⌜ FitLeg l × (0 < l .ratio) × FitBest b × (n .buys ≤ 5999940) × (n .sells ≤ 5999940) ⌝ }
+    ensures { λ r. ⌜ r ≡ sumsWith n l b ⌝ }
+{
+    let units = whole_units(b.contracts, l.ratio as u32);
+    let buys = weight(0, l, b.price);
+    let sells = weight(1, l, b.price);
+    LegSums {
+        buys: n.buys + buys,
+        sells: n.sells + sells,
+        units: least(units, n.units),
+    }
+}
+
+// What a complex party of that side meets on the legs of a strategy: one walk over the leg orders for each leg, in place, since
+// a call would copy them.
+pub fn leg_bests(os: [LegOrder; State::LEG_ORDERS], side: u8, s: Strategy) -> LegBests
     requires { ⌜ All FitOrder os × All Priced os × FitLegs s ⌝ }
-    ensures { λ r. ⌜ r ≡ netReady os side s ⌝ }
+    ensures { λ r. ⌜ r ≡ legBests os side s ⌝ }
 {
     let count = s.count as usize;
     let legs = s.legs;
-    let mut buys: u32 = 0;
-    let mut sells: u32 = 0;
+    let mut ps: [u32; 6] = [0; 6];
+    let mut n = NO_SUMS;
     let mut i: usize = 0;
     while i < count {
         let l = legs[i];
         let on = other(leg_side(side, l));
-        let mut best = Best {
-            price: 0,
-            contracts: 0,
-        };
+        let mut b = NO_BEST;
         let mut j: usize = 0;
         while j < State::LEG_ORDERS {
-            best = best_with(l.series, on, best, os[j]);
+            b = best_with(l.series, on, b, os[j]);
             j += 1;
         }
-        if best.price == 0 {
-            return 0;
+        if b.price == 0 {
+            return NO_LEG_BESTS;
         }
-        let units = whole_units(best.contracts, l.ratio as u32);
-        if units == 0 {
-            return 0;
-        }
-        buys += weight(0, l, best.price);
-        sells += weight(1, l, best.price);
+        ps[i] = b.price;
+        n = sums_with(n, l, b);
         i += 1;
     }
-    ZERO_LEVEL + buys - sells
+    LegBests {
+        prices: ps,
+        units: n.units,
+        net: ZERO_LEVEL + n.buys - n.sells,
+    }
+}
+
+// Their net where they give one unit, else 0.
+pub fn ready_net(b: LegBests) -> u32
+    ensures { λ r. ⌜ r ≡ netWhere b ⌝ }
+{
+    if b.units == 0 {
+        return 0;
+    }
+    b.net
+}
+
+// The leg net that a complex party of that side meets where the legs give one unit, else 0, by the table of all bests.
+pub fn net_on(t: [Best; SERIES_SIDES], side: u8, s: Strategy) -> u32
+    requires { ⌜ All FitBest t × FitLegs s ⌝ }
+    ensures { λ r. ⌜ r ≡ netOn t side s ⌝ }
+{
+    let count = s.count as usize;
+    let legs = s.legs;
+    let mut n = NO_SUMS;
+    let mut i: usize = 0;
+    while i < count {
+        let l = legs[i];
+        let on = other(leg_side(side, l));
+        let at = place_of(l.series, on);
+        let b = t[at];
+        if b.price == 0 {
+            return 0;
+        }
+        n = sums_with(n, l, b);
+        i += 1;
+    }
+    if n.units == 0 {
+        return 0;
+    }
+    ZERO_LEVEL + n.buys - n.sells
 }

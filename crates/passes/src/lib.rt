@@ -4,13 +4,13 @@ ghost use mathlib.Core.Path.{_≡_};
 ghost use Prim.Native.Nat.{_+_, _-_, _<_};
 ghost use Rattle.base.specs.All.{All};
 ghost use Rattle.rules.specs.Sizes.{tableRows};
-ghost use Rattle.rules.specs.Valid.{FitOrder};
+ghost use Rattle.rules.specs.Valid.{FitOrder, Priced};
 ghost use Rattle.rules.specs.Passes.{legsFirst, turnAt, allowed, meetLimit, pass};
 ghost use Rattle.records.specs.Space.{Room};
 ghost use Rattle.records.specs.Done.{Done, RoomIn, DoneIn};
-ghost use Rattle.ranges.specs.Fit.{FitLegs, Priced, Fit};
+ghost use Rattle.ranges.specs.Fit.{FitLegs, Fit};
 ghost use Rattle.fills.specs.Gives.{HasRows, putEntries};
-ghost use Rattle.passes.specs.Passes.{stopsAt, oppositeIn, netIn, pricesIn, turnIn};
+ghost use Rattle.passes.specs.Passes.{stopsAt, oppositeIn, legsFor, turnIn};
 use fills::AfterFills;
 use fills::cut_entry;
 use fills::give_in_turn;
@@ -19,7 +19,10 @@ use legging::leg_fill;
 use national::bounds;
 use national::may_meet;
 use national::may_take;
-use nets::net_ready;
+use nets::LegBests;
+use nets::NO_LEG_BESTS;
+use nets::leg_bests;
+use nets::ready_net;
 use quotas::best_opposite;
 use records::After;
 use rules::Allocation;
@@ -31,12 +34,6 @@ use rules::Strategy;
 use rules::Turn;
 use sides::better;
 use sides::meets;
-
-// The best opposite limit and the ready leg net (0: none), between which an entry chooses.
-pub struct Prices {
-    pub limit: u32,
-    pub net: u32,
-}
 
 // Whether the legs go before the best opposite limit: they have a net, and it is strictly better or no limit stands.
 fn legs_first(side: u8, net: u32, limit: u32) -> bool
@@ -84,32 +81,18 @@ fn opposite(way: Allocation, es: [Entry; State::ROWS], e: Entry) -> u32
     }
 }
 
-// The leg net of a complex party of that side where the legs may be used and are ready, else 0.
-fn ready_net(legs: bool, os: [LegOrder; State::LEG_ORDERS], side: u8, s: Strategy) -> u32
+// What entry e meets on the legs of strategy s, where they may be used and it has units.
+fn legs_for(legs: bool, e: Entry, os: [LegOrder; State::LEG_ORDERS], s: Strategy) -> LegBests
     requires { ⌜ All FitOrder os × All Priced os × FitLegs s ⌝ }
-    ensures { λ r. ⌜ r ≡ netIn legs os side s ⌝ }
+    ensures { λ p. ⌜ p ≡ legsFor legs e os s ⌝ }
 {
-    if legs {
-        return net_ready(os, side, s);
+    if e.units == 0 {
+        return NO_LEG_BESTS;
     }
-    0
-}
-
-// The prices that entry e, of strategy s, finds among these entries and leg orders.
-fn prices_for(
-    way: Allocation,
-    legs: bool,
-    e: Entry,
-    es: [Entry; State::ROWS],
-    os: [LegOrder; State::LEG_ORDERS],
-    s: Strategy,
-) -> Prices
-    requires { ⌜ All FitOrder os × All Priced os × FitLegs s ⌝ }
-    ensures { λ p. ⌜ p ≡ pricesIn way legs e es os s ⌝ }
-{
-    let x = opposite(way, es, e);
-    let net = ready_net(legs, os, e.side, s);
-    Prices { limit: x, net: net }
+    if legs {
+        return leg_bests(os, e.side, s);
+    }
+    NO_LEG_BESTS
 }
 
 // A turn of an entry of that side, at that ready leg net, unless the bounds forbid one of its parties the fill: then it stops.
@@ -133,25 +116,16 @@ fn allowed(w: Bounds, side: u8, net: u32, t: Turn) -> Turn
     }
 }
 
-// What entry e of strategy s, with those bounds, does next among these entries and leg orders.
-fn turn_of(
-    way: Allocation,
-    legs: bool,
-    w: Bounds,
-    e: Entry,
-    es: [Entry; State::ROWS],
-    os: [LegOrder; State::LEG_ORDERS],
-    s: Strategy,
-) -> Turn
-    requires { ⌜ All FitOrder os × All Priced os × FitLegs s ⌝ }
-    ensures { λ t. ⌜ t ≡ turnIn w e (pricesIn way legs e es os s) ⌝ }
+// What entry e, with those bounds, does next among these entries at that ready leg net (0: none).
+fn turn_of(way: Allocation, w: Bounds, e: Entry, es: [Entry; State::ROWS], net: u32) -> Turn
+    ensures { λ t. ⌜ t ≡ turnIn w e (oppositeIn way es e) net ⌝ }
 {
     if e.units == 0 {
         return Turn::Stop;
     }
-    let p = prices_for(way, legs, e, es, os, s);
-    let t = turn_at(e, p.limit, p.net);
-    allowed(w, e.side, p.net, t)
+    let x = opposite(way, es, e);
+    let t = turn_at(e, x, net);
+    allowed(w, e.side, net, t)
 }
 
 // The holders of a limit are met by entry a, of strategy s.
@@ -193,25 +167,17 @@ pub fn legs_idle(e: Entry, net: u32) -> bool
     stops(t)
 }
 
-// Whether a pass of entry e, of strategy s, does nothing among these entries and leg orders, whatever its bounds.
-pub fn idle(
-    way: Allocation,
-    legs: bool,
-    e: Entry,
-    es: [Entry; State::ROWS],
-    os: [LegOrder; State::LEG_ORDERS],
-    s: Strategy,
-) -> bool
-    requires { ⌜ All FitOrder os × All Priced os × FitLegs s ⌝ }
-    ensures { λ r. ⌜ r ≡ stopsAt (turnAt e (oppositeIn way es e) (netIn legs os (e .side) s)) ⌝ }
+// Whether a pass of entry e does nothing among these entries at that ready leg net (0: none), whatever its bounds.
+pub fn idle(way: Allocation, e: Entry, es: [Entry; State::ROWS], net: u32) -> bool
+    ensures { λ r. ⌜ r ≡ stopsAt (turnAt e (oppositeIn way es e) net) ⌝ }
 {
-    let p = prices_for(way, legs, e, es, os, s);
-    let t = turn_at(e, p.limit, p.net);
+    let x = opposite(way, es, e);
+    let t = turn_at(e, x, net);
     stops(t)
 }
 
 // A pass of entry a: turn after turn, each chosen anew, until one stops. There are no more than it has units. No turn changes
-// what bounds them.
+// what bounds them, and only one by the legs what is met on the legs.
 pub fn pass(way: Allocation, legs: bool, b: State, a: usize, space: &mut [i32], n: usize) -> After
     requires { ⌜ (a < tableRows) × Fit b ⌝ }
     requires { ⌜ Room (now space) n (pass way legs a b .records) ⌝ }
@@ -224,22 +190,27 @@ pub fn pass(way: Allocation, legs: bool, b: State, a: usize, space: &mut [i32], 
     let s = c.strategies[k];
     let qs = c.national;
     let w = bounds(qs, c.range, s);
+    let os = c.orders;
+    let mut p = legs_for(legs, e, os, s);
     let mut m = n;
     let mut i: u32 = 0;
     while i < units {
         let f = c.entries[a];
         let es = c.entries;
-        let os = c.orders;
-        let t = turn_of(way, legs, w, f, es, os, s);
+        let net = ready_net(p);
+        let t = turn_of(way, w, f, es, net);
         match t {
             Turn::Stop => {
                 i = units;
             }
             Turn::ByLegs => {
-                let x = leg_fill(f, os, s, space, m);
+                let held = c.orders;
+                let x = leg_fill(f, p, held, s, space, m);
                 let rows = x.rows;
+                let g = cut_entry(f, x.units);
                 c.orders = rows;
-                c.entries[a] = cut_entry(f, x.units);
+                c.entries[a] = g;
+                p = legs_for(legs, g, rows, s);
                 m = x.count;
                 i += 1;
             }

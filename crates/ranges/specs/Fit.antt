@@ -14,9 +14,10 @@ use Rattle.rules.specs.declared.Quote.{Quote}
 use Rattle.rules.specs.declared.State.{State}
 use Rattle.rules.specs.State.{noLeg, noStrategy, noEntry, noOrder, noQuote, legAt}
 use Rattle.rules.specs.Moves.{Moved}
-use Rattle.rules.specs.Valid.{FitLeg, FitEntry, FitOrder, FitQuote, Sound}
+use Rattle.rules.specs.Valid.{FitLeg, FitEntry, FitOrder, Priced, FitQuote, Sound}
 use Rattle.rules.proofs.Tables.{all-of}
 use Rattle.rules.proofs.Shrinks.{SameOrder, SameStrategy, Shrinks}
+use Rattle.rules.proofs.Bests.{priced-none, priced-sound}
 use Rattle.rules.proofs.Entering.{fit-no-leg, fit-none, fit-no-order, entry-fits, order-fits}
 use Rattle.records.specs.Done.{Done}
 
@@ -25,10 +26,6 @@ pub record FitLegs (s : Strategy) : Type 0 where
   pub count : s .count ≤ 6
   pub legs : All FitLeg (s .legs)
   pub used : (i : ℕ) → i < s .count → 0 < legAt s i .ratio
-
--- a live leg order has a price
-pub record Priced (o : LegOrder) : Type 0 where
-  pub price : 0 < o .contracts → 1 ≤ o .price
 
 pub record Fit (b : State) : Type 0 where
   pub strategies : All FitLegs (b .strategies)
@@ -50,9 +47,6 @@ no-legs = record { count = omega arith; legs = all-nil; used = λ i h. absurd (o
 no-quote : FitQuote noQuote
 no-quote = record { bid = omega arith; offer = omega arith }
 
-pub priced-none : Priced noOrder
-priced-none = record { price = λ h. absurd (omega arith) }
-
 -- so every row fits, at any place
 pub fit-leg : {ls : List Leg} → All FitLeg ls → (i : ℕ) → FitLeg (getD ls i noLeg)
 fit-leg a i = all-at noLeg fit-no-leg a i
@@ -73,9 +67,6 @@ pub priced-at : {os : List LegOrder} → All Priced os → (i : ℕ) → Priced 
 priced-at a i = all-at noOrder priced-none a i
 
 -- a sound state
-pub priced-sound : {b : State} → Sound b → All Priced (b .orders)
-priced-sound {b} s = all-of Priced noOrder (b .orders) (λ i. record { price = λ h. s .liveOrder i h .price })
-
 pub fit-sound : {b : State} → Sound b → Fit b
 fit-sound s = record {
   strategies = all-map (λ t f. record { count = f .count; legs = f .legs; used = f .used }) (s .strategies);

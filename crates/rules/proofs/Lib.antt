@@ -8,6 +8,7 @@ pub mod Control
 pub mod Turns
 pub mod Ends
 pub mod Firsts
+pub mod Bests
 pub mod Finishes
 pub mod DayEnd
 pub mod Entering

@@ -4,15 +4,16 @@ use mathlib.Core.List.{List}
 use Prim.Native.Nat.{ℕ, _+_, _-_, _*_, _/_, min}
 use lib.Dec.{eqb, ltb}
 use lib.ListN.{getD}
-use Rattle.base.specs.Pick.{pick, both}
+use Rattle.base.specs.Pick.{pick, both, either}
 use Rattle.base.specs.Walks.{sumN, slot, table, allN, walk}
 use Rattle.rules.specs.Sizes.{tableRows, zeroLevel}
 use Rattle.rules.specs.declared.Leg.{Leg}
 use Rattle.rules.specs.declared.Strategy.{Strategy}
 use Rattle.rules.specs.declared.LegOrder.{LegOrder}
+use Rattle.rules.specs.declared.Best.{Best}
 use Rattle.rules.specs.declared.State.{State}
 use Rattle.rules.specs.State.{noLeg, noOrder, strategyAt}
-use Rattle.rules.specs.Sides.{other, legSide, bestPrice}
+use Rattle.rules.specs.Sides.{other, legSide, better, bestPrice}
 
 -- whether a leg order stands in that series and side
 unfoldable pub stands : ℕ → ℕ → LegOrder → Bool
@@ -41,6 +42,34 @@ lotAt os s side price i = lot s side price (getD os i noOrder)
 -- .. by each of the 32
 unfoldable pub lots : List LegOrder → ℕ → ℕ → ℕ → List ℕ
 lots os s side price = table (lotAt os s side price) tableRows
+
+-- "a series' best price and the contracts at it" (2026-02): both 0 where no order stands there
+unfoldable pub bestOf : List LegOrder → ℕ → ℕ → Best
+bestOf os s side = record { price = priceOf os s side; contracts = sumN (slot (lots os s side (priceOf os s side))) tableRows }
+
+-- 2026-02: "a running pair", before any slot
+abbrev pub noBest : Best
+noBest = record { price = 0; contracts = 0 }
+
+-- ".. that starts afresh at a better price": at price q of that side, the best so far being p (0: none yet)
+unfoldable pub startsAfresh : ℕ → ℕ → ℕ → Bool
+startsAfresh side p q = either (eqb p 0) (better side p q)
+
+-- .. the pair with one leg order more: an equal price adds its contracts, a worse one nothing
+unfoldable pub bestWith : ℕ → ℕ → Best → LegOrder → Best
+bestWith s side b o =
+    pick (stands s side o)
+    (pick (startsAfresh side (b .price) (o .price)) (record { price = o .price; contracts = o .contracts })
+    (pick (eqb (o .price) (b .price)) (record { price = b .price; contracts = b .contracts + o .contracts }) b))
+    b
+
+-- .. one slot more
+abbrev pub bestStep : List LegOrder → ℕ → ℕ → ℕ → Best → Best
+bestStep os s side i b = bestWith s side b (getD os i noOrder)
+
+-- "both in one walk over the leg orders": the pair after k slots
+unfoldable pub bestAfter : List LegOrder → ℕ → ℕ → ℕ → Best
+bestAfter os s side k = walk (bestStep os s side) noBest k
 
 -- the best price that a complex party of that side meets on a leg: "offers for buy legs, bids for sell legs", or the reverse
 unfoldable pub legPrice : List LegOrder → ℕ → Leg → ℕ

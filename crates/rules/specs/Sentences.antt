@@ -6,9 +6,9 @@ use mathlib.Core.Path.{_≡_}
 use mathlib.Core.Bool.{Bool, true, false, not}
 use mathlib.Core.Logic.{_⊎_}
 use mathlib.Core.List.{List, [], _∷_, _++_, List·Memᴰ}
-use Prim.Native.Nat.{ℕ, _+_, _-_, _*_, _^_, _≤_, _<_}
+use Prim.Native.Nat.{ℕ, suc, _+_, _-_, _*_, _^_, _≤_, _<_}
 use lib.Dec.{eqb}
-use lib.ListN.{getD, replicate}
+use lib.ListN.{getD, replicate, take}
 use Rattle.base.specs.Pick.{pick}
 use Rattle.base.specs.Walks.{sumN}
 use Rattle.base.specs.All.{All, Sorted}
@@ -32,11 +32,11 @@ use Rattle.rules.specs.declared.Bounds.{Bounds}
 use Rattle.rules.specs.declared.Turn.{Turn}
 use Rattle.rules.specs.declared.Turn.the-variants.{Stop, ByLegs, AtLimit}
 use Rattle.rules.specs.declared.Kind.the-variants.{LegFill, LegOrderFill, Cancelled, LegOrderCancelled, AuctionBegun, AuctionEnded}
-use Rattle.rules.specs.State.{noLeg, noQuote, fresh, entryAt, orderAt, strategyAt, legAt, withOpened, withClock, withNational, withRange}
+use Rattle.rules.specs.State.{noLeg, noOrder, noQuote, fresh, entryAt, orderAt, strategyAt, legAt, withOpened, withClock, withNational, withRange}
 use Rattle.rules.specs.Moves.{Moved, still, each}
 use Rattle.rules.specs.Records.{kindNumber}
 use Rattle.rules.specs.Sides.{other, meets, better}
-use Rattle.rules.specs.Nets.{offerNet, bidNet}
+use Rattle.rules.specs.Nets.{stands, bestOf, noBest, bestAfter, offerNet, bidNet}
 use Rattle.rules.specs.Fills.{partyRecords}
 use Rattle.rules.specs.National.{boundsAt, mayBuy, maySell, mayFill, mayTake, mayMeet}
 use Rattle.rules.specs.declared.Allocation.the-variants.{Shared}
@@ -151,6 +151,24 @@ MeetsNone b i =
 -- the legs are not ready for it, or do not meet its limit
 abbrev pub LegsMeetNone : State → ℕ → Type 0
 LegsMeetNone b i = (readyNet true i b ≡ 0) ⊎ (meets (entryAt b i .side) (entryAt b i .level) (readyNet true i b) ≡ false)
+
+-- a better price than p for an order of that side of a book: the first, a higher bid, a lower offer
+pub data BetterPrice (side p q : ℕ) : Type 0 where
+  first : p ≡ 0 → BetterPrice side p q
+  higher : side ≡ 0 → p < q → BetterPrice side p q
+  lower : side ≡ 1 → q < p → BetterPrice side p q
+
+-- THE BEST PRICE OF A SERIES AND SIDE AND THE CONTRACTS AT IT (2026-02), "in one walk over the leg orders", of a table whose live orders have prices.
+pub record Walked (os : List LegOrder) (s side : ℕ) : Type 0 where
+  -- "from a running pair that starts afresh at a better price"
+  pub afresh : (k : ℕ) → stands s side (getD os k noOrder) ≡ true → BetterPrice side (bestAfter os s side k .price) (getD os k noOrder .price)
+      → bestAfter os s side (suc k) ≡ record { price = getD os k noOrder .price; contracts = getD os k noOrder .contracts }
+  -- "After each slot the pair is that of the slots walked so far"
+  pub slots : (k : ℕ) → k ≤ tableRows → bestAfter os s side k ≡ bestOf (take k os) s side
+  -- "at the end price and contracts are those of today"
+  pub end : bestAfter os s side tableRows ≡ bestOf os s side
+  -- ".. an empty side included"
+  pub empty : ((i : ℕ) → i < tableRows → stands s side (getD os i noOrder) ≡ false) → bestAfter os s side tableRows ≡ noBest
 
 -- WHO MAY NOT FILL at a level, within bounds w: exactly who these name.
 pub record BoundSentence (w : Bounds) (buys sells : Bool) (level : ℕ) : Type 0 where

@@ -53,6 +53,10 @@ pub record FitOrder (o : LegOrder) : Type 0 where
   pub contracts : o .contracts ≤ 9999
   pub price : o .price ≤ 99_999
 
+-- a live leg order has a price
+pub record Priced (o : LegOrder) : Type 0 where
+  pub price : 0 < o .contracts → 1 ≤ o .price
+
 pub record FitQuote (q : Quote) : Type 0 where
   pub bid : q .bid ≤ 99_999
   pub offer : q .offer ≤ 99_999

@@ -41,6 +41,12 @@ pub struct LegOrder {
     pub price: u32,
 }
 
+// The best price of a series and side and the contracts at it, both 0 where no leg order stands there.
+pub struct Best {
+    pub price: u32,
+    pub contracts: u32,
+}
+
 // The national bid and offer of a series, 0 where one is missing.
 pub struct Quote {
     pub bid: u32,

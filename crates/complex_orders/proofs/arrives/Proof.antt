@@ -1,6 +1,6 @@
-use Rattle.complex_orders.specs.ComplexOrders.{arrives-waits, arrives-starts, arrives-idle, arrives-passes, arrives-shut}
-use Rattle.base.specs.Pick.{told}
 use mathlib.Core.Path.{_∙_}
+use Rattle.base.specs.Pick.{told}
+use Rattle.complex_orders.specs.ComplexOrders.{arrives-waits, arrives-starts, arrives-idle, arrives-passes, arrives-shut, idle-found}
 use borrow.Author.Needs.{needs}
 use Rattle.complex_orders.proofs.arrives.Statement.{statement}
 use Rattle.complex_orders.proofs.arrives.Tie as tie
@@ -23,6 +23,12 @@ starts-requires c κs = search needs
 returns-2 : tie.Need-returns-2
 returns-2 c = arrives-starts _ _ _ _ _ (told (c .before .before .before .before .before .none-shut .ensures) (c .before .before .before .before .if1 .taken)) (told (c .before .before .before .runs .ensures) (c .before .before .if2 .left)) (told (c .before .starts .ensures) (c .if3 .taken))
 
+leg-bests-requires : tie.Need-leg-bests-requires
+leg-bests-requires c κs = search needs
+
+ready-net-requires : tie.Need-ready-net-requires
+ready-net-requires c κs = search needs
+
 idle-requires : tie.Need-idle-requires
 idle-requires c κs = search needs
 
@@ -30,10 +36,10 @@ rests-requires : tie.Need-rests-requires
 rests-requires c κs = search needs
 
 returns-3 : tie.Need-returns-3
-returns-3 c = c .rests .ensures ∙ arrives-idle _ _ _ _ _ (told (c .before .before .before .before .before .before .before .before .none-shut .ensures) (c .before .before .before .before .before .before .before .if1 .taken)) (told (c .before .before .before .before .before .before .runs .ensures) (c .before .before .before .before .before .if2 .left)) (told (c .before .before .before .before .starts .ensures) (c .before .before .before .if3 .left)) (told (c .before .before .idle .ensures) (c .before .if4 .taken))
+returns-3 c = c .rests .ensures ∙ arrives-idle _ _ _ _ _ (told (c .before .before .before .before .before .before .before .before .before .before .none-shut .ensures) (c .before .before .before .before .before .before .before .before .before .if1 .taken)) (told (c .before .before .before .before .before .before .before .before .runs .ensures) (c .before .before .before .before .before .before .before .if2 .left)) (told (c .before .before .before .before .before .before .starts .ensures) (c .before .before .before .before .before .if3 .left)) (told (idle-found _ _ _ _ (c .before .before .before .before .leg-bests .ensures) (c .before .before .before .ready-net .ensures) (c .before .before .idle .ensures)) (c .before .if4 .taken))
 
 returns-4 : tie.Need-returns-4
-returns-4 c = arrives-passes _ _ _ _ _ (told (c .before .before .before .before .before .before .before .none-shut .ensures) (c .before .before .before .before .before .before .if1 .taken)) (told (c .before .before .before .before .before .runs .ensures) (c .before .before .before .before .if2 .left)) (told (c .before .before .before .starts .ensures) (c .before .before .if3 .left)) (told (c .before .idle .ensures) (c .if4 .left))
+returns-4 c = arrives-passes _ _ _ _ _ (told (c .before .before .before .before .before .before .before .before .before .none-shut .ensures) (c .before .before .before .before .before .before .before .before .if1 .taken)) (told (c .before .before .before .before .before .before .before .runs .ensures) (c .before .before .before .before .before .before .if2 .left)) (told (c .before .before .before .before .before .starts .ensures) (c .before .before .before .before .if3 .left)) (told (idle-found _ _ _ _ (c .before .before .before .leg-bests .ensures) (c .before .before .ready-net .ensures) (c .before .idle .ensures)) (c .if4 .left))
 
 rests-requires-2 : tie.Need-rests-requires-2
 rests-requires-2 c κs = search needs
@@ -51,6 +57,8 @@ arrives-spec =
     returns
     starts-requires
     returns-2
+    leg-bests-requires
+    ready-net-requires
     idle-requires
     rests-requires
     returns-3

@@ -1,8 +1,6 @@
-use Rattle.complex_orders.specs.ComplexOrders.{starts-not, starts-unknown, starts-better}
-use Rattle.nets.specs.declared.LegPrices.{LegPrices}
-use Rattle.nets.specs.Nets.{legPrices}
 use Rattle.base.specs.Pick.{told}
-use mathlib.Core.Path.{ap}
+use Rattle.nets.specs.Legs.{net-is}
+use Rattle.complex_orders.specs.ComplexOrders.{starts-not, starts-unknown, starts-better}
 use borrow.Author.Needs.{needs}
 use Rattle.complex_orders.proofs.starts.Statement.{statement}
 use Rattle.complex_orders.proofs.starts.Tie as tie
@@ -13,19 +11,17 @@ may-start-requires c κs = search needs
 other-requires : tie.Need-other-requires
 other-requires c κs = search needs
 
-leg-prices-requires : tie.Need-leg-prices-requires
-leg-prices-requires c κs = search needs
+leg-bests-requires : tie.Need-leg-bests-requires
+leg-bests-requires c κs = search needs
 
 returns : tie.Need-returns
-unfolding legPrices
-returns c = starts-unknown _ _ _ (told (c .before .before .before .before .may-start .ensures) (c .before .before .before .if1 .taken)) (c .before .before .other .ensures) (ap (λ (x : LegPrices). x .net) (c .before .leg-prices .ensures)) (c .if2 .taken)
+returns c = starts-unknown _ _ _ (told (c .before .before .before .before .may-start .ensures) (c .before .before .before .if1 .taken)) (c .before .before .other .ensures) (net-is _ _ _ (c .before .leg-bests .ensures)) (c .if2 .taken)
 
 better-requires : tie.Need-better-requires
 better-requires c κs = search needs
 
 returns-2 : tie.Need-returns-2
-unfolding legPrices
-returns-2 c = starts-better _ _ _ (told (c .before .before .before .before .before .may-start .ensures) (c .before .before .before .before .if1 .taken)) (c .before .before .before .other .ensures) (ap (λ (x : LegPrices). x .net) (c .before .before .leg-prices .ensures)) (c .before .if2 .left) (c .better .ensures)
+returns-2 c = starts-better _ _ _ (told (c .before .before .before .before .before .may-start .ensures) (c .before .before .before .before .if1 .taken)) (c .before .before .before .other .ensures) (net-is _ _ _ (c .before .before .leg-bests .ensures)) (c .before .if2 .left) (c .better .ensures)
 
 returns-3 : tie.Need-returns-3
 returns-3 c = starts-not _ _ _ (told (c .before .may-start .ensures) (c .if1 .left))
@@ -36,7 +32,7 @@ starts-spec =
     (tie.spec
     may-start-requires
     other-requires
-    leg-prices-requires
+    leg-bests-requires
     returns
     better-requires
     returns-2

@@ -1,4 +1,4 @@
-use Rattle.lookups.specs.Lookups.{depth-series, depth-side, depth-empty, depth-best}
+use Rattle.lookups.specs.Lookups.{depth-series, depth-side, depth-is, tells-empty, tells-best}
 use borrow.Author.Needs.{needs}
 use Rattle.lookups.proofs.depth.Statement.{statement}
 use Rattle.lookups.proofs.depth.Tie as tie
@@ -19,10 +19,10 @@ best-of-requires : tie.Need-best-of-requires
 best-of-requires c κs = search needs
 
 returns-3 : tie.Need-returns-3
-returns-3 c = depth-empty _ _ _ (c .before .before .before .before .if1 .left) (c .before .before .before .if2 .left) (c .before .before .best-of .ensures) (c .if3 .taken)
+returns-3 c = depth-is _ _ _ (c .before .before .before .before .if1 .left) (c .before .before .before .if2 .left) (c .before .before .best-of .ensures) (tells-empty _ (c .if3 .taken))
 
 returns-4 : tie.Need-returns-4
-returns-4 c = depth-best _ _ _ (c .before .before .before .before .if1 .left) (c .before .before .before .if2 .left) (c .before .before .best-of .ensures) (c .if3 .left)
+returns-4 c = depth-is _ _ _ (c .before .before .before .before .if1 .left) (c .before .before .before .if2 .left) (c .before .before .best-of .ensures) (tells-best _ (c .if3 .left))
 
 pub depth-spec : {M : Type 1} → statement M
 depth-spec =

@@ -1,11 +1,11 @@
+use Rattle.passes.specs.Passes.{stopsAt}
 use mathlib.Core.Path.{ap, _∙_}
-use Rattle.passes.specs.Passes.{stopsAt, pricesIn}
 use borrow.Author.Needs.{needs}
 use Rattle.passes.proofs.idle.Statement.{statement}
 use Rattle.passes.proofs.idle.Tie as tie
 
-prices-for-requires : tie.Need-prices-for-requires
-prices-for-requires c κs = search needs
+opposite-requires : tie.Need-opposite-requires
+opposite-requires c κs = search needs
 
 turn-at-requires : tie.Need-turn-at-requires
 turn-at-requires c κs = search needs
@@ -14,8 +14,7 @@ stops-requires : tie.Need-stops-requires
 stops-requires c κs = search needs
 
 returns : tie.Need-returns
-unfolding pricesIn
-returns c = c .stops .ensures ∙ ap stopsAt (rw (c .before .before .prices-for .ensures) at (c .before .turn-at .ensures))
+returns c = c .stops .ensures ∙ ap stopsAt (rw (c .before .before .opposite .ensures) at (c .before .turn-at .ensures))
 
 pub idle-spec : {M : Type 1} → statement M
-idle-spec = tie.close (tie.spec prices-for-requires turn-at-requires stops-requires returns)
+idle-spec = tie.close (tie.spec opposite-requires turn-at-requires stops-requires returns)

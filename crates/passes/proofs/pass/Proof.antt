@@ -1,26 +1,26 @@
-use native.Mathlib.Omega.{arith}
-use borrow.Author.Needs.{needs}
-use mathlib.Core.Path.{_≡_, sym, _∙_}
-use Prim.Native.Nat.{_-_, _<_}
-use Rattle.rules.specs.declared.Turn.{Turn}
-use Rattle.rules.specs.State.{entryAt, withEntries, withOrders}
-use Rattle.rules.specs.Fills.{cut}
-use Rattle.rules.specs.Passes.{pass, turnOf}
-use Rattle.records.specs.Done.{visit-all, done-length}
+use Rattle.passes.specs.Passes.{Turning, turning-none, turning-fit, turning-turn, turning-some, turning-found, turning-stops, legs-room, legs-fit, turning-legs, limit-room, turning-limit}
 use Rattle.ranges.specs.Fit.{Fit, fit-entry, fit-legs}
-use Rattle.passes.specs.Passes.{Turning, turning-none, turning-fit, turning-turn, turning-stops, legs-room, turning-legs, limit-room, turning-limit}
+use Rattle.records.specs.Done.{visit-all, done-length}
+use Rattle.rules.specs.Passes.{pass, turnOf}
+use Rattle.rules.specs.Fills.{cut}
+use Rattle.rules.specs.State.{entryAt, withEntries, withOrders}
+use Rattle.rules.specs.declared.Turn.{Turn}
+use Prim.Native.Nat.{_-_, _<_}
+use mathlib.Core.Path.{_≡_, sym, _∙_}
+use borrow.Author.Needs.{needs}
+use native.Mathlib.Omega.{arith}
 use Rattle.passes.proofs.pass.Statement.{statement}
 use Rattle.passes.proofs.pass.Tie as tie
 
 abbrev Inv-loop : tie.InvT-loop
-Inv-loop way legs a space₀ n c₀ units k s w m₀ i₀ space c m i = Turning way legs a units c₀ space₀ space n m c i
+Inv-loop way legs a space₀ n c₀ units k s w p₀ m₀ i₀ space c p m i = Turning way legs a units c₀ space₀ space n m c p i
 
 abbrev μ-loop : tie.MeasureT-loop
-μ-loop way legs a space₀ n c₀ units k s w m₀ i₀ space c m i = units - i
+μ-loop way legs a space₀ n c₀ units k s w p₀ m₀ i₀ space c p m i = units - i
 
 -- where the function with that loop starts
 abbrev first : tie.At-loop Inv-loop μ-loop → tie.Start Inv-loop μ-loop
-first l = l .before .before .before .before .before .before
+first l = l .before .before .before .before .before .before .before .before
 
 -- the ranges of the book in the loop
 fits : (l : tie.At-loop Inv-loop μ-loop) → Fit (l .loop .c)
@@ -32,7 +32,7 @@ around k = k .before .before .before .before .before
 
 -- the turn that is found is the rule's
 turned : (k : tie.After-turn-of Inv-loop μ-loop) {t : Turn} → k .turn-of .result ≡ t → turnOf (first (around k) .args .way) (first (around k) .args .legs) (first (around k) .args .a) (around k .loop .c) ≡ t
-turned k e = turning-turn _ _ _ (first (around k) .pre .0 .1) (around k .loop .inv) (around k .before .bounds .ensures) (sym e ∙ k .turn-of .ensures)
+turned k e = turning-turn _ _ _ (first (around k) .pre .0 .1) (around k .loop .inv) (around k .before .before .before .bounds .ensures) (k .before .ready-net .ensures) (sym e ∙ k .turn-of .ensures)
 
 -- units are left
 tested : (k : tie.After-turn-of Inv-loop μ-loop) → around k .loop .i < entryAt (first (around k) .args .b) (first (around k) .args .a) .units
@@ -60,8 +60,11 @@ element-copy-out-s c = fit-entry (c .before .before .pre .0 .1 .entries) (c .bef
 bounds-requires : tie.Need-bounds-requires Inv-loop μ-loop
 bounds-requires c κs = (c .before .before .before .before .pre .0 .1 .quotes, fit-legs (c .before .before .before .before .pre .0 .1 .strategies) _)
 
+legs-for-requires : tie.Need-legs-for-requires Inv-loop μ-loop
+legs-for-requires c κs = (c .before .before .before .before .before .before .pre .0 .1 .orders, c .before .before .before .before .before .before .pre .0 .1 .priced, fit-legs (c .before .before .before .before .before .before .pre .0 .1 .strategies) _)
+
 loop-holds : tie.Need-loop-holds Inv-loop μ-loop
-loop-holds c = turning-none _ _ _ _ _ _ _
+loop-holds c = turning-none _ _ _ _ _ _ _ (c .legs-for .ensures)
 
 mul-f : tie.Need-mul-f Inv-loop μ-loop
 mul-f c = search needs
@@ -69,10 +72,11 @@ mul-f c = search needs
 element-copy-out-f : tie.Need-element-copy-out-f Inv-loop μ-loop
 element-copy-out-f c = first (c .before) .pre .0 .0
 
+ready-net-requires : tie.Need-ready-net-requires Inv-loop μ-loop
+ready-net-requires c κs = search needs
+
 turn-of-requires : tie.Need-turn-of-requires Inv-loop μ-loop
-turn-of-requires c κs = let l = c .before .before .before .before in
-    let fit = fits l in
-    (fit .orders, fit .priced, fit-legs (first l .pre .0 .1 .strategies) _)
+turn-of-requires c κs = search needs
 
 enum-told : tie.Need-enum-told Inv-loop μ-loop
 enum-told c = search needs
@@ -90,32 +94,41 @@ enum-told-2 c = search needs
 
 leg-fill-requires : tie.Need-leg-fill-requires Inv-loop μ-loop
 unfolding pass
-leg-fill-requires c κs = let k = c .before .before .before in
+leg-fill-requires c κs = let k = c .before .before .before .before in
     let l = around k in
     let p = first l in
+    let t = turned k (c .before .before .enum-told2 .given .1) in
     let fit = fits l in
-    ((fit .orders, fit-legs (p .pre .0 .1 .strategies) _, fit-entry (fit .entries) (p .args .a) .units), legs-room _ _ _ (p .pre .0 .1) (l .loop .inv) (turned k (c .before .enum-told2 .given .1)) (tested k) (p .pre .1))
+    ((fit-legs (p .pre .0 .1 .strategies) _, fit-entry (fit .entries) (p .args .a) .units, turning-found _ _ _ (p .pre .0 .1) (l .loop .inv) t, turning-some _ _ _ (p .pre .0 .1) (l .loop .inv) t), legs-room _ _ _ (p .pre .0 .1) (l .loop .inv) t (tested k) (p .pre .1))
 
 cut-entry-requires : tie.Need-cut-entry-requires Inv-loop μ-loop
 cut-entry-requires c κs = search needs
 
-mul-t41 : tie.Need-mul-t41 Inv-loop μ-loop
-mul-t41 c = omega (arith, first (around (c .before .before .before .before .before .before .before)) .pre .0 .0)
+mul-g : tie.Need-mul-g Inv-loop μ-loop
+mul-g c = omega (arith, first (around (c .before .before .before .before .before .before .before .before)) .pre .0 .0)
 
-element-set-from-c : tie.Need-element-set-from-c Inv-loop μ-loop
-element-set-from-c c = first (around (c .before .before .before .before .before .before .before)) .pre .0 .0
+element-set-from-g : tie.Need-element-set-from-g Inv-loop μ-loop
+element-set-from-g c = first (around (c .before .before .before .before .before .before .before .before)) .pre .0 .0
+
+legs-for-requires-2 : tie.Need-legs-for-requires-2 Inv-loop μ-loop
+unfolding cut withEntries withOrders
+legs-for-requires-2 c κs = let k = c .before .before .before .before .before .before .before .before in
+    let l = around k in
+    let p = first l in
+    let fit = legs-fit _ _ _ (p .pre .0 .1) (l .loop .inv) (turned k (c .before .before .before .before .before .before .enum-told2 .given .1)) (c .before .before .before .leg-fill .ensures) in
+    (fit .orders, fit .priced, fit-legs (p .pre .0 .1 .strategies) _)
 
 add-i : tie.Need-add-i Inv-loop μ-loop
-add-i c = omega (arith, few (c .before .before .before .before .before .before .before))
+add-i c = omega (arith, few (c .before .before .before .before .before .before .before .before .before))
 
 loop-less-2 : tie.Need-loop-less-2 Inv-loop μ-loop
 loop-less-2 c = omega arith
 
 loop-again-2 : tie.Need-loop-again-2 Inv-loop μ-loop
 unfolding cut withEntries withOrders
-loop-again-2 c = let k = c .before .before .before .before .before .before .before in
+loop-again-2 c = let k = c .before .before .before .before .before .before .before .before .before in
     let l = around k in
-    rw (c .cut-entry .ensures) (turning-legs _ _ _ (first l .pre .0 .1) (l .loop .inv) (turned k (c .before .before .before .before .before .enum-told2 .given .1)) (tested k) (c .before .before .before .leg-fill .ensures))
+    rw (c .before .cut-entry .ensures) (turning-legs _ _ _ (first l .pre .0 .1) (l .loop .inv) (turned k (c .before .before .before .before .before .before .before .enum-told2 .given .1)) (tested k) (first l .pre .0 .0) (c .before .before .before .before .leg-fill .ensures) (rw (c .before .cut-entry .ensures) at (c .legs-for2 .ensures)))
 
 enum-known-t : tie.Need-enum-known-t Inv-loop μ-loop
 enum-known-t c = search needs
@@ -158,9 +171,11 @@ pass-spec =
     mul-s
     element-copy-out-s
     bounds-requires
+    legs-for-requires
     loop-holds
     mul-f
     element-copy-out-f
+    ready-net-requires
     turn-of-requires
     enum-told
     loop-less
@@ -168,8 +183,9 @@ pass-spec =
     enum-told-2
     leg-fill-requires
     cut-entry-requires
-    mul-t41
-    element-set-from-c
+    mul-g
+    element-set-from-g
+    legs-for-requires-2
     add-i
     loop-less-2
     loop-again-2

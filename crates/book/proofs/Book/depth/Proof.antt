@@ -1,5 +1,5 @@
 use borrow.Author.Needs.{needs}
-use Rattle.ranges.specs.Fit.{priced-sound}
+use Rattle.rules.proofs.Bests.{priced-sound}
 use Rattle.book.proofs.Book.depth.Statement.{statement}
 use Rattle.book.proofs.Book.depth.Tie as tie
 
