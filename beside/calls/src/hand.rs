@@ -1,14 +1,15 @@
-//! Lists made by hand: spaces of every sort, ends of the input, long frames, and
-//! the days of `tapes` with full tables, numbers at the ends of their ranges and
-//! national prices.
+//! Lists made by hand: spaces of every sort, ends of the input, long frames, depths
+//! of leg orders in every order, and the days of `tapes` with full tables, numbers at
+//! the ends of their ranges, national prices and best prices.
 
 use crate::lists::List;
-use reckoning::book::{Book, SPACE};
+use reckoning::book::{Book, BUY, LEG_ORDERS, SELL, SPACE};
 use reckoning::calls::item;
+use reckoning::frames::{bytes, Event};
 use reckoning::generate::LAST_KIND;
 use reckoning::lists::Input;
 use tapes::days::Day;
-use tapes::hand::{example, extremes, full_tables, national};
+use tapes::hand::{best_prices, example, extremes, full_tables, national};
 use tapes::tally::frames;
 
 fn made(name: impl Into<String>, bytes: Vec<u8>) -> List {
@@ -167,6 +168,63 @@ pub fn last_numbers() -> Vec<List> {
     .collect()
 }
 
+/// A leg order: series, side, contracts and price.
+type Order = (u8, u8, u16, u32);
+
+/// All series open, and these leg orders.
+fn orders(name: String, orders: &[Order]) -> List {
+    let open = (0..32).map(|series| Event::Series { series, state: 1 });
+    let orders = (orders.iter()).map(|(series, side, contracts, price)| Event::LegOrder {
+        member: 7,
+        series: *series,
+        side: *side,
+        contracts: *contracts,
+        price: *price,
+    });
+    let calls = open.chain(orders).map(|event| call(&bytes(&event), SPACE));
+    made(name, calls.flatten().collect())
+}
+
+/// Lists after which the depths show the contracts of best prices (2026-02): four
+/// leg orders at three prices in every order, bids and offers of four series in
+/// turn; a full table with the best price in each slot; and one with all orders at
+/// one price.
+pub fn depths() -> Vec<List> {
+    let mut lists = Vec::new();
+    let numbers: Vec<u32> = (0..3_u32.pow(4)).collect();
+    for part in numbers.chunks(4) {
+        let mut list: Vec<Order> = Vec::new();
+        for at in 0..4 {
+            for (series, number) in part.iter().enumerate() {
+                for (side, lowest) in [(BUY, 300), (SELL, 400)] {
+                    let price = lowest + number / 3_u32.pow(at) % 3;
+                    // Each sum of contracts tells which orders are in it.
+                    list.push((series as u8, side, 1 << at, price));
+                }
+            }
+        }
+        let name = format!("four orders of a side, from {}", part[0]);
+        lists.push(orders(name, &list));
+    }
+    for side in [BUY, SELL] {
+        for best in 0..LEG_ORDERS {
+            let price = |slot| match (slot == best, side) {
+                (false, _) => 300,
+                (true, BUY) => 301,
+                (true, _) => 299,
+            };
+            let list: Vec<Order> = (0..LEG_ORDERS)
+                .map(|slot| (31, side, 1 + slot as u16, price(slot)))
+                .collect();
+            let name = format!("the best price of side {side} in slot {best}");
+            lists.push(orders(name, &list));
+        }
+        let name = format!("{LEG_ORDERS} orders of side {side} at one price");
+        lists.push(orders(name, &[(31, side, 9_999, 300); LEG_ORDERS]));
+    }
+    lists
+}
+
 /// A day as calls, whole and up to the call after which the most is live.
 fn of_day(day: &Day) -> Vec<List> {
     let bytes = day.bytes();
@@ -188,5 +246,6 @@ pub fn days() -> Vec<List> {
     let mut days = full_tables();
     days.extend(extremes());
     days.extend(national());
+    days.extend(best_prices());
     days.iter().flat_map(of_day).collect()
 }

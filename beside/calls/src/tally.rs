@@ -32,10 +32,15 @@ pub const SEEN: &[&str] = &[
     "cut",
     "D at the best of several prices",
     "D at the best of three prices or more",
+    "D before a worse price",
+    "D behind a worse price",
     "D of bids",
     "D of offers",
     "D of one order",
+    "D of one order with fewer contracts than a worse price",
     "D of several orders",
+    "D of several orders behind a worse price",
+    "D of the one side, the other being empty",
     "D in a shut series",
     "L in a list without a sweep",
     "L of a complex order",
@@ -215,6 +220,29 @@ impl Tally {
         } else {
             "D of one order"
         });
+        let own = || book.leg_orders_of(series, side);
+        let best = book.depth(series, side).map(|best| best.price);
+        let first = own().next().map(|order| order.price);
+        let last = own().last().map(|order| order.price);
+        self.see_if(first != best, "D behind a worse price");
+        self.see_if(last != best, "D before a worse price");
+        self.see_if(
+            several && first != best,
+            "D of several orders behind a worse price",
+        );
+        let contracts = |price: u32| -> u32 {
+            let at_price = own().filter(|order| order.price == price);
+            at_price.map(|order| order.contracts).sum()
+        };
+        let fewest = best.map_or(0, contracts);
+        self.see_if(
+            !several && prices.iter().any(|price| contracts(*price) > fewest),
+            "D of one order with fewer contracts than a worse price",
+        );
+        self.see_if(
+            book.depth(series, 1 - side).is_none(),
+            "D of the one side, the other being empty",
+        );
         self.see_if(prices.len() > 1, "D at the best of several prices");
         self.see_if(prices.len() > 2, "D at the best of three prices or more");
         self.see_if(!book.is_open(series), "D in a shut series");

@@ -5,7 +5,7 @@
 #![deny(warnings)]
 
 use calls::agree::agrees;
-use calls::hand::{days, ends, last_numbers, long_frames, spaces};
+use calls::hand::{days, depths, ends, last_numbers, long_frames, spaces};
 use calls::lists::{any_frames, every_number, generated, several_days, List};
 use calls::tally::{Tally, SEEN};
 use reckoning::coverage::SITUATIONS;
@@ -89,7 +89,7 @@ fn generated_lists() {
         let count = tally.of(kind, 0);
         assert!(count >= 10_000, "accepted calls of kind {kind}: {count}");
     }
-    assert!(SITUATIONS.len() >= 103);
+    assert!(SITUATIONS.len() >= 129);
     for situation in SITUATIONS {
         let count = tally.reached(situation);
         assert!(count >= 50, "{situation}: {count}");
@@ -178,6 +178,24 @@ fn full_tables_and_extremes() {
         "list: 32 leg orders",
     ] {
         assert!(tally.saw(what) >= 1, "{what}");
+    }
+}
+
+#[test]
+fn depths_of_leg_orders_in_every_order() {
+    let lists = depths();
+    let tally = agreed("depths of leg orders in every order", &lists);
+    assert!(lists.len() >= 80 && tally.of(4, 0) >= 2_000);
+    for what in [
+        "D before a worse price",
+        "D behind a worse price",
+        "D of one order with fewer contracts than a worse price",
+        "D of several orders behind a worse price",
+        "D of the one side, the other being empty",
+        "list: 32 leg orders",
+    ] {
+        let count = tally.saw(what);
+        assert!(count >= 30, "{what}: {count}");
     }
 }
 

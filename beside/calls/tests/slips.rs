@@ -5,7 +5,7 @@
 #![deny(warnings)]
 
 use calls::agree::{agrees, difference, reckoned};
-use calls::hand::{days, ends, last_numbers, spaces};
+use calls::hand::{days, depths, ends, last_numbers, spaces};
 use calls::lists::{generated, several_days, List};
 use std::fs;
 use std::path::Path;
@@ -103,21 +103,21 @@ const SLIPS: &[Slip] = &[
     // Depth.
     (
         "the worse price",
-        "book.rs",
-        "    let best = if side == u32::from(BUY) {",
-        "    let best = if side != u32::from(BUY) {",
+        "nets.rs",
+        "        add_to_pair(pair, side, slot.price, u32::from(slot.contracts));\n",
+        "        add_to_pair(pair, 1 - side, slot.price, u32::from(slot.contracts));\n",
     ),
     (
         "contracts at all prices",
         "book.rs",
-        "            .filter(|entry| entry.price == price)\n",
-        "            .filter(|entry| entry.price == price || price > 0)\n",
+        "    Ok(pair.map(|best| (best.price, best.contracts)))\n",
+        "    let own = row.iter().filter(|slot| slot.series == series && slot.side == side);\n    let contracts = own.map(|slot| u32::from(slot.contracts)).sum();\n    Ok(pair.map(|best| (best.price, contracts)))\n",
     ),
     (
         "contracts of the first order",
         "book.rs",
-        "            .filter(|entry| entry.price == price)\n",
-        "            .filter(|entry| entry.price == price)\n            .take(1)\n",
+        "    Ok(pair.map(|best| (best.price, best.contracts)))\n",
+        "    let first = |price| row.iter().find(|slot| slot.series == series && slot.side == side && slot.price == price);\n    Ok(pair.map(|best| (best.price, first(best.price).map_or(0, |slot| u32::from(slot.contracts)))))\n",
     ),
     (
         "open series only",
@@ -332,6 +332,85 @@ const SLIPS: &[Slip] = &[
         "        *self = Book::fresh(timer);\n",
         "        let range = self.national.range;\n        *self = Book::fresh(timer);\n        self.national.range = range;\n",
     ),
+    // Request 2026-02: the running pair of the depth lookup alone.
+    (
+        "a pair that does not start afresh: the old contracts stay in the sum",
+        "nets.rs",
+        "        add_to_pair(pair, side, slot.price, u32::from(slot.contracts));\n",
+        "        let old = *pair;\n        add_to_pair(pair, side, slot.price, u32::from(slot.contracts));\n        if let (Some(old), Some(best)) = (old, pair) {\n            if old.price != best.price {\n                best.contracts += old.contracts;\n            }\n        }\n",
+    ),
+    (
+        "a better price with the old contracts",
+        "nets.rs",
+        "        add_to_pair(pair, side, slot.price, u32::from(slot.contracts));\n",
+        "        let old = *pair;\n        add_to_pair(pair, side, slot.price, u32::from(slot.contracts));\n        if let (Some(old), Some(best)) = (old, pair) {\n            if old.price != best.price {\n                best.contracts = old.contracts;\n            }\n        }\n",
+    ),
+    (
+        "a better price that changes nothing",
+        "nets.rs",
+        "        add_to_pair(pair, side, slot.price, u32::from(slot.contracts));\n",
+        "        let old = *pair;\n        add_to_pair(pair, side, slot.price, u32::from(slot.contracts));\n        if old.is_some_and(|old| old.price != pair.map_or(0, |best| best.price)) {\n            *pair = old;\n        }\n",
+    ),
+    (
+        "an equal price that replaces",
+        "nets.rs",
+        "        add_to_pair(pair, side, slot.price, u32::from(slot.contracts));\n",
+        "        if pair.is_some_and(|best| best.price == slot.price) {\n            *pair = None;\n        }\n        add_to_pair(pair, side, slot.price, u32::from(slot.contracts));\n",
+    ),
+    (
+        "a worse price that adds",
+        "nets.rs",
+        "        add_to_pair(pair, side, slot.price, u32::from(slot.contracts));\n",
+        "        add_to_pair(pair, side, slot.price, u32::from(slot.contracts));\n        if let Some(best) = pair {\n            if best.price != slot.price {\n                best.contracts += u32::from(slot.contracts);\n            }\n        }\n",
+    ),
+    (
+        "a worse price that replaces",
+        "nets.rs",
+        "        add_to_pair(pair, side, slot.price, u32::from(slot.contracts));\n",
+        "        if pair.is_some_and(|best| best.price != slot.price) {\n            *pair = None;\n        }\n        add_to_pair(pair, side, slot.price, u32::from(slot.contracts));\n",
+    ),
+    (
+        "contracts of 16 bits",
+        "book.rs",
+        "    Ok(pair.map(|best| (best.price, best.contracts)))\n",
+        "    Ok(pair.map(|best| (best.price, best.contracts % 65_536)))\n",
+    ),
+    (
+        "the first slot not walked",
+        "book.rs",
+        "    for slot in row {\n",
+        "    for slot in row.iter().skip(1) {\n",
+    ),
+    (
+        "the last of 32 slots not walked",
+        "book.rs",
+        "    for slot in row {\n",
+        "    for slot in row.iter().take(LEG_ORDERS - 1) {\n",
+    ),
+    (
+        "slots of the other side walked",
+        "nets.rs",
+        "    if slot.contracts > 0 && slot.series == series && slot.side == side {\n",
+        "    if slot.contracts > 0 && slot.series == series {\n",
+    ),
+    (
+        "slots of other series walked",
+        "nets.rs",
+        "    if slot.contracts > 0 && slot.series == series && slot.side == side {\n",
+        "    if slot.contracts > 0 && slot.series <= series && slot.side == side {\n",
+    ),
+    (
+        "a pair begun with a price of either side",
+        "book.rs",
+        "    let mut pair = None;\n    for slot",
+        "    let mut pair = row.iter().find(|slot| slot.series == series).map(|slot| Depth { price: slot.price, contracts: 0 });\n    for slot",
+    ),
+    (
+        "an empty side printed",
+        "calls.rs",
+        "            if let Some((price, contracts)) = found {",
+        "            let found = found.or(book.depth(series as u8, 1 - side as u8).map(|_| (0, 0)));\n            if let Some((price, contracts)) = found {",
+    ),
 ];
 
 /// A part of the lists that the proved program is compared on.
@@ -341,6 +420,7 @@ fn lists() -> Vec<List> {
     lists.extend(generated(35));
     lists.extend(several_days(7));
     lists.extend(days());
+    lists.extend(depths());
     lists.extend(last_numbers());
     lists
 }
@@ -366,7 +446,7 @@ fn slips_in_calls_are_found() {
     }
     assert!(missed.is_empty(), "slips not found: {missed:#?}");
     println!("slips found: {}", SLIPS.len());
-    assert!(SLIPS.len() >= 50);
+    assert!(SLIPS.len() >= 65);
 }
 
 #[test]

@@ -2,7 +2,7 @@
 
 use crate::frames::Leg;
 use crate::national::National;
-use crate::passes::strictly_better;
+use crate::nets::{add_slot, add_to_pair};
 use crate::records::Record;
 use crate::table::Table;
 
@@ -324,25 +324,14 @@ impl Book {
         self.depths[usize::from(series)][usize::from(side)]
     }
 
-    /// Finds the depth of a series and side whose leg orders have changed: the
-    /// price that is best for an order of the other side.
+    /// Finds the depth of a series and side whose leg orders have changed, in one
+    /// walk over them.
     fn renew_depth(&mut self, series: u8, side: u8) {
-        let is_better =
-            |held: u32, new: u32| strictly_better(1 - side, i64::from(held), i64::from(new));
-        let mut best: Option<Depth> = None;
+        let mut pair = None;
         for order in self.leg_orders_of(series, side) {
-            match &mut best {
-                Some(depth) if depth.price == order.price => depth.contracts += order.contracts,
-                Some(depth) if is_better(depth.price, order.price) => {}
-                _ => {
-                    best = Some(Depth {
-                        price: order.price,
-                        contracts: order.contracts,
-                    })
-                }
-            }
+            add_to_pair(&mut pair, side, order.price, order.contracts);
         }
-        self.depths[usize::from(series)][usize::from(side)] = best;
+        self.depths[usize::from(series)][usize::from(side)] = pair;
     }
 
     /// Cancels what is live under the number: one record 3, or none if nothing
@@ -419,26 +408,10 @@ pub fn depth(row: &[RowEntry], series: u32, side: u32) -> Result<Option<(u32, u3
     if series > 31 || side > 1 || row.len() > LEG_ORDERS || !row.iter().all(entry_fits) {
         return Err(3);
     }
-    let held: Vec<&RowEntry> = row
-        .iter()
-        .filter(|entry| {
-            entry.contracts > 0
-                && u32::from(entry.series) == series
-                && u32::from(entry.side) == side
-        })
-        .collect();
-    let prices = held.iter().map(|entry| entry.price);
-    let best = if side == u32::from(BUY) {
-        prices.max()
-    } else {
-        prices.min()
-    };
-    Ok(best.map(|price| {
-        let contracts = held
-            .iter()
-            .filter(|entry| entry.price == price)
-            .map(|entry| u32::from(entry.contracts))
-            .sum();
-        (price, contracts)
-    }))
+    let (series, side) = (series as u8, side as u8);
+    let mut pair = None;
+    for slot in row {
+        add_slot(&mut pair, slot, series, side);
+    }
+    Ok(pair.map(|best| (best.price, best.contracts)))
 }

@@ -1,11 +1,15 @@
 //! Counts of the situations that lists of events reach, for tests of the
 //! generator. They play no part in any answer.
 
-use crate::book::{Book, Entry, BUY, DAY, DO_NOT_AUCTION, SELL, STRATEGIES, SWEEPS};
+use crate::book::{
+    depth, Book, Depth, Entry, LegOrder, RowEntry, BUY, DAY, DO_NOT_AUCTION, LEG_ORDERS, SELL,
+    STRATEGIES, SWEEPS,
+};
 use crate::events::Answer;
 use crate::frames::{read, Event};
 use crate::national::{Bounds, FRESH_RANGE};
-use crate::passes::{meets, Given, Holders};
+use crate::nets::{net, LegPrice};
+use crate::passes::{meets, strictly_better, Given, Holders};
 use crate::records::{Record, AUCTION_BEGUN, AUCTION_ENDED, CANCELLED, LEG_FILL, WHOLE_FILL};
 use std::cell::{Cell, RefCell};
 use std::collections::{BTreeMap, BTreeSet};
@@ -17,6 +21,20 @@ thread_local! {
 
 /// Every situation that is counted and can occur.
 pub const SITUATIONS: &[&str] = &[
+    "best: a better price behind a worse one",
+    "best: a better price with fewer contracts than the worse one",
+    "best: a first order on an empty side",
+    "best: a side is empty after a cancel",
+    "best: a side is empty after fills",
+    "best: a worse price behind the best",
+    "best: an equal price adds",
+    "best: an equal price adds after a fresh start",
+    "best: one of several orders is cancelled",
+    "best: one of several orders is filled away",
+    "best: one side is empty, the other is not",
+    "best: the next price counts after a cancel",
+    "best: the next price counts after fills",
+    "best: three orders or more",
     "clock: an auction ends",
     "clock: an auction goes on",
     "clock: several auctions end",
@@ -57,7 +75,19 @@ pub const SITUATIONS: &[&str] = &[
     "leg order: one trade",
     "leg order: resting orders fill by legs",
     "leg order: several trades",
+    "leg order: trades at several prices",
+    "leg order: trades with several orders at one price",
     "leg order: trades, then resting orders fill by legs",
+    "legs: a fill takes a part of the second order",
+    "legs: a fill takes all at the best price, a worse one stays",
+    "legs: a fill takes from several orders",
+    "legs: a fill that a worse price before would make larger",
+    "legs: a fill that a worse price behind would make larger",
+    "legs: a pass goes on at the next prices",
+    "legs: not ready, a worse price alone would hold the ratio",
+    "legs: not ready, a worse price before would add up to the ratio",
+    "legs: not ready, a worse price behind would add up to the ratio",
+    "legs: ready only by several orders together",
     "national: a price is taken away",
     "national: both prices known",
     "national: both prices missing",
@@ -120,6 +150,28 @@ pub const SITUATIONS: &[&str] = &[
     "turn: whole at the seller's bound",
     "turn: whole in a numbered pass",
     "turn: whole in a shared pass",
+];
+
+/// Every situation of a depth lookup in a lent row that is counted and can occur.
+pub const ROW_SITUATIONS: &[&str] = &[
+    "row: 32 entries, none empty",
+    "row: 33 entries or more",
+    "row: a better price of another series",
+    "row: a better price of the other side",
+    "row: a field out of range",
+    "row: a worse price behind the best",
+    "row: an empty entry at a better price",
+    "row: an empty entry with a field out of range",
+    "row: an empty side, the other is not",
+    "row: an equal price after a fresh start",
+    "row: an equal price after a worse one",
+    "row: empty entries only",
+    "row: no entry",
+    "row: one order at the best",
+    "row: over 65,535 contracts at the best",
+    "row: several orders at the best",
+    "row: the pair starts afresh once",
+    "row: the pair starts afresh several times",
 ];
 
 /// Whether this thread counts.
@@ -288,6 +340,306 @@ pub fn count_stop(book: &Book, active: &Entry, turn: &Turn, filled: bool) {
     }
 }
 
+/// The leg orders that an order taking the leg meets, by number.
+fn leg_orders_met<'a>(book: &'a Book, entry: &LegPrice) -> Vec<&'a LegOrder> {
+    book.leg_orders_of(entry.leg.series, 1 - entry.side)
+        .collect()
+}
+
+/// The contracts at worse prices of leg orders that stand before the first at the
+/// best price, or behind it.
+fn worse_contracts(book: &Book, entry: &LegPrice, behind: bool) -> u32 {
+    let orders = leg_orders_met(book, entry);
+    let first = orders.iter().position(|order| order.price == entry.price);
+    let first = first.unwrap_or(orders.len());
+    let part = if behind {
+        &orders[first..]
+    } else {
+        &orders[..first]
+    };
+    let worse = part.iter().filter(|order| order.price != entry.price);
+    worse.map(|order| order.contracts).sum()
+}
+
+/// The prices with those contracts added to the best price's.
+fn with_worse(book: &Book, prices: &[LegPrice], behind: bool) -> Vec<LegPrice> {
+    let added = |entry: &LegPrice| LegPrice {
+        contracts: entry.contracts + worse_contracts(book, entry, behind),
+        ..*entry
+    };
+    prices.iter().map(added).collect()
+}
+
+/// Counts a fill by legs of these units, before it is made: from which orders of
+/// the best prices it takes, and what worse prices would change.
+pub fn count_leg_fill(book: &Book, active: &Entry, prices: &[LegPrice], units: u32) {
+    if counting() {
+        leg_fill(book, active, prices, units);
+    }
+}
+
+#[cold]
+fn leg_fill(book: &Book, active: &Entry, prices: &[LegPrice], units: u32) {
+    let (mut together, mut several, mut part, mut all) = (false, false, false, false);
+    for entry in prices {
+        let ratio = u32::from(entry.leg.ratio);
+        let orders = leg_orders_met(book, entry);
+        let best: Vec<u32> = (orders.iter())
+            .filter(|order| order.price == entry.price)
+            .map(|order| order.contracts)
+            .collect();
+        let taken = units * ratio;
+        together |= best.iter().all(|contracts| *contracts < ratio);
+        several |= taken > best[0];
+        part |= best.len() > 1 && (best[0] + 1..best[0] + best[1]).contains(&taken);
+        all |= taken == entry.contracts && orders.len() > best.len();
+    }
+    reach_if(together, "legs: ready only by several orders together");
+    reach_if(several, "legs: a fill takes from several orders");
+    reach_if(part, "legs: a fill takes a part of the second order");
+    reach_if(
+        all,
+        "legs: a fill takes all at the best price, a worse one stays",
+    );
+    let larger = |behind: bool| {
+        let most = (with_worse(book, prices, behind).iter())
+            .map(|entry| entry.contracts / u32::from(entry.leg.ratio))
+            .fold(active.units, u32::min);
+        most > units
+    };
+    reach_if(
+        larger(false),
+        "legs: a fill that a worse price before would make larger",
+    );
+    reach_if(
+        larger(true),
+        "legs: a fill that a worse price behind would make larger",
+    );
+}
+
+/// Counts legs that are not ready for an order, where with worse prices they would
+/// be and would meet its limit.
+pub fn count_unready(book: &Book, active: &Entry, prices: &[LegPrice]) {
+    if counting() {
+        unready(book, active, prices);
+    }
+}
+
+#[cold]
+fn unready(book: &Book, active: &Entry, prices: &[LegPrice]) {
+    let taken = |prices: &[LegPrice]| {
+        crate::nets::ready(prices) && meets(active.side, i64::from(active.limit), net(prices))
+    };
+    reach_if(
+        taken(&with_worse(book, prices, false)),
+        "legs: not ready, a worse price before would add up to the ratio",
+    );
+    reach_if(
+        taken(&with_worse(book, prices, true)),
+        "legs: not ready, a worse price behind would add up to the ratio",
+    );
+    // Where a leg is not ready, the best of the prices that hold the ratio.
+    let holding = |entry: &LegPrice| {
+        let ratio = u32::from(entry.leg.ratio);
+        let mut held: BTreeMap<u32, u32> = BTreeMap::new();
+        for order in leg_orders_met(book, entry) {
+            *held.entry(order.price).or_default() += order.contracts;
+        }
+        held.retain(|_, contracts| *contracts >= ratio);
+        let best = if entry.side == BUY {
+            held.first_key_value()
+        } else {
+            held.last_key_value()
+        };
+        best.map(|(price, contracts)| LegPrice {
+            price: *price,
+            contracts: *contracts,
+            ..*entry
+        })
+    };
+    let held: Option<Vec<LegPrice>> = prices.iter().map(holding).collect();
+    reach_if(
+        held.is_some_and(|held| taken(&held)),
+        "legs: not ready, a worse price alone would hold the ratio",
+    );
+}
+
+/// Counts a leg order of this number and its trades, from the book before it.
+fn count_leg_order(before: &Book, event: &Event, number: u32, records: &[Record]) {
+    let Event::LegOrder {
+        series,
+        side,
+        contracts,
+        price,
+        ..
+    } = *event
+    else {
+        return;
+    };
+    let trades: Vec<&Record> = (records.iter().take_while(|r| r.kind == LEG_FILL))
+        .filter(|record| record.number == number as i32)
+        .collect();
+    let mut prices: Vec<i32> = trades.iter().map(|record| record.price).collect();
+    prices.dedup();
+    reach_if(prices.len() > 1, "leg order: trades at several prices");
+    reach_if(
+        trades.len() > prices.len(),
+        "leg order: trades with several orders at one price",
+    );
+    let traded: i32 = trades.iter().map(|record| record.quantity).sum();
+    if traded == i32::from(contracts) {
+        return;
+    }
+    let Some(best) = before.depth(series, side) else {
+        return reach("best: a first order on an empty side");
+    };
+    if price == best.price {
+        reach("best: an equal price adds");
+        let mut orders = before.leg_orders_of(series, side);
+        reach_if(
+            orders.next().is_some_and(|order| order.price != price),
+            "best: an equal price adds after a fresh start",
+        );
+    } else if strictly_better(1 - side, i64::from(price), i64::from(best.price)) {
+        reach("best: a better price behind a worse one");
+        reach_if(
+            u32::from(contracts) < best.contracts,
+            "best: a better price with fewer contracts than the worse one",
+        );
+    } else {
+        reach("best: a worse price behind the best");
+    }
+}
+
+/// Counts what became of best prices when leg orders traded or were cancelled.
+fn count_best(before: &Book, event: &Event, after: &Book) {
+    if before.leg_orders == after.leg_orders || matches!(event, Event::DayEnd { .. }) {
+        return;
+    }
+    let cancel = matches!(event, Event::Cancel { .. });
+    let orders = |book: &Book, series: u8, side: u8, best: Depth| {
+        let own = book.leg_orders_of(series, side);
+        own.filter(|order| order.price == best.price).count()
+    };
+    for series in 0..32 {
+        let mut changed = false;
+        for side in [BUY, SELL] {
+            let (old, new) = (before.depth(series, side), after.depth(series, side));
+            changed |= old != new;
+            let three = new.is_some_and(|best| orders(after, series, side, best) > 2);
+            reach_if(old != new && three, "best: three orders or more");
+            let Some(old) = old else { continue };
+            match new {
+                None if cancel => reach("best: a side is empty after a cancel"),
+                None => reach("best: a side is empty after fills"),
+                Some(new) if new.price == old.price => {
+                    let stay = orders(after, series, side, new);
+                    let gone = stay < orders(before, series, side, old);
+                    reach_if(gone && cancel, "best: one of several orders is cancelled");
+                    reach_if(
+                        gone && !cancel,
+                        "best: one of several orders is filled away",
+                    );
+                }
+                Some(new) => {
+                    let (new, old) = (i64::from(new.price), i64::from(old.price));
+                    let worse = strictly_better(1 - side, old, new);
+                    reach_if(
+                        worse && cancel,
+                        "best: the next price counts after a cancel",
+                    );
+                    reach_if(worse && !cancel, "best: the next price counts after fills");
+                }
+            }
+        }
+        let empty = |side: u8| after.depth(series, side).is_none();
+        reach_if(
+            changed && empty(BUY) != empty(SELL),
+            "best: one side is empty, the other is not",
+        );
+    }
+}
+
+/// Counts a depth lookup in a lent row.
+pub fn observe_row(row: &[RowEntry], series: u8, side: u8) {
+    let used = |entry: &&RowEntry| entry.contracts > 0;
+    reach_if(row.len() > LEG_ORDERS, "row: 33 entries or more");
+    let fits = depth(row, u32::from(series), u32::from(side)).is_ok();
+    if !fits {
+        reach_if(row.len() <= LEG_ORDERS, "row: a field out of range");
+        return;
+    }
+    let held: Vec<&RowEntry> = row.iter().filter(used).collect();
+    reach_if(row.is_empty(), "row: no entry");
+    reach_if(
+        !row.is_empty() && held.is_empty(),
+        "row: empty entries only",
+    );
+    reach_if(held.len() == LEG_ORDERS, "row: 32 entries, none empty");
+    reach_if(
+        row.iter().any(|entry| !used(&entry) && entry.series > 31),
+        "row: an empty entry with a field out of range",
+    );
+    let own: Vec<&RowEntry> = (held.iter().copied())
+        .filter(|entry| entry.series == series && entry.side == side)
+        .collect();
+    let better =
+        |first: u32, second: u32| strictly_better(1 - side, i64::from(first), i64::from(second));
+    let (mut best, mut starts, mut equal, mut worse) = (None, 0, false, false);
+    let (mut equal_afresh, mut equal_after_worse) = (false, false);
+    for entry in &own {
+        match best {
+            Some(price) if price == entry.price => {
+                equal = true;
+                equal_afresh |= starts > 1;
+                equal_after_worse |= worse;
+            }
+            Some(price) if better(price, entry.price) => worse = true,
+            _ => {
+                best = Some(entry.price);
+                starts += 1;
+                (equal, worse) = (false, false);
+                (equal_afresh, equal_after_worse) = (false, false);
+            }
+        }
+    }
+    let Some(price) = best else {
+        return reach_if(
+            held.iter().any(|entry| entry.series == series),
+            "row: an empty side, the other is not",
+        );
+    };
+    reach_if(!equal, "row: one order at the best");
+    reach_if(equal, "row: several orders at the best");
+    reach_if(starts == 2, "row: the pair starts afresh once");
+    reach_if(starts > 2, "row: the pair starts afresh several times");
+    reach_if(equal_afresh, "row: an equal price after a fresh start");
+    reach_if(equal_after_worse, "row: an equal price after a worse one");
+    reach_if(worse, "row: a worse price behind the best");
+    let contracts: u32 = (own.iter().filter(|entry| entry.price == price))
+        .map(|entry| u32::from(entry.contracts))
+        .sum();
+    reach_if(
+        contracts > u32::from(u16::MAX),
+        "row: over 65,535 contracts at the best",
+    );
+    let mut others = row.iter().filter(|entry| better(entry.price, price));
+    reach_if(
+        others.clone().any(|entry| !used(&entry)),
+        "row: an empty entry at a better price",
+    );
+    reach_if(
+        others
+            .clone()
+            .any(|e| used(&e) && e.series != series && e.side == side),
+        "row: a better price of another series",
+    );
+    reach_if(
+        others.any(|e| used(&e) && e.series == series && e.side != side),
+        "row: a better price of the other side",
+    );
+}
+
 /// Counts a pair of an opening match, which fills at the price or stops it;
 /// `filled` if the match had fills before.
 pub fn count_opening_pair(bounds: &Bounds, price: i64, filled: bool) {
@@ -373,6 +725,16 @@ pub fn observe(before: &Book, frame: &[u8], answer: &Answer, after: &Book) {
     let records = &answer.records;
     let filled = records.iter().any(|record| record.kind == WHOLE_FILL);
     let ended = records.iter().filter(|r| r.kind == AUCTION_ENDED).count();
+    count_leg_order(before, &event, answer.value, records);
+    count_best(before, &event, after);
+    let fills_made = fills(before, records);
+    let by_legs_again = |pair: &[Fill]| {
+        pair[0].active == pair[1].active && pair.iter().all(|fill| fill.other.is_none())
+    };
+    reach_if(
+        fills_made.windows(2).any(by_legs_again),
+        "legs: a pass goes on at the next prices",
+    );
     match event {
         Event::Strategy { .. } => {
             let equal = (answer.value as usize) < before.strategies.len();
@@ -411,8 +773,7 @@ pub fn observe(before: &Book, frame: &[u8], answer: &Answer, after: &Book) {
                 reach_if(prices.len() >= 2, "complex: fills at two prices or more");
                 reach_if(prices.len() >= 4, "complex: fills at four prices or more");
                 let unready = before.leg_prices(strategy, side).is_some_and(|prices| {
-                    !crate::nets::ready(&prices)
-                        && meets(side, i64::from(limit), crate::nets::net(&prices))
+                    !crate::nets::ready(&prices) && meets(side, i64::from(limit), net(&prices))
                 });
                 reach_if(unready, "complex: the net meets and is not ready");
                 reach_if(rests_crossed(after, answer.value), "complex: rests crossed");

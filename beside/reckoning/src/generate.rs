@@ -1,5 +1,6 @@
 //! Inputs for comparison: frames and lists of events, each made from a seed.
 
+use crate::book::{RowEntry, BUY, LEG_ORDERS, SELL};
 use crate::frames::{bytes, Event, Leg};
 pub use crate::lists::{list, long_list, national_list, stream, tail, Input, Options};
 
@@ -217,6 +218,67 @@ pub fn edge_event(random: &mut Random, kinds: &[u32]) -> Event {
     let (low, high) = ranges[field];
     list[field] = random.pick(&[low - 1, low, high, high + 1]);
     event_of(kind, &list)
+}
+
+/// A row of order entries for depth lookups: few series and prices, so that many
+/// entries stand at one price, and some of them empty; seldom with over 32 entries
+/// or a field out of range.
+pub fn order_row(random: &mut Random) -> Vec<RowEntry> {
+    let large = random.chance(1, 6);
+    let most = match random.below(20) {
+        0 => 40,
+        1..=3 => LEG_ORDERS as i64,
+        _ if large => LEG_ORDERS as i64,
+        _ => 12,
+    };
+    let least = if random.chance(1, 8) { most } else { 0 };
+    let series = [0, 31, random.range(0, 31) as u8];
+    let series = &series[..random.range(1, 3) as usize];
+    let lowest = random.pick(&[1, 200, 99_996]);
+    let prices = random.range(0, 3);
+    let empty = random.pick(&[0, 0, 0, 1, 1, 3, 3, 8]);
+    let mut row: Vec<RowEntry> = (0..random.range(least, most))
+        .map(|_| {
+            let held = RowEntry {
+                series: random.pick(series),
+                side: random.pick(&[BUY, SELL]),
+                contracts: match large {
+                    true => random.range(9_900, 9_999) as u16,
+                    false => random.range(1, 9) as u16,
+                },
+                price: random.range(lowest, lowest + prices) as u32,
+            };
+            if !random.chance(empty, 8) {
+                held
+            } else if random.chance(1, 2) {
+                // What an order was before it was filled.
+                let price = random.range(lowest, 99_999) as u32;
+                RowEntry {
+                    contracts: 0,
+                    price,
+                    ..held
+                }
+            } else {
+                RowEntry {
+                    series: random.bits() as u8,
+                    side: random.bits() as u8,
+                    contracts: 0,
+                    price: random.bits() as u32,
+                }
+            }
+        })
+        .collect();
+    if !row.is_empty() && random.chance(1, 20) {
+        let at = random.below(row.len());
+        let entry = &mut row[at];
+        match random.below(4) {
+            0 => entry.series = random.range(32, 255) as u8,
+            1 => entry.side = random.range(2, 255) as u8,
+            2 => entry.contracts = random.range(10_000, 65_535) as u16,
+            _ => entry.price = random.pick(&[0, 100_000, u32::MAX]),
+        }
+    }
+    row
 }
 
 /// A frame of the kind with any bytes as fields, its length field right.

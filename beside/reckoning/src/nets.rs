@@ -1,8 +1,10 @@
-//! Document 01, "Strategies and nets".
+//! Document 01, "Strategies and nets"; request 2026-02, "Best price and its
+//! contracts together".
 
-use crate::book::{Book, Strategy, BUY, LEGS};
+use crate::book::{Book, Depth, RowEntry, Strategy, BUY, LEGS};
 use crate::frames::Leg;
 use crate::table::Table;
+use std::cmp::Ordering;
 
 /// Ratios are divided by their greatest common divisor, "found by Euclid's
 /// step calling itself".
@@ -52,6 +54,35 @@ pub fn side_taken(order_side: u8, leg: &Leg) -> u8 {
         leg.side
     } else {
         1 - leg.side
+    }
+}
+
+/// Request 2026-02: "Find both in one walk over the leg orders, from a running
+/// pair that starts afresh at a better price". Takes one leg order of this side
+/// into the pair of best price and contracts.
+pub fn add_to_pair(pair: &mut Option<Depth>, side: u8, price: u32, contracts: u32) {
+    let Some(best) = pair else {
+        *pair = Some(Depth { price, contracts });
+        return;
+    };
+    // A higher bid is better, and a lower offer.
+    let quality = match side {
+        BUY => price.cmp(&best.price),
+        _ => best.price.cmp(&price),
+    };
+    match quality {
+        Ordering::Less => {}
+        Ordering::Equal => best.contracts += contracts,
+        Ordering::Greater => *best = Depth { price, contracts },
+    }
+}
+
+/// "After each slot the pair is that of the slots walked so far": takes one slot
+/// into the pair of a series and side. A slot of another series or side, or
+/// without contracts, changes nothing.
+pub fn add_slot(pair: &mut Option<Depth>, slot: &RowEntry, series: u8, side: u8) {
+    if slot.contracts > 0 && slot.series == series && slot.side == side {
+        add_to_pair(pair, side, slot.price, u32::from(slot.contracts));
     }
 }
 

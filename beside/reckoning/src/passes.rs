@@ -1,7 +1,9 @@
 //! Document 01, "Passes", within the bounds of request 2026-01.
 
 use crate::book::{Book, Entry, BUY, COMPLEX_ORDERS, DAY, ENTRIES};
-use crate::coverage::{count_allotment, count_leftover, count_stop, count_turn, Turn};
+use crate::coverage::{
+    count_allotment, count_leftover, count_leg_fill, count_stop, count_turn, count_unready, Turn,
+};
 use crate::nets::{net, ready, side_taken, LegPrice};
 use crate::records::{Record, LEG_FILL, WHOLE_FILL};
 use crate::table::Table;
@@ -153,7 +155,13 @@ impl Book {
             } else {
                 None
             };
-            let prices = prices.as_deref().filter(|prices| ready(prices));
+            let prices = prices.as_deref().filter(|prices| {
+                let ready = ready(prices);
+                if !ready {
+                    count_unready(self, &active, prices);
+                }
+                ready
+            });
             let leg_net = prices.map(net);
             let leg_turn = leg_net.filter(|net| match whole {
                 None => true,
@@ -214,6 +222,7 @@ impl Book {
             .iter()
             .map(|entry| entry.contracts / u32::from(entry.leg.ratio))
             .fold(active.units, u32::min);
+        count_leg_fill(self, active, prices, units);
         records.push(Record::new(
             WHOLE_FILL,
             active.number,

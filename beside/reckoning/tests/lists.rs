@@ -3,6 +3,9 @@
 #![forbid(unsafe_code)]
 #![deny(warnings)]
 
+mod common;
+
+use common::two_walks;
 use reckoning::book::{depth, Book, Entry, BUY, RECORDS, SELL, SPACE};
 use reckoning::coverage::{self, SITUATIONS};
 use reckoning::events::Answer;
@@ -72,9 +75,11 @@ fn sound(book: &Book, national: bool) {
     assert!(book.leg_orders.is_sorted_by(|a, b| a.number < b.number));
     for series in 0..32 {
         for side in [BUY, SELL] {
+            let row = book.row();
             let kept = book.depth(series, side);
-            let found = depth(&book.row(), u32::from(series), u32::from(side));
-            assert_eq!(Ok(kept.map(|best| (best.price, best.contracts))), found);
+            let kept = kept.map(|best| (best.price, best.contracts));
+            assert_eq!(kept, two_walks(&row, series, side));
+            assert_eq!(depth(&row, u32::from(series), u32::from(side)), Ok(kept));
         }
     }
     for strategy in 0..book.strategies.len() as u8 {

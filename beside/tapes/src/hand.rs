@@ -1,5 +1,6 @@
 //! Days made by hand: ends of the input, long frames, full tables, numbers at the
-//! ends of their ranges, and fills at the bounds of the execution range.
+//! ends of their ranges, fills at the bounds of the execution range, and fills by
+//! the contracts of a best price.
 
 use crate::days::Day;
 use reckoning::book::{Book, COMPLEX_ORDERS, LEG_ORDERS, SPACE, STRATEGIES, SWEEPS};
@@ -470,4 +471,179 @@ fn bounds(legs: &[(u8, u8, u8)], bid: u32, offer: u32, cents: Option<u16>) -> Da
         &format!("national prices {bid} and {offer}, range {cents:?}, sides {sides:?}"),
         &events,
     )
+}
+
+/// A day with the book that it makes.
+struct Made {
+    events: Vec<Event>,
+    book: Book,
+}
+
+impl Made {
+    /// All series open, and this strategy.
+    fn new(legs: &[(u8, u8, u8)]) -> Made {
+        let mut made = Made {
+            events: Vec::new(),
+            book: Book::first(),
+        };
+        (0..32).for_each(|number| made.push(series(number, 1)));
+        made.push(strategy(legs));
+        made
+    }
+
+    fn push(&mut self, event: Event) {
+        self.book.step(&bytes(&event), SPACE);
+        self.events.push(event);
+    }
+
+    /// Cancels the leg orders of the series.
+    fn clear(&mut self, series: u8) {
+        let held = self.book.leg_orders.to_vec();
+        for order in held.iter().filter(|order| order.series == series) {
+            self.push(cancel(order.member, order.number));
+        }
+    }
+
+    /// An immediate order of this side that may fill by the legs at any price.
+    fn take(&mut self, side: u8, units: u16) {
+        let limit = if side == BUY { 9_999_999 } else { -9_999_999 };
+        self.push(order(9, side, MARKET_MAKER, IMMEDIATE, units, limit));
+    }
+}
+
+/// A price of this side, and so many cents worse than 300.
+fn worse(side: u8, cents: u32) -> u32 {
+    match side {
+        BUY => 300 - cents,
+        _ => 300 + cents,
+    }
+}
+
+/// Days whose fills by legs depend on the best price and its contracts (2026-02).
+pub fn best_prices() -> Vec<Day> {
+    let mut days = Vec::new();
+    for side in [BUY, SELL] {
+        for ratio in 1..=3 {
+            days.push(four_orders(side, ratio));
+        }
+        days.push(many_contracts(side));
+        days.push(each_slot(side));
+    }
+    days.push(empty_sides());
+    days
+}
+
+/// Every list of four leg orders of a side at three prices, with one contract or two:
+/// an order takes one unit, another what the legs give. In every third list the
+/// first leg order is cancelled and comes again as the last. Orders of the other
+/// side and of another series stand beside them.
+fn four_orders(side: u8, ratio: u8) -> Day {
+    let mut made = Made::new(&[(0, BUY, ratio), (1, SELL, 1)]);
+    made.push(leg_order(
+        3,
+        2,
+        side,
+        9,
+        if side == BUY { 400 } else { 200 },
+    ));
+    let kinds = [(1, 0), (2, 0), (1, 1), (2, 1), (1, 2), (2, 2)];
+    for number in 0..6_usize.pow(4) {
+        if number % 500 == 0 {
+            made.clear(1);
+            made.push(leg_order(1, 1, 1 - side, 9_999, 100));
+        }
+        let own = |at: u32| {
+            let (contracts, cents) = kinds[number / 6_usize.pow(at) % 6];
+            leg_order(2, 0, side, contracts, worse(side, cents))
+        };
+        made.push(leg_order(3, 0, 1 - side, 9, worse(1 - side, 50)));
+        for at in 0..4 {
+            made.push(own(at));
+            if at == 2 && number % 3 == 0 {
+                let first = made.book.leg_orders_of(0, side).next();
+                let first = first.map_or(1, |order| order.number);
+                made.push(cancel(2, first));
+                made.push(own(0));
+            }
+        }
+        made.take(1 - side, 1);
+        made.take(1 - side, 9);
+        made.clear(0);
+    }
+    day(
+        &format!("four leg orders of side {side} in every order, ratio {ratio}"),
+        &made.events,
+    )
+}
+
+/// More than 65,535 contracts at a best price, before and behind a worse one.
+fn many_contracts(side: u8) -> Day {
+    let mut made = Made::new(&[(0, BUY, 12), (1, SELL, 11)]);
+    for amount in [6, 7, 13] {
+        made.push(leg_order(1, 0, side, 9_999, worse(side, 2)));
+        for _ in 0..amount {
+            made.push(leg_order(2, 0, side, 9_999, worse(side, 1)));
+            made.push(leg_order(3, 1, 1 - side, 9_999, 100));
+        }
+        made.push(leg_order(4, 0, side, 9_999, worse(side, 2)));
+        for units in [1, 9_998, 9_999] {
+            made.take(1 - side, units);
+        }
+        made.clear(0);
+        made.clear(1);
+    }
+    day(
+        &format!("many contracts of side {side} at one price"),
+        &made.events,
+    )
+}
+
+/// A full table of leg orders with the best price in each of its slots, the other
+/// leg in the first or the last.
+fn each_slot(side: u8) -> Day {
+    let mut made = Made::new(&[(0, BUY, 2), (1, SELL, 1)]);
+    for last in [false, true] {
+        for best in 0..LEG_ORDERS - 1 {
+            let other = leg_order(1, 1, 1 - side, 9, 100);
+            if !last {
+                made.push(other);
+            }
+            for slot in 0..LEG_ORDERS - 1 {
+                let cents = if slot == best { 1 } else { 2 };
+                made.push(leg_order(2, 0, side, 3, worse(side, cents)));
+            }
+            if last {
+                made.push(other);
+            }
+            made.take(1 - side, 2);
+            made.clear(0);
+            made.clear(1);
+        }
+    }
+    day(
+        &format!("the best price of side {side} in each slot"),
+        &made.events,
+    )
+}
+
+/// Each choice of the sides of two legs that have an order: what starts an auction,
+/// and what fills.
+fn empty_sides() -> Day {
+    let mut made = Made::new(&[(0, BUY, 1), (1, SELL, 1)]);
+    let sides = [(0, BUY, 290), (0, SELL, 310), (1, BUY, 90), (1, SELL, 110)];
+    for choice in 0..1 << sides.len() {
+        for (at, (number, side, price)) in sides.into_iter().enumerate() {
+            if choice >> at & 1 == 1 {
+                made.push(leg_order(2, number, side, 9, price));
+            }
+        }
+        for side in [BUY, SELL] {
+            made.push(order(9, side, CUSTOMER, IMMEDIATE, 1, 200));
+            made.push(clock(made.book.clock + 5_000));
+            made.take(side, 1);
+        }
+        made.clear(0);
+        made.clear(1);
+    }
+    day("each choice of sides with a leg order", &made.events)
 }

@@ -12,7 +12,7 @@ use tapes::agree::agrees;
 use tapes::days::{
     any_frames, damaged_frames, every_number, generated, inputs_of_any_bytes, several_days, Day,
 };
-use tapes::hand::{ends, extremes, full_tables, long_frames, national};
+use tapes::hand::{best_prices, ends, extremes, full_tables, long_frames, national};
 use tapes::program::{Delivery, Program};
 use tapes::tally::{Tally, OTHER};
 
@@ -80,7 +80,7 @@ fn generated_days() {
         let count = tally.of(kind, 0);
         assert!(count >= 20_000, "accepted events of kind {kind}: {count}");
     }
-    assert!(SITUATIONS.len() >= 103);
+    assert!(SITUATIONS.len() >= 129);
     for situation in SITUATIONS {
         let count = tally.reached(situation);
         assert!(count >= 100, "{situation}: {count}");
@@ -239,6 +239,50 @@ fn national_prices_and_fills_at_the_bounds() {
         ("turn: only the buyer is bound", 10),
         ("turn: only the seller is bound", 10),
         ("day end: national prices and a range are set", 2),
+    ] {
+        let count = tally.reached(situation);
+        assert!(count >= least, "{situation}: {count}");
+    }
+}
+
+#[test]
+fn best_prices_and_their_contracts() {
+    let days = best_prices();
+    let tally = agreed("best prices", &days);
+    assert!(days.len() >= 11 && tally.written(1) >= 5_000);
+    // The own net is known of four of 16 choices, for each side.
+    assert_eq!(tally.written(4), 8);
+    for (situation, least) in [
+        ("best: a better price behind a worse one", 1_000),
+        ("best: an equal price adds", 1_000),
+        ("best: an equal price adds after a fresh start", 1_000),
+        ("best: a worse price behind the best", 1_000),
+        ("best: a side is empty after fills", 100),
+        ("best: the next price counts after fills", 1_000),
+        ("legs: ready only by several orders together", 1_000),
+        ("legs: a fill takes from several orders", 1_000),
+        ("legs: a fill takes a part of the second order", 100),
+        (
+            "legs: a fill that a worse price before would make larger",
+            1_000,
+        ),
+        (
+            "legs: a fill that a worse price behind would make larger",
+            1_000,
+        ),
+        ("legs: a pass goes on at the next prices", 1_000),
+        (
+            "legs: not ready, a worse price alone would hold the ratio",
+            100,
+        ),
+        (
+            "legs: not ready, a worse price before would add up to the ratio",
+            1_000,
+        ),
+        (
+            "legs: not ready, a worse price behind would add up to the ratio",
+            1_000,
+        ),
     ] {
         let count = tally.reached(situation);
         assert!(count >= least, "{situation}: {count}");

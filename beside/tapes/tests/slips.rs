@@ -1,7 +1,7 @@
 //! The comparison finds slips in the book itself: the reckoning's sources with
 //! one edit each are built anew, and their tape has to differ from the
 //! reckoning's. Among them are the slips that document 01 names, and those of
-//! request 2026-01.
+//! requests 2026-01 and 2026-02.
 
 #![forbid(unsafe_code)]
 #![deny(warnings)]
@@ -11,7 +11,7 @@ use std::path::Path;
 use std::time::Duration;
 use tapes::agree::agrees;
 use tapes::days::{any_frames, every_number, generated, several_days, Day};
-use tapes::hand::{ends, extremes, full_tables, national};
+use tapes::hand::{best_prices, ends, extremes, full_tables, national};
 use tapes::program::Program;
 use tapes::slips::{built, Slip};
 
@@ -553,6 +553,139 @@ const SLIPS: &[Slip] = &[
         "        *self = Book::fresh(timer);\n",
         "        let mut national = self.national.clone();\n        national.range = 9_999;\n        *self = Book::fresh(timer);\n        self.national = national;\n",
     ),
+    // Request 2026-02: the running pair.
+    (
+        "a pair that does not start afresh: the old contracts stay in the sum",
+        "nets.rs",
+        "        Ordering::Greater => *best = Depth { price, contracts },\n",
+        "        Ordering::Greater => *best = Depth { price, contracts: best.contracts + contracts },\n",
+    ),
+    (
+        "a better price with the old contracts",
+        "nets.rs",
+        "        Ordering::Greater => *best = Depth { price, contracts },\n",
+        "        Ordering::Greater => best.price = price,\n",
+    ),
+    (
+        "a better price that changes nothing",
+        "nets.rs",
+        "        Ordering::Greater => *best = Depth { price, contracts },\n",
+        "        Ordering::Greater => {}\n",
+    ),
+    (
+        "a better price with 0 contracts until another comes",
+        "nets.rs",
+        "        Ordering::Greater => *best = Depth { price, contracts },\n",
+        "        Ordering::Greater => *best = Depth { price, contracts: 0 },\n",
+    ),
+    (
+        "an equal price that replaces",
+        "nets.rs",
+        "        Ordering::Equal => best.contracts += contracts,\n",
+        "        Ordering::Equal => best.contracts = contracts,\n",
+    ),
+    (
+        "an equal price that changes nothing",
+        "nets.rs",
+        "        Ordering::Equal => best.contracts += contracts,\n",
+        "        Ordering::Equal => {}\n",
+    ),
+    (
+        "the larger of the orders at an equal price",
+        "nets.rs",
+        "        Ordering::Equal => best.contracts += contracts,\n",
+        "        Ordering::Equal => best.contracts = best.contracts.max(contracts),\n",
+    ),
+    (
+        "contracts of 16 bits",
+        "nets.rs",
+        "        Ordering::Equal => best.contracts += contracts,\n",
+        "        Ordering::Equal => best.contracts = (best.contracts + contracts) % 65_536,\n",
+    ),
+    (
+        "a worse price that adds",
+        "nets.rs",
+        "        Ordering::Less => {}\n",
+        "        Ordering::Less => best.contracts += contracts,\n",
+    ),
+    (
+        "a worse price that replaces",
+        "nets.rs",
+        "        Ordering::Less => {}\n",
+        "        Ordering::Less => *best = Depth { price, contracts },\n",
+    ),
+    (
+        "a worse price with more contracts that replaces",
+        "nets.rs",
+        "        Ordering::Less => {}\n",
+        "        Ordering::Less if contracts > best.contracts => *best = Depth { price, contracts },\n        Ordering::Less => {}\n",
+    ),
+    (
+        "the higher offer as the better one",
+        "nets.rs",
+        "        _ => best.price.cmp(&price),\n",
+        "        _ => price.cmp(&best.price),\n",
+    ),
+    (
+        "the lower bid as the better one",
+        "nets.rs",
+        "        BUY => price.cmp(&best.price),\n",
+        "        BUY => best.price.cmp(&price),\n",
+    ),
+    (
+        "the walk begun with the old pair",
+        "book.rs",
+        "        let mut pair = None;\n        for order in",
+        "        let mut pair = self.depth(series, side);\n        for order in",
+    ),
+    (
+        "the first order of a side not walked",
+        "book.rs",
+        "        for order in self.leg_orders_of(series, side) {\n",
+        "        let alone = self.leg_orders_of(series, side).count() < 2;\n        for order in self.leg_orders_of(series, side).skip(usize::from(!alone)) {\n",
+    ),
+    (
+        "the last slot not walked",
+        "book.rs",
+        "        for order in self.leg_orders_of(series, side) {\n",
+        "        let own = |order: &&LegOrder| order.series == series && order.side == side;\n        for order in self.leg_orders.iter().take(LEG_ORDERS - 1).filter(own) {\n",
+    ),
+    (
+        "orders of the other side walked",
+        "book.rs",
+        "        for order in self.leg_orders_of(series, side) {\n",
+        "        for order in self.leg_orders.iter().filter(|order| order.series == series) {\n",
+    ),
+    (
+        "orders of other series walked",
+        "book.rs",
+        "        for order in self.leg_orders_of(series, side) {\n",
+        "        for order in self.leg_orders.iter().filter(|order| order.side == side) {\n",
+    ),
+    (
+        "the pair kept when an order is filled away",
+        "book.rs",
+        "                self.leg_orders.remove(at);\n            }\n            self.renew_depth(series, side);\n",
+        "                self.leg_orders.remove(at);\n                if self.leg_orders_of(series, side).count() > 0 {\n                    return;\n                }\n            }\n            self.renew_depth(series, side);\n",
+    ),
+    (
+        "the pair kept when an order is filled in part",
+        "book.rs",
+        "                self.leg_orders.remove(at);\n            }\n            self.renew_depth(series, side);\n",
+        "                self.leg_orders.remove(at);\n                self.renew_depth(series, side);\n            }\n",
+    ),
+    (
+        "an empty side as a price of 0",
+        "nets.rs",
+        "            let best = self.depth(leg.series, 1 - side)?;\n",
+        "            let best = self.depth(leg.series, 1 - side).unwrap_or(Depth { price: 0, contracts: 0 });\n",
+    ),
+    (
+        "the pair of the same side taken",
+        "nets.rs",
+        "            let best = self.depth(leg.series, 1 - side)?;\n",
+        "            let best = self.depth(leg.series, side)?;\n",
+    ),
 ];
 
 /// A part of the days that the proved tape is compared on.
@@ -563,6 +696,7 @@ fn days() -> Vec<Day> {
     days.extend(any_frames(1));
     days.extend(extremes());
     days.extend(national());
+    days.extend(best_prices());
     days.extend(ends().into_iter().step_by(40));
     days.extend(every_number(1));
     days
@@ -589,5 +723,5 @@ fn slips_in_the_book_are_found() {
     }
     assert!(missed.is_empty(), "slips not found: {missed:#?}");
     println!("slips found: {}", SLIPS.len());
-    assert!(SLIPS.len() >= 85);
+    assert!(SLIPS.len() >= 110);
 }

@@ -3,7 +3,7 @@
 // Each file of tests uses its part.
 #![allow(dead_code)]
 
-use reckoning::book::{Book, SPACE};
+use reckoning::book::{Book, RowEntry, SPACE};
 use reckoning::frames::{bytes, Event, Leg};
 
 pub const BUY: u8 = 0;
@@ -193,4 +193,24 @@ pub fn bought_by_legs(number: i32, units: i32) -> Records {
         [2, 2, 0, 1, units, 305],
         [2, 3, 1, 0, units, 100],
     ]
+}
+
+/// The best price of a series and side, and then the contracts at it, in two walks
+/// over the row.
+pub fn two_walks(row: &[RowEntry], series: u8, side: u8) -> Option<(u32, u32)> {
+    let own = || {
+        (row.iter()).filter(move |entry| {
+            entry.contracts > 0 && entry.series == series && entry.side == side
+        })
+    };
+    let prices = own().map(|entry| entry.price);
+    let best = match side {
+        BUY => prices.max(),
+        _ => prices.min(),
+    };
+    best.map(|price| {
+        let at_best = own().filter(|entry| entry.price == price);
+        let contracts = at_best.map(|entry| u32::from(entry.contracts)).sum();
+        (price, contracts)
+    })
 }
