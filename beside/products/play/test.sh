@@ -31,7 +31,7 @@ prints() {
     shift
     ./play "$@" >"$out/printed" && diff "$stored" "$out/printed"
 }
-several() { [ "$(find days -name '*.txt' | wc -l)" -ge 6 ]; }
+several() { [ "$(find days -name '*.txt' | wc -l)" -ge 7 ]; }
 has_text() { [ -f "${1%.out}.txt" ]; }
 has_stored() { [ -f "${1%.txt}.out" ] && [ -f "${1%.txt}.words" ] && [ -f "${1%.txt}.audit" ]; }
 # reckoned DAY: the reckoning's tape prints the stored lines for its frames.
@@ -41,7 +41,7 @@ reckoned() {
         diff "${1%.txt}.out" "$out/reckoned"
 }
 
-check "six days or more" several
+check "seven days or more" several
 for day in days/*.txt; do
     check "$day" prints "${day%.txt}.out" "$day"
     check "$day in words" prints "${day%.txt}.words" --words "$day"
