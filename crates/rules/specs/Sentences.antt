@@ -1,7 +1,7 @@
 -- Sentences of "Events", "Passes" and "Refusals by cause" in another form than their definitions have: what can be seen of the state before an
 -- event, the state after it and its records. Each holds of every accepted event in every state that frames lead to (proofs
--- Sentences.event-sentence, step-sentence; of the passes: Groups, PassEnds, Bars, WholeFills; of the causes: Causes). Many a rule that is changed
--- in its definition and in the code alike is refused here; docs/RULES.md has the list, and what no sentence says.
+-- Sentences.event-sentence, step-sentence; of the passes: Groups, PassEnds, Bars, WholeFills; of the causes: Causes; of best prices: Bests).
+-- Many a rule that is changed in its definition and in the code alike is refused here; docs/RULES.md has the list, and what no sentence says.
 use mathlib.Core.Path.{_≡_}
 use mathlib.Core.Bool.{Bool, true, false, not}
 use mathlib.Core.Logic.{_⊎_}

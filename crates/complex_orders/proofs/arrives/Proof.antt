@@ -36,10 +36,18 @@ rests-requires : tie.Need-rests-requires
 rests-requires c κs = search needs
 
 returns-3 : tie.Need-returns-3
-returns-3 c = c .rests .ensures ∙ arrives-idle _ _ _ _ _ (told (c .before .before .before .before .before .before .before .before .before .before .none-shut .ensures) (c .before .before .before .before .before .before .before .before .before .if1 .taken)) (told (c .before .before .before .before .before .before .before .before .runs .ensures) (c .before .before .before .before .before .before .before .if2 .left)) (told (c .before .before .before .before .before .before .starts .ensures) (c .before .before .before .before .before .if3 .left)) (told (idle-found _ _ _ _ (c .before .before .before .before .leg-bests .ensures) (c .before .before .before .ready-net .ensures) (c .before .before .idle .ensures)) (c .before .if4 .taken))
+returns-3 c = let k = c .before .before .before .before .before in
+    let idle = idle-found _ _ _ _ (c .before .before .before .before .leg-bests .ensures) (c .before .before .before .ready-net .ensures) (c .before .before .idle .ensures) in
+    let shut = told (k .before .before .before .before .before .none-shut .ensures) (k .before .before .before .before .if1 .taken) in
+    let runs = told (k .before .before .before .runs .ensures) (k .before .before .if2 .left) in
+    c .rests .ensures ∙ arrives-idle _ _ _ _ _ shut runs (told (k .before .starts .ensures) (k .if3 .left)) (told idle (c .before .if4 .taken))
 
 returns-4 : tie.Need-returns-4
-returns-4 c = arrives-passes _ _ _ _ _ (told (c .before .before .before .before .before .before .before .before .before .none-shut .ensures) (c .before .before .before .before .before .before .before .before .if1 .taken)) (told (c .before .before .before .before .before .before .before .runs .ensures) (c .before .before .before .before .before .before .if2 .left)) (told (c .before .before .before .before .before .starts .ensures) (c .before .before .before .before .if3 .left)) (told (idle-found _ _ _ _ (c .before .before .before .leg-bests .ensures) (c .before .before .ready-net .ensures) (c .before .idle .ensures)) (c .if4 .left))
+returns-4 c = let k = c .before .before .before .before in
+    let idle = idle-found _ _ _ _ (c .before .before .before .leg-bests .ensures) (c .before .before .ready-net .ensures) (c .before .idle .ensures) in
+    let shut = told (k .before .before .before .before .before .none-shut .ensures) (k .before .before .before .before .if1 .taken) in
+    let runs = told (k .before .before .before .runs .ensures) (k .before .before .if2 .left) in
+    arrives-passes _ _ _ _ _ shut runs (told (k .before .starts .ensures) (k .if3 .left)) (told idle (c .if4 .left))
 
 rests-requires-2 : tie.Need-rests-requires-2
 rests-requires-2 c κs = search needs
