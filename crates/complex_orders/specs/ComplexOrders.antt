@@ -7,7 +7,7 @@ use native.Mathlib.Omega.{arith}
 use lib.Dec.{eqb}
 use lib.IntN.{ℤ}
 use lib.ListN.{length, getD}
-use Rattle.base.specs.Pick.{pick, both, pick-by, pick-ap, pick-false, tests}
+use Rattle.base.specs.Pick.{pick, both, pick-by, pick-ap, tests}
 use Rattle.base.specs.Sets.{minus}
 use Rattle.rules.specs.declared.Entry.{Entry}
 use Rattle.rules.specs.declared.LegOrder.{LegOrder}
@@ -17,8 +17,8 @@ use Rattle.rules.specs.declared.State.{State}
 use Rattle.rules.specs.declared.Allocation.the-variants.{Shared}
 use Rattle.rules.specs.State.{noEntry, entryAt, strategyOf}
 use Rattle.rules.specs.Moves.{Moved, still, and-then}
-use Rattle.rules.specs.Sides.{other, better}
-use Rattle.rules.specs.Nets.{prices, netOf, legNet}
+use Rattle.rules.specs.Sides.{other}
+use Rattle.rules.specs.Nets.{prices, netOf, betters, legNet}
 use Rattle.rules.specs.Strategies.{shutSet, allOpen}
 use Rattle.rules.specs.Passes.{turnAt, pass}
 use Rattle.rules.specs.Fills.{cancelRecord, cutEntry, cancelEntry}
@@ -38,9 +38,7 @@ use Rattle.complex_orders.specs.declared.Arrival.the-variants as A
 
 -- whether an order of strategy s starts an auction, by the leg orders
 unfoldable pub startsIn : Entry → Strategy → List LegOrder → Bool
-startsIn e s os =
-    let net : ℕ = netOf s (prices os (other (e .side)) (s .legs)) in
-    both (mayStart e) (pick (eqb net 0) false (better (other (e .side)) (e .level) net))
+startsIn e s os = both (mayStart e) (betters false (e .side) (e .level) (netOf s (prices os (other (e .side)) (s .legs))))
 
 -- it rests, or is cancelled
 unfoldable pub restsAs : Entry → Arrival
@@ -189,21 +187,3 @@ module _ (e : Entry) (b : State) {i : ℕ} {rows : List Entry} (p : rows ≡ beh
       → does i (entered e rows b) A.Answers ≡ still (auctioned (entered e rows b) (e .strategy) s)
   unfolding does
   answers-is h g = rw (enters-at h) (ap still (sym (put-is (entered e rows b) (e .strategy) _ _ true g)))
-
--- whether an order starts an auction, by the leg net that the code has found
-module _ (e : Entry) (s : Strategy) (os : List LegOrder) where
-  pub starts-not : mayStart e ≡ false → false ≡ startsIn e s os
-  unfolding startsIn
-  starts-not m = sym (pick-false _ _ _ m)
-
-  module _ (m : mayStart e ≡ true) {on net : ℕ} (o : on ≡ other (e .side)) (g : net ≡ netOf s (prices os on (s .legs))) where
-    net-is : netOf s (prices os (other (e .side)) (s .legs)) ≡ net
-    net-is = rw (← o) (sym g)
-
-    pub starts-unknown : net ≡ 0 → false ≡ startsIn e s os
-    unfolding startsIn
-    starts-unknown z = rw net-is (search tests)
-
-    pub starts-better : (net ≡ 0 → ⊥) → {t : Bool} → t ≡ better on (e .level) net → t ≡ startsIn e s os
-    unfolding startsIn
-    starts-better z h = rw (net-is, ← o) (search tests)

@@ -19,6 +19,7 @@ use entries::insert;
 use fills::cancel_entry;
 use fills::cancel_record;
 use fills::cut_entry;
+use nets::betters;
 use nets::leg_bests;
 use nets::ready_net;
 use passes::idle;
@@ -30,8 +31,6 @@ use rules::Entry;
 use rules::LegOrder;
 use rules::State;
 use rules::Strategy;
-use sides::better;
-use sides::other;
 use states::none_shut;
 use states::runs;
 
@@ -70,13 +69,7 @@ fn starts(e: Entry, s: Strategy, os: [LegOrder; State::LEG_ORDERS]) -> bool
     ensures { λ r. ⌜ r ≡ startsIn e s os ⌝ }
 {
     if may_start(e) {
-        let on = other(e.side);
-        let p = leg_bests(os, on, s);
-        let net = p.net;
-        if net == 0 {
-            return false;
-        }
-        return better(on, e.level, net);
+        return betters(false, e.side, e.level, os, s);
     }
     false
 }

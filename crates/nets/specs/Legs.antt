@@ -18,8 +18,8 @@ use Rattle.rules.specs.declared.Strategy.{Strategy}
 use Rattle.rules.specs.declared.LegOrder.{LegOrder}
 use Rattle.rules.specs.declared.Best.{Best}
 use Rattle.rules.specs.State.{noLeg}
-use Rattle.rules.specs.Sides.{other, legSide}
-use Rattle.rules.specs.Nets.{bestOf, noBest, bestAfter, legPrice, priceAt, prices, pricedAt, known, weight, weighed, netOf, legUnits, unitsStep, unitsOf}
+use Rattle.rules.specs.Sides.{other, legSide, better}
+use Rattle.rules.specs.Nets.{bestOf, noBest, bestAfter, legPrice, priceAt, prices, pricedAt, known, weight, weighed, netOf, betters, legUnits, unitsStep, unitsOf}
 use Rattle.rules.specs.Valid.{FitLeg, Priced}
 use Rattle.ranges.specs.Fit.{FitLegs, fit-leg}
 use Rattle.nets.specs.declared.LegBests.{LegBests}
@@ -255,6 +255,19 @@ module _ (os : List LegOrder) (side : ℕ) where
       let ps : List ℕ = prices os side (s .legs) in
       e ∙ pick-by (λ (b : LegBests). p ≡ b → b ≡ record { prices = stored 6 (priceAt os side (s .legs)) (s .count); units = unitsOf os side s ps 9999; net = netOf s ps }) (known ps (s .count))
       (λ k h. refl) (λ k h. absurd (n (ap (λ (b : LegBests). b .net) h))) e
+
+-- A LIMIT AGAINST THE NET OF ITS OWN SIDE, by what was found on the legs
+module _ (unknown : Bool) (side level : ℕ) (os : List LegOrder) (s : Strategy) {on : ℕ} {p : LegBests} (o : on ≡ other side) (e : p ≡ legBests os on s) where
+  own-net : netOf s (prices os (other side) (s .legs)) ≡ p .net
+  own-net = rw (← o) (sym (net-is os on s e))
+
+  pub betters-unknown : p .net ≡ 0 → unknown ≡ betters unknown side level (netOf s (prices os (other side) (s .legs)))
+  unfolding betters
+  betters-unknown z = rw own-net (sym (pick-true _ _ _ (eq-eqb _ _ z)))
+
+  pub betters-known : ¬ (p .net ≡ 0) → {t : Bool} → t ≡ better on level (p .net) → t ≡ betters unknown side level (netOf s (prices os (other side) (s .legs)))
+  unfolding betters
+  betters-known z h = rw (own-net, ← o) (h ∙ sym (pick-false _ _ _ (ne-eqb _ _ z)))
 
 -- BY THE TABLE
 

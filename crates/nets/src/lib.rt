@@ -2,7 +2,8 @@
 ghost use mathlib.Core.Path.{_≡_};
 ghost use Prim.Native.Nat.{_+_, _*_, _-_, _/_, _<_, _≤_};
 ghost use Rattle.base.specs.All.{All};
-ghost use Rattle.rules.specs.Nets.{stands, lot, lots, known, weight, weighed, netOf, bestOf, startsAfresh, bestWith};
+ghost use Rattle.rules.specs.Sides.{other};
+ghost use Rattle.rules.specs.Nets.{stands, lot, lots, prices, known, weight, weighed, netOf, betters, bestOf, startsAfresh, bestWith};
 ghost use Rattle.rules.specs.Valid.{FitLeg, FitOrder, Priced};
 ghost use Rattle.ranges.specs.Most.{AtMost};
 ghost use Rattle.ranges.specs.Fit.{FitLegs};
@@ -292,6 +293,26 @@ pub fn ready_net(b: LegBests) -> u32
         return 0;
     }
     b.net
+}
+
+// Whether a limit of a side is better than the leg net of its own side; where that net is unknown, the answer is `unknown`.
+pub fn betters(
+    unknown: bool,
+    side: u8,
+    level: u32,
+    os: [LegOrder; State::LEG_ORDERS],
+    s: Strategy,
+) -> bool
+    requires { ⌜ All FitOrder os × All Priced os × FitLegs s ⌝ }
+    ensures { λ r. ⌜ r ≡ betters unknown side level (netOf s (prices os (other side) (s .legs))) ⌝ }
+{
+    let on = other(side);
+    let p = leg_bests(os, on, s);
+    let net = p.net;
+    if net == 0 {
+        return unknown;
+    }
+    better(on, level, net)
 }
 
 // The leg net that a complex party of that side meets where the legs give one unit, else 0, by the table of all bests.

@@ -217,7 +217,7 @@ module _ (b : State) (a h level q : ℕ) (st : Steady b) (p : Proper b a h level
         own-party (e .number) n k side (e .strategy) (e .side) (g .entry a alive),
         own-party (f .number) n k side (f .strategy) (f .side) (g .entry h its-alive),
       )
-  met-law (ofPrice n side price) g = omega (arith, none (come (ofPrice n side price)) (λ x. refl) (λ x y l. refl), none (gone (ofPrice n side price)) (λ x. refl) (λ x y l. refl))
+  met-law (ofPrice n x side price) g = omega (arith, none (come (ofPrice n x side price)) (λ x. refl) (λ x y l. refl), none (gone (ofPrice n x side price)) (λ x. refl) (λ x y l. refl))
 
   pub acct-whole : Acct b (wholeFill b a h level q)
   unfolding wholeFill
@@ -260,9 +260,9 @@ module _ (b : State) (a h : ℕ) (st : Steady b) (t : Trading b a h) where
       let v = cutLeg-contracts (cutLeg b a c) r h c n (rw its₂ (let z : c ≤ o₂ .contracts = omega arith in z)) in
       omega (arith, cutLeg-contracts b (st .orderRows) a c n (omega arith), rw its₂ at v)
 
-  own-price : (n side price i : ℕ) → Good (ofPrice n side price) b → 0 < orderAt b i .contracts → meets (orderAt b i .side) (orderAt b i .price) (o₂ .price) ≡ true →
+  own-price : (n x side price i : ℕ) → Good (ofPrice n x side price) b → 0 < orderAt b i .contracts → meets (orderAt b i .side) (orderAt b i .price) (o₂ .price) ≡ true →
       ifSame (orderAt b i .number) n (pick (meets side (10_000_000 + price) (10_000_000 + o₂ .price)) 0 1) ≡ 0
-  own-price n side price i g l m =
+  own-price n x side price i g l m =
       not-worse (orderAt b i .number) n side (10_000_000 + price) (10_000_000 + o₂ .price)
       (λ k. meets-up side price (o₂ .price) (rw (← (g .order i l k .0), ← (g .order i l k .1)) m))
 
@@ -285,8 +285,8 @@ module _ (b : State) (a h : ℕ) (st : Steady b) (t : Trading b a h) where
   deal-law (ofRatio n x r) g = refl
   deal-law (ofLimit n side limit) g = refl
   deal-law (ofParty n k side) g = refl
-  deal-law (ofPrice n side price) g =
-      omega (arith, own-price n side price a g (t .live) (meets-price o₁ o₂ (t .meets)), own-price n side price h g (standing₂ .live) (meets-self (o₂ .side) (o₂ .price)))
+  deal-law (ofPrice n x side price) g =
+      omega (arith, own-price n x side price a g (t .live) (meets-price o₁ o₂ (t .meets)), own-price n x side price h g (standing₂ .live) (meets-self (o₂ .side) (o₂ .price)))
 
   pub acct-trade : Acct b (legTrade b a h)
   unfolding legTrade
@@ -311,7 +311,7 @@ single-law s ofCash g = simp (s .noFill)
 single-law s (ofRatio n x y) g = simp (s .noFill)
 single-law s (ofLimit n side limit) g = simp (s .noFill)
 single-law s (ofParty n k side) g = simp (s .noFill)
-single-law s (ofPrice n side price) g = simp (s .noFill)
+single-law s (ofPrice n x side price) g = simp (s .noFill)
 
 -- CANCELS
 module _ (b : State) (st : Steady b) (i : ℕ) where

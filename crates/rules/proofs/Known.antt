@@ -2,23 +2,21 @@
 use mathlib.Core.Path.{_≡_, refl, sym, _∙_, ap}
 use mathlib.Core.Bool.{true, false}
 use mathlib.Core.List.{List, [], _∷_}
-use mathlib.Core.Logic.{⊎-elim}
-use Prim.Native.Nat.{ℕ, zero, suc, _≤_, _<_}
+use Prim.Native.Nat.{ℕ, _<_}
 use native.Mathlib.Omega.{arith}
 use borrow.Author.Tests.{eqb-true, eqb-false, ne-eqb}
 use lib.Dec.{eqb}
 use lib.ListN.{length, getD, set}
 use lib.Seq.{getD-set-same, getD-set-other}
-use Rattle.base.specs.Pick.{pick, pick-all, pick-by, pick-yes, pick-true, pick-false}
+use Rattle.base.specs.Pick.{pick, pick-all, pick-by, pick-true, pick-false}
 use Rattle.base.specs.All.{all-at, all-replicate}
-use Rattle.base.specs.Walks.{sumN, slot, table, table-slot, all-holds, sum-same, lt-or-le}
+use Rattle.base.specs.Walks.{table, table-slot}
 use Rattle.events.specs.declared.Event.{Event}
 use Rattle.events.specs.declared.Event.the-variants as E
 use Rattle.events.specs.declared.Strategy.{Strategy as GivenStrategy}
 use Rattle.events.specs.declared.Reading.{Reading}
 use Rattle.events.specs.declared.Reading.the-variants as R
 use Rattle.frames.specs.Frames.{readOf}
-use Rattle.rules.specs.declared.Leg.{Leg}
 use Rattle.rules.specs.declared.Strategy.{Strategy}
 use Rattle.rules.specs.declared.Entry.{Entry}
 use Rattle.rules.specs.declared.LegOrder.{LegOrder}
@@ -27,9 +25,8 @@ use Rattle.rules.specs.declared.State.{State}
 use Rattle.rules.specs.Sizes.{seriesCount}
 use Rattle.rules.specs.State.{noLeg, noOrder, noQuote, noStrategy, strategyAt, legAt, fresh, withEntries, withOrders, withStrategies, withOpened, withClock, withLast, withNational, withRange}
 use Rattle.rules.specs.Moves.{Moved, and-then}
-use Rattle.rules.specs.Strategies.{sameLeg, sameLegAt, sameLegs, held, added, define}
-use Rattle.rules.specs.Nets.{weight, weightAt, weighed, netOf}
-use Rattle.rules.specs.National.{nationalPrice, nationalAt, nationalPrices, nationalNet, boundsOf, boundsAt, onNational, onRange}
+use Rattle.rules.specs.Strategies.{held, added, define}
+use Rattle.rules.specs.National.{nationalPrice, nationalPrices, nationalNet, boundsOf, boundsAt, onNational, onRange}
 use Rattle.rules.specs.Fills.{cancelEntry}
 use Rattle.rules.specs.Auctions.{answer}
 use Rattle.rules.specs.Events.{live, liveOrder, enter, enterOrder, onOrder, oldSweep, enterSweep, onSweep, onLegOrder, cancelNumber, onClock, onSeries, restart, onDayEnd}
@@ -41,6 +38,7 @@ use Rattle.rules.proofs.Tables.{behind-length}
 use Rattle.rules.proofs.Shrinks.{Shrinks, cancel-shrinks, answer-shrinks}
 use Rattle.rules.proofs.Control.{shrinks-kept, onOrder-kept, onLegOrder-kept, cancelNumber-kept, onClock-kept, shut-kept, reopen-kept}
 use Rattle.rules.proofs.Ratios.{Padded, given-padded}
+use Rattle.rules.proofs.Nets.{same-net}
 use Rattle.rules.proofs.Strategies.{defined-fit}
 use Rattle.rules.proofs.Entering.{fit-no-leg, fit-past}
 use Rattle.rules.proofs.Origins.{HasLegs}
@@ -179,77 +177,22 @@ pub range-known : (timer : ℕ) (xs : List Sent) → Valid (fresh timer) → aft
 unfolding fresh
 range-known timer xs v = known-range (fresh timer) xs v
 
--- TWO STRATEGIES WITH THE SAME LEGS have the same national nets
-table-same : {A : Type 0} (f g : ℕ → A) (k : ℕ) → ((i : ℕ) → i < k → f i ≡ g i) → table f k ≡ table g k
-unfolding table
-table-same f g zero h = refl
-table-same f g (suc k) h = rw (table-same f g k (λ i l. h i (omega arith)), h k (omega arith))
-
-same-leg : (l m : Leg) → sameLeg l m ≡ true → l ≡ m
-unfolding sameLeg
-same-leg l m h =
-    let p = pick-yes (eqb (l .series) (m .series)) h in
-    let q = pick-yes (eqb (l .side) (m .side)) (p .1) in
-    let a : l .series ≡ m .series = eqb-true _ _ (p .0) in
-    let b : l .side ≡ m .side = eqb-true _ _ (q .0) in
-    let c : l .ratio ≡ m .ratio = eqb-true _ _ (q .1) in
-    ap (λ (x : ℕ). record { series = x; side = l .side; ratio = l .ratio }) a
-    ∙ ap (λ (x : ℕ). record { series = m .series; side = x; ratio = l .ratio }) b
-    ∙ ap (λ (x : ℕ). record { series = m .series; side = m .side; ratio = x }) c
-
--- a strategy whose legs are used up to its count, and no further
-pub record Filled (s : Strategy) : Type 0 where
-  pub padded : Padded s
-  pub used : (i : ℕ) → i < s .count → 0 < legAt s i .ratio
-
-module _ (s t : Strategy) (p : Filled s) (q : Filled t) (h : sameLegs s t ≡ true) where
-  leg-at : (i : ℕ) → i < 6 → legAt s i ≡ legAt t i
-  unfolding sameLegs
-  leg-at i l = same-leg (legAt s i) (legAt t i) (all-holds (sameLegAt s t) 6 i h l)
-
-  same-count : s .count ≡ t .count
-  same-count =
-      ⊎-elim
-      (λ (l : s .count < t .count).
-      absurd (omega (arith, q .used (s .count) l, p .padded .past (s .count) (omega arith), ap (λ (x : Leg). x .ratio) (leg-at (s .count) (omega (arith, q .padded .count))))))
-      (λ (l : t .count ≤ s .count).
-      ⊎-elim
-      (λ (m : t .count < s .count).
-      absurd (omega (arith, p .used (t .count) m, q .padded .past (t .count) (omega arith), ap (λ (x : Leg). x .ratio) (leg-at (t .count) (omega (arith, p .padded .count))))))
-      (λ (m : s .count ≤ t .count). omega arith)
-      (lt-or-le (t .count) (s .count)))
-      (lt-or-le (s .count) (t .count))
-
-  same-net : (ps : List ℕ) → netOf s ps ≡ netOf t ps
-  unfolding netOf weighed
-  same-net ps =
-      let w : (x : ℕ) → sumN (weightAt x (s .legs) ps) (s .count) ≡ sumN (weightAt x (t .legs) ps) (s .count) =
-      λ x. sum-same _ _ (s .count) (λ i l. ap (λ (y : Leg). weight x y (slot ps i)) (leg-at i (omega (arith, p .padded .count)))) in
-      rw (w 0, w 1, same-count)
-
-  pub same-national : (rs qs : List Quote) → ((i : ℕ) → i < 6 → legAt s i .series < 32) → ((x : ℕ) → x < 32 → getD rs x noQuote ≡ getD qs x noQuote) → (side : ℕ) →
-      nationalNet rs side s ≡ nationalNet qs side t
-  unfolding nationalNet nationalPrices nationalPrice
-  same-national rs qs low e side =
-      let z : table (nationalAt rs side (s .legs)) 6 ≡ table (nationalAt qs side (t .legs)) 6 =
-      table-same _ _ 6 (λ i l. rw (e (legAt s i .series) (low i l)) (ap (λ (x : Leg). nationalPrice qs side x) (leg-at i l))) in
-      rw z (same-net (table (nationalAt qs side (t .legs)) 6))
-
 -- what bounds a strategy by what the book knows is what bounds the definition that answered it by what the list said
 abbrev pub quotesSaid : List Logged → List Quote
 quotesSaid log = table (quoted noQuote log) seriesCount
 
 pub bounds-known : (timer : ℕ) (ys : List Sent) → Valid (fresh timer) → (k : ℕ) (e : GivenStrategy) → HasLegs (strategyAt (after (fresh timer) ys) k) e → Padded (strategyAt (after (fresh timer) ys) k) →
     boundsAt (after (fresh timer) ys) k ≡ boundsOf (quotesSaid (run (fresh timer) ys)) (rangeSaid 9999 (run (fresh timer) ys)) (strategyGiven e)
-unfolding boundsOf strategyGiven
+unfolding boundsOf strategyGiven nationalNet nationalPrices nationalPrice
 bounds-known timer ys v k e h padded =
     let b : State = after (fresh timer) ys in
     let s : Strategy = strategyAt b k in
     let fit : FitStrategy s = all-at noStrategy fit-past (after-valid (fresh timer) ys v .sound .strategies) k in
     let given : FitStrategy (strategyGiven e) = defined-fit (legsGiven e) (e .count) (h .definition) in
-    let net : (side : ℕ) → nationalNet (b .national) side s ≡ nationalNet (quotesSaid (run (fresh timer) ys)) side (strategyGiven e) =
-    same-national s (strategyGiven e) (record { padded = padded; used = fit .used }) (record { padded = given-padded e (h .definition); used = given .used }) (h .same)
-    (b .national) (quotesSaid (run (fresh timer) ys)) (λ i l. all-at noLeg fit-no-leg (fit .legs) i .series) (λ x l. quote-known timer ys v x l) in
+    let low : (i : ℕ) → legAt s i .series < 32 = λ i. all-at noLeg fit-no-leg (fit .legs) i .series in
+    let net : (side : ℕ) → nationalNet (b .national) side s ≡ nationalNet (quotesSaid (run (fresh timer) ys)) side (strategyGiven e) = λ side.
+    same-net s (strategyGiven e) (record { padded = padded; used = fit .used }) (record { padded = given-padded e (h .definition); used = given .used }) (h .same)
+    (nationalPrice (b .national) side) (nationalPrice (quotesSaid (run (fresh timer) ys)) side) (λ i l. rw (quote-known timer ys v (legAt s i .series) (low i)) refl) in
     ap (λ (x : ℕ). record { offer = x; bid = nationalNet (b .national) 1 s; range = b .range }) (net 0)
     ∙ ap (λ (x : ℕ). record { offer = nationalNet (quotesSaid (run (fresh timer) ys)) 0 (strategyGiven e); bid = x; range = b .range }) (net 1)
     ∙ ap (λ (x : ℕ). record { offer = nationalNet (quotesSaid (run (fresh timer) ys)) 0 (strategyGiven e); bid = nationalNet (quotesSaid (run (fresh timer) ys)) 1 (strategyGiven e); range = x }) (range-known timer ys v)

@@ -77,7 +77,7 @@ unfoldable pub ratioFor : Strategy → ℕ → ℕ
 ratioFor st s = sumN (ratioAt st s) (st .count)
 
 -- the units of a number, the contracts of a number, no record of an entry or of a leg order of a number, a series bought and sold, cash,
--- the leg fills of a number in a series, the limit of a number, the strategy and side of a number, the price of a number
+-- the leg fills of a number in a series, the limit of a number, the strategy and side of a number, the series, side and price of a number
 pub data Law : Type 0 where
   ofUnits : ℕ → Law
   ofContracts : ℕ → Law
@@ -88,7 +88,7 @@ pub data Law : Type 0 where
   ofRatio : (n s x : ℕ) → Law
   ofLimit : (n side limit : ℕ) → Law
   ofParty : (n strategy side : ℕ) → Law
-  ofPrice : (n side price : ℕ) → Law
+  ofPrice : (n series side price : ℕ) → Law
 
 -- what a law measures: by its number where it is of units or of contracts, nothing else
 abbrev pub measure : Law → (units contracts : ℕ → ℕ) → ℕ
@@ -101,7 +101,7 @@ measure ofCash u c = 0
 measure (ofRatio n s x) u c = 0
 measure (ofLimit n side limit) u c = 0
 measure (ofParty n k side) u c = 0
-measure (ofPrice n side price) u c = 0
+measure (ofPrice n s side price) u c = 0
 
 -- what holds of the quantities of every number, and of nothing, holds of what a law measures
 pub measure-by : (R : ℕ → ℕ → ℕ → Type 0) → R 0 0 0 → (l : Law) {u v w c d e : ℕ → ℕ} → ((n : ℕ) → R (u n) (v n) (w n)) → ((n : ℕ) → R (c n) (d n) (e n)) →
@@ -115,7 +115,7 @@ measure-by R z ofCash h k = z
 measure-by R z (ofRatio n s x) h k = z
 measure-by R z (ofLimit n side limit) h k = z
 measure-by R z (ofParty n x side) h k = z
-measure-by R z (ofPrice n side price) h k = z
+measure-by R z (ofPrice n s side price) h k = z
 
 abbrev pub size : Law → State → ℕ
 size l b = measure l (λ (n : ℕ). sumN (unitsOfNumber b n) 32) (λ (n : ℕ). sumN (contractsOfNumber b n) 32)
@@ -130,7 +130,7 @@ come ofCash r = onFill (r .kind) (ifSame (r .side) 0 (r .quantity * r .level) + 
 come (ofRatio n s x) r = onPart (r .kind) (ifSame (r .number) n (ifSame (r .place) s (r .quantity)))
 come (ofLimit n side limit) r = onWhole (r .kind) (ifSame (r .number) n (pick (meets side limit (r .level)) 0 1))
 come (ofParty n k side) r = onWhole (r .kind) (ifSame (r .number) n (pick (both (eqb (r .place) k) (eqb (r .side) side)) 0 1))
-come (ofPrice n side price) r = onTraded (r .kind) (ifSame (r .number) n (pick (meets side (10_000_000 + price) (r .level)) 0 1))
+come (ofPrice n s side price) r = onTraded (r .kind) (ifSame (r .number) n (pick (meets side (10_000_000 + price) (r .level)) 0 1))
 
 abbrev pub gone : Law → Record → ℕ
 gone (ofUnits n) r = onUnits (r .kind) (ifSame (r .number) n (r .quantity))
@@ -142,7 +142,7 @@ gone ofCash r = onFill (r .kind) (ifSame (r .side) 0 (r .quantity * 10_000_000) 
 gone (ofRatio n s x) r = onWhole (r .kind) (ifSame (r .number) n (x * r .quantity))
 gone (ofLimit n side limit) r = 0
 gone (ofParty n k side) r = 0
-gone (ofPrice n side price) r = 0
+gone (ofPrice n s side price) r = 0
 
 -- what a law asks of an entry and of a leg order that live
 abbrev pub FitsEntry : Law → State → Entry → Type 0
@@ -155,7 +155,7 @@ FitsEntry ofCash b e = Unit {0}
 FitsEntry (ofRatio n s x) b e = e .number ≡ n → ratioFor (strategyAt b (e .strategy)) s ≡ x
 FitsEntry (ofLimit n side limit) b e = e .number ≡ n → (e .side ≡ side) × (e .level ≡ limit)
 FitsEntry (ofParty n k side) b e = e .number ≡ n → (e .strategy ≡ k) × (e .side ≡ side)
-FitsEntry (ofPrice n side price) b e = Unit {0}
+FitsEntry (ofPrice n s side price) b e = Unit {0}
 
 abbrev pub FitsOrder : Law → LegOrder → Type 0
 FitsOrder (ofUnits n) o = Unit {0}
@@ -167,7 +167,7 @@ FitsOrder ofCash o = Unit {0}
 FitsOrder (ofRatio n s x) o = Unit {0}
 FitsOrder (ofLimit n side limit) o = Unit {0}
 FitsOrder (ofParty n k side) o = Unit {0}
-FitsOrder (ofPrice n side price) o = o .number ≡ n → (o .side ≡ side) × (o .price ≡ price)
+FitsOrder (ofPrice n s side price) o = o .number ≡ n → (o .side ≡ side) × (o .price ≡ price) × (o .series ≡ s)
 
 pub record Good (l : Law) (b : State) : Type 0 where
   pub entry : (i : ℕ) → 0 < entryAt b i .units → FitsEntry l b (entryAt b i)
@@ -215,7 +215,7 @@ fits-same (ofRatio n s x) {b} {c} h {e} {f} k g = λ i.
     ∙ g (sym (k .number) ∙ i)
 fits-same (ofLimit n side limit) h k g = λ i. let r = g (sym (k .number) ∙ i) in (k .side ∙ r .0, k .level ∙ r .1)
 fits-same (ofParty n x side) h k g = λ i. let r = g (sym (k .number) ∙ i) in (k .strategy ∙ r .0, k .side ∙ r .1)
-fits-same (ofPrice n side price) h k g = tt
+fits-same (ofPrice n s side price) h k g = tt
 
 fits-same-order : (l : Law) {o p : LegOrder} → SameOrder o p → FitsOrder l o → FitsOrder l p
 fits-same-order (ofUnits n) k g = tt
@@ -227,7 +227,7 @@ fits-same-order ofCash k g = tt
 fits-same-order (ofRatio n s x) k g = tt
 fits-same-order (ofLimit n side limit) k g = tt
 fits-same-order (ofParty n x side) k g = tt
-fits-same-order (ofPrice n side price) k g = λ i. let r = g (sym (k .number) ∙ i) in (k .side ∙ r .0, k .price ∙ r .1)
+fits-same-order (ofPrice n s side price) k g = λ i. let r = g (sym (k .number) ∙ i) in (k .side ∙ r .0, k .price ∙ r .1, k .series ∙ r .2)
 
 pub good-shrinks : (l : Law) {b c : State} → Shrinks b c → Good l b → Good l c
 good-shrinks l h g = record {

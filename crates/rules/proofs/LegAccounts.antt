@@ -409,9 +409,9 @@ module _ (b : State) (a : ℕ) (st : Steady b) (legged : Legged b a) where
   unknown-orders n g =
       legs-none os (e .side) q (s .legs) ps (come (noOrders n)) (s .count) (λ i j h d. when-no (orderAt b j .number) n 1 (g .order j (d .standing .live)))
 
-  not-worse-orders : (n side price : ℕ) → Good (ofPrice n side price) b → tally (come (ofPrice n side price)) theirs ≡ 0
-  not-worse-orders n side price g =
-      legs-none os (e .side) q (s .legs) ps (come (ofPrice n side price)) (s .count)
+  not-worse-orders : (n x side price : ℕ) → Good (ofPrice n x side price) b → tally (come (ofPrice n x side price)) theirs ≡ 0
+  not-worse-orders n x side price g =
+      legs-none os (e .side) q (s .legs) ps (come (ofPrice n x side price)) (s .count)
       (λ i j h d. not-worse (orderAt b j .number) n side (10_000_000 + price) (10_000_000 + slot ps i)
       (λ k. rw (← (d .price), g .order j (d .standing .live) k .1) (meets-self side (10_000_000 + price))))
 
@@ -455,8 +455,8 @@ module _ (b : State) (a : ℕ) (st : Steady b) (legged : Legged b a) where
         wholly (gone (ofParty n k side)) (λ p l. refl) (λ o x p. refl),
         own-party (e .number) n k side (e .strategy) (e .side) (g .entry a (legged .live)),
       )
-  taken-law (ofPrice n side price) g =
-      omega (arith, ones (come (ofPrice n side price)) (λ p l. refl), not-worse-orders n side price g, wholly (gone (ofPrice n side price)) (λ p l. refl) (λ o x p. refl))
+  taken-law (ofPrice n x side price) g =
+      omega (arith, ones (come (ofPrice n x side price)) (λ p l. refl), not-worse-orders n x side price g, wholly (gone (ofPrice n x side price)) (λ p l. refl) (λ o x p. refl))
 
   pub acct-legs : Acct b (legFill a b)
   unfolding legFill takeLegs

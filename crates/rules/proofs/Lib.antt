@@ -9,6 +9,7 @@ pub mod Turns
 pub mod Ends
 pub mod Firsts
 pub mod Bests
+pub mod BetterNets
 pub mod Finishes
 pub mod DayEnd
 pub mod Entering
@@ -36,6 +37,7 @@ pub mod Paper
 pub mod Ratios
 pub mod Origins
 pub mod InRange
+pub mod Nets
 pub mod Known
 pub mod NetsSaid
 pub mod Barred

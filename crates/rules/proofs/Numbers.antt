@@ -294,7 +294,7 @@ pub data About (n : ℕ) : Law → Type 0 where
   a-ratio : (s x : ℕ) → About n (ofRatio n s x)
   a-limit : (side limit : ℕ) → About n (ofLimit n side limit)
   a-party : (k side : ℕ) → About n (ofParty n k side)
-  a-price : (side price : ℕ) → About n (ofPrice n side price)
+  a-price : (s side price : ℕ) → About n (ofPrice n s side price)
 
 other-row : {n : ℕ} {l : Law} → About n l → (b : State) (r : Row) → NotRow n r → (added l r ≡ 0) × FitsRow l b r
 other-row {n} a-units b (entryRow e) h = (when-no (e .number) n (e .units) h, tt)
@@ -318,9 +318,9 @@ other-row {n} (a-limit side limit) b noRow h = (refl, tt)
 other-row {n} (a-party k side) b (entryRow e) h = (refl, λ z. absurd (h z))
 other-row {n} (a-party k side) b (legRow o) h = (refl, tt)
 other-row {n} (a-party k side) b noRow h = (refl, tt)
-other-row {n} (a-price side price) b (entryRow e) h = (refl, tt)
-other-row {n} (a-price side price) b (legRow o) h = (refl, λ z. absurd (h z))
-other-row {n} (a-price side price) b noRow h = (refl, tt)
+other-row {n} (a-price s side price) b (entryRow e) h = (refl, tt)
+other-row {n} (a-price s side price) b (legRow o) h = (refl, λ z. absurd (h z))
+other-row {n} (a-price s side price) b noRow h = (refl, tt)
 
 pub record Quiet (l : Law) (b : State) (xs : List Sent) : Type 0 where
   pub none : enteredOf l b xs ≡ 0

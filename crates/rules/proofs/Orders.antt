@@ -6,10 +6,10 @@ use mathlib.Core.Logic.{_⊎_, inl, inr, ⊎-elim}
 use mathlib.Core.List.{[], _∷_, append-nil}
 use Prim.Native.Nat.{ℕ, _≤_, _<_}
 use native.Mathlib.Omega.{arith}
-use borrow.Author.Tests.{eqb-true, eqb-false, eq-eqb, ne-eqb, ltb-true, lt-ltb}
+use borrow.Author.Tests.{eqb-true, eqb-false, eq-eqb, ne-eqb}
 use lib.Dec.{eqb}
 use lib.ListN.{length}
-use Rattle.base.specs.Pick.{pick, pick-all, pick-by, pick-true, pick-false, pick-yes, pick-no}
+use Rattle.base.specs.Pick.{pick, pick-all, pick-by, pick-true, pick-false, pick-yes}
 use Rattle.base.specs.Walks.{lt-or-le}
 use Rattle.events.specs.declared.Order.{Order as GivenOrder}
 use Rattle.events.specs.declared.Event.the-variants as E
@@ -20,8 +20,6 @@ use Rattle.rules.specs.declared.Kind.the-variants.{Cancelled}
 use Rattle.rules.specs.declared.Allocation.the-variants.{Shared}
 use Rattle.rules.specs.State.{entryAt, strategyAt, withStrategies}
 use Rattle.rules.specs.Moves.{Moved, still, and-then}
-use Rattle.rules.specs.Sides.{other, better}
-use Rattle.rules.specs.Nets.{offerNet, bidNet}
 use Rattle.rules.specs.Fills.{cancelEntry}
 use Rattle.rules.specs.Passes.{opposite, pass}
 use Rattle.rules.specs.Auctions.{putAuction, begin, answer}
@@ -29,8 +27,7 @@ use Rattle.rules.specs.Events.{enter, freeSlot, restOrCancel, mayStart, 
 use Rattle.rules.specs.Given.{orderGiven}
 use Rattle.rules.specs.Step.{accept}
 use Rattle.rules.specs.Valid.{Sound}
-use Rattle.rules.specs.Sentences.{AcceptedEvent, Runs, Open, MeetsNone, LegsMeetNone, BarredHere, AheadShared, CancelsIt, StartsOne, a-buy, a-sell, Begins, PassesIt, OrderSentence}
-use Rattle.rules.proofs.Tables.{positive}
+use Rattle.rules.specs.Sentences.{AcceptedEvent, Runs, Open, MeetsNone, LegsMeetNone, BarredHere, AheadShared, CancelsIt, StartsOne, Begins, PassesIt, OrderSentence}
 use Rattle.rules.proofs.Shrinks.{Shrinks, shrinks-refl, cancel-shrinks}
 use Rattle.rules.proofs.Entering.{fit-entry-at}
 use Rattle.rules.proofs.Settled.{cancel-other, cancel-dead, cancel-strategies, only-sound}
@@ -43,6 +40,7 @@ use Rattle.rules.proofs.Groups.{shared-static, none-alone, none-trans, 
 use Rattle.rules.proofs.Clocks.{runs, runs-not}
 use Rattle.rules.proofs.Sweeps.{answers-at}
 use Rattle.rules.proofs.LegOrders.{open-all, all-open}
+use Rattle.rules.proofs.BetterNets.{better-yes, better-known}
 use Rattle.rules.proofs.PassEnds.{meets-none, turn-within, shared-had}
 
 -- a test that is not true
@@ -61,30 +59,21 @@ may-start e c l =
     ∙ pick-by (λ (t : Bool). t ≡ true) _ (λ _. refl) (λ q. let z : ¬ (e .life ≡ 0) = eqb-false _ _ q in eq-eqb (e .life) 1 (omega arith))
 
 starts-by : (b : State) (e : Entry) → StartsOne b e → starts b e ≡ true
-unfolding starts better other pick
-starts-by b e (a-buy c l s known above) = rw (may-start e c l, s, ne-eqb (bidNet b (e .strategy)) 0 (λ z. omega arith)) (lt-ltb _ _ above)
-starts-by b e (a-sell c l s known below) = rw (may-start e c l, s, ne-eqb (offerNet b (e .strategy)) 0 (λ z. omega arith)) (lt-ltb _ _ below)
+unfolding starts
+starts-by b e s = pick-true _ _ _ (may-start e (s .class) (s .life)) ∙ better-yes b (e .side) (e .strategy) (e .level) false (s .limit)
 
 class-two : (c : ℕ) → (1 ≤ c) × (c ≤ 2) → (c ≡ 1) ⊎ (c ≡ 2)
 class-two c (l, m) = ⊎-elim (λ (h : c < 2). inl (omega arith)) (λ (h : 2 ≤ c). inr (omega arith)) (lt-or-le c 2)
 
-starts-buy : (b : State) (e : Entry) → e .side ≡ 0 → starts b e ≡ true → StartsOne b e
-unfolding starts mayStart better other pick
-starts-buy b e s h =
-    let p = pick-yes (mayStart e) (rw s at h) in
-    let q = pick-no (eqb (bidNet b (e .strategy)) 0) (p .1) in
-    a-buy (class-two (e .class) (may-class e (p .0))) (may-life e (p .0)) s (positive _ (q .0)) (ltb-true _ _ (q .1))
-
-starts-sell : (b : State) (e : Entry) → e .side ≡ 1 → starts b e ≡ true → StartsOne b e
-unfolding starts mayStart better other pick
-starts-sell b e s h =
-    let p = pick-yes (mayStart e) (rw s at h) in
-    let q = pick-no (eqb (offerNet b (e .strategy)) 0) (p .1) in
-    a-sell (class-two (e .class) (may-class e (p .0))) (may-life e (p .0)) s (positive _ (q .0)) (ltb-true _ _ (q .1))
-
 starts-why : (b : State) (e : Entry) → e .side ≤ 1 → starts b e ≡ true → StartsOne b e
+unfolding starts
 starts-why b e one h =
-    ⊎-elim (λ (s : e .side < 1). starts-buy b e (omega arith) h) (λ (s : 1 ≤ e .side). starts-sell b e (omega arith) h) (lt-or-le (e .side) 1)
+    let p = pick-yes (mayStart e) h in
+    record {
+      class = class-two (e .class) (may-class e (p .0));
+      life = may-life e (p .0);
+      limit = better-known b (e .side) (e .strategy) (e .level) one (p .1);
+    }
 
 -- THE PARTS
 module _ (b : State) (a : ℕ) (some : 0 < entryAt b a .units) where

@@ -131,7 +131,7 @@ fits-strategies ofCash b c e h f = tt
 fits-strategies (ofRatio n s x) b c e h f = λ i. ap (λ (t : Strategy). ratioFor t s) h ∙ f i
 fits-strategies (ofLimit n side limit) b c e h f = f
 fits-strategies (ofParty n k side) b c e h f = f
-fits-strategies (ofPrice n side price) b c e h f = tt
+fits-strategies (ofPrice n s side price) b c e h f = tt
 
 good-same : (l : Law) (b c : State) → c .entries ≡ b .entries → c .orders ≡ b .orders → ((i : ℕ) → 0 < entryAt b i .units → strategyAt c (entryAt b i .strategy) ≡ strategyAt b (entryAt b i .strategy)) → Good l b → Good l c
 good-same l b c p q s g = record {

@@ -291,13 +291,13 @@ module _ (timer : ℕ) (low : 1 ≤ timer) (high : timer ≤ 5000) (xs : List Se
         rw lines
         (omega (arith, order-law a-contracts tt, when-yes (o .order .number) (w .number) (o .order .contracts) (o .number), o .contracts, order-law a-units tt, tally-none rs, contracts-lines (w .number) rs no-entries))
 
-    prices : tally (come (ofPrice (w .number) (o .order .side) (o .order .price))) rs ≡ 0
-    prices = omega (arith, order-law (a-price (o .order .side) (o .order .price)) (λ z. (refl, refl)), tally-none rs)
+    prices : tally (come (ofPrice (w .number) (o .order .series) (o .order .side) (o .order .price))) rs ≡ 0
+    prices = omega (arith, order-law (a-price (o .order .series) (o .order .side) (o .order .price)) (λ z. (refl, refl, refl)), tally-none rs)
 
     traded-met : (r : Record) → List·Memᴰ r rs → kindNumber (r .kind) ≡ 2 → r .number ≡ w .number → meets (o .order .side) (10_000_000 + o .order .price) (r .level) ≡ true
     traded-met r there kind number =
         let z : onTraded (r .kind) (ifSame (r .number) (w .number) (pick (meets (o .order .side) (10_000_000 + o .order .price) (r .level)) 0 1)) ≡ 0 =
-        tally-mem (come (ofPrice (w .number) (o .order .side) (o .order .price))) r rs there prices in
+        tally-mem (come (ofPrice (w .number) (o .order .series) (o .order .side) (o .order .price))) r rs there prices in
         let n : onComplex (r .kind) (ifSame (r .number) (w .number) 1) ≡ 0 = tally-mem (come (noEntries (w .number))) r rs there no-entries in
         let y : ifSame (r .number) (w .number) (pick (meets (o .order .side) (10_000_000 + o .order .price) (r .level)) 0 1) ≡ 0 =
         rw (traded-line (r .kind) (r .number) kind (subst (λ (i : ℕ). onComplex (r .kind) (ifSame (r .number) i 1) ≡ 0) (sym number) n)) at z in

@@ -15,7 +15,7 @@ use Rattle.rules.specs.declared.Allocation.the-variants.{Shared}
 use Rattle.rules.specs.State.{noEntry, noOrder, fresh, entryAt, orderAt, withEntries, withOrders, withOpened, withClock, withLast}
 use Rattle.rules.specs.Moves.{Moved, still, and-then, each}
 use Rattle.rules.specs.Sides.{other, meets, better}
-use Rattle.rules.specs.Nets.{stands, legNet}
+use Rattle.rules.specs.Nets.{stands, ownNet, betters}
 use Rattle.rules.specs.Strategies.{allOpen}
 use Rattle.rules.specs.Fills.{legTrade, cancelEntry, cancelOrder}
 use Rattle.rules.specs.Passes.{pass}
@@ -64,9 +64,7 @@ mayStart e = both (either (eqb (e .class) 1) (eqb (e .class) 2)) (either (eqb (e
 
 -- ".. starts an auction if its limit is better than the known leg net of its own side (buy above bid net, sell below offer net)"
 unfoldable pub starts : State → Entry → Bool
-starts b e =
-    let net : ℕ = legNet b (other (e .side)) (e .strategy) in
-    both (mayStart e) (pick (eqb net 0) false (better (other (e .side)) (e .level) net))
+starts b e = both (mayStart e) (betters false (e .side) (e .level) (ownNet b (e .side) (e .strategy)))
 
 -- "If an auction runs, do-not-auction is cancelled and others wait.": the order at slot i
 unfoldable pub waits : ℕ → State → Moved

@@ -60,7 +60,7 @@ unfolding
     Sides.other Sides.legSide Sides.meets Sides.better Sides.bestPrice
     Quotas.inTurnAt Quotas.inTurn Quotas.portion Quotas.oneOf Quotas.holderAt Quotas.sharedAt Quotas.share
     Nets.stands Nets.priceWith Nets.priceOf Nets.lot Nets.lots Nets.legPrice Nets.prices Nets.known Nets.weight
-    Nets.weighed Nets.netOf Nets.legNet Nets.legUnits Nets.unitsOf
+    Nets.weighed Nets.netOf Nets.legNet Nets.betters Nets.legUnits Nets.unitsOf
     National.nationalPrice National.nationalPrices National.nationalNet National.boundsOf National.mayBuy
     National.maySell National.mayFill National.onNational National.onRange
     Strategies.divisor Strategies.lowestTerms Strategies.placeOf Strategies.bySeries Strategies.padded

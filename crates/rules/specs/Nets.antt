@@ -119,6 +119,15 @@ offerNet b k = legNet b 0 k
 abbrev pub bidNet : State → ℕ → ℕ
 bidNet b k = legNet b 1 k
 
+-- "the .. leg net of its own side": that of an entry of a side, "bid net" for a buy, "offer net" for a sell
+abbrev pub ownNet : State → ℕ → ℕ → ℕ
+ownNet b side k = legNet b (other side) k
+
+-- whether a limit of a side is strictly better than that net ("buy above bid net, sell below offer net"); `unknown` is the answer where the net is
+-- unknown. An order starts an auction if it is better than "the known leg net": there the answer is no.
+unfoldable pub betters : Bool → ℕ → ℕ → ℕ → Bool
+betters unknown side level net = pick (eqb net 0) unknown (better (other side) level net)
+
 -- "each best price's contracts divided by ratio, rounded down"
 unfoldable pub legUnits : List LegOrder → ℕ → ℕ → Leg → ℕ
 legUnits os side price l = sumN (slot (lots os (l .series) (other (legSide side l)) price)) tableRows / l .ratio

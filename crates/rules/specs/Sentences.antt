@@ -425,10 +425,16 @@ pub record CancelsIt (b : State) (a : ℕ) (x : Moved) : Type 0 where
   pub strategies : x .state .strategies ≡ b .strategies
   pub orders : x .state .orders ≡ b .orders
 
--- "class 1 or 2 with life 0 or 1 .. if its limit is better than the known leg net of its own side (buy above bid net, sell below offer net)"
-pub data StartsOne (b : State) (e : Entry) : Type 0 where
-  a-buy : (e .class ≡ 1) ⊎ (e .class ≡ 2) → e .life ≤ 1 → e .side ≡ 0 → 0 < bidNet b (e .strategy) → bidNet b (e .strategy) < e .level → StartsOne b e
-  a-sell : (e .class ≡ 1) ⊎ (e .class ≡ 2) → e .life ≤ 1 → e .side ≡ 1 → 0 < offerNet b (e .strategy) → e .level < offerNet b (e .strategy) → StartsOne b e
+-- a limit of a side "is better than the known leg net of its own side (buy above bid net, sell below offer net)", in strategy k
+pub data BetterThanNet (b : State) (side k level : ℕ) : Type 0 where
+  above-bid : side ≡ 0 → 0 < bidNet b k → bidNet b k < level → BetterThanNet b side k level
+  below-offer : side ≡ 1 → 0 < offerNet b k → level < offerNet b k → BetterThanNet b side k level
+
+-- "class 1 or 2 with life 0 or 1 .. if its limit is better than the known leg net of its own side"
+pub record StartsOne (b : State) (e : Entry) : Type 0 where
+  pub class : (e .class ≡ 1) ⊎ (e .class ≡ 2)
+  pub life : e .life ≤ 1
+  pub limit : BetterThanNet b (e .side) (e .strategy) (e .level)
 
 -- the order at slot a starts an auction: one record 4, and no row but its strategy's has changed: it trades nothing
 pub record Begins (b : State) (a : ℕ) (x : Moved) : Type 0 where
