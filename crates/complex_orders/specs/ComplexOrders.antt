@@ -20,7 +20,7 @@ use Rattle.rules.specs.Moves.{Moved, still, and-then}
 use Rattle.rules.specs.Sides.{other}
 use Rattle.rules.specs.Nets.{prices, netOf, betters, legNet}
 use Rattle.rules.specs.Strategies.{shutSet, allOpen}
-use Rattle.rules.specs.Passes.{turnAt, pass}
+use Rattle.rules.specs.Passes.{turnAt}
 use Rattle.rules.specs.Fills.{cancelRecord, cutEntry, cancelEntry}
 use Rattle.rules.specs.Auctions.{running, withAuction, putAuction, begin, answer}
 use Rattle.rules.specs.Events.{live, keep, behind, freeSlot, restOrCancel, mayStart, starts, waits, trades, arrive, onOrder}

@@ -2,7 +2,7 @@
 use mathlib.Core.Path.{_≡_, refl, sym}
 use mathlib.Core.Bool.{Bool, true, false, not}
 use mathlib.Core.List.{List}
-use Prim.Native.Nat.{ℕ, zero, suc, _+_, _*_, _-_, _≤_}
+use Prim.Native.Nat.{ℕ, _+_, _*_, _-_, _≤_}
 use native.Mathlib.Nat.{mul-le-mul}
 use native.Mathlib.Omega.{arith}
 use borrow.Author.Tests.{eq-eqb, ne-eqb}
@@ -10,16 +10,17 @@ use lib.Dec.{eqb}
 use lib.ListN.{getD}
 use Rattle.base.specs.Pick.{pick, pick-all, pick-false, tests}
 use Rattle.base.specs.All.{All}
-use Rattle.base.specs.Walks.{slot, walk, sum-le}
+use Rattle.base.specs.Walks.{slot, sum-le}
 use Rattle.rules.specs.declared.Leg.{Leg}
 use Rattle.rules.specs.declared.Strategy.{Strategy}
 use Rattle.rules.specs.declared.LegOrder.{LegOrder}
 use Rattle.rules.specs.State.{noLeg}
-use Rattle.rules.specs.Sides.{other, legSide, bestPrice}
-use Rattle.rules.specs.Nets.{stands, priceWith, priceStep, priceOf, lot, legPrice, priceAt, prices, known, weight, weightAt, weighed, netOf}
+use Rattle.rules.specs.Sides.{other, legSide}
+use Rattle.rules.specs.Nets.{stands, lot, legPrice, priceAt, prices, known, weight, weightAt, weighed, netOf}
 use Rattle.rules.specs.Valid.{FitLeg, FitOrder}
+use Rattle.rules.proofs.BetterNets.{price-most}
 use Rattle.ranges.specs.Most.{AtMost, table-most}
-use Rattle.ranges.specs.Fit.{FitLegs, fit-leg, fit-order}
+use Rattle.ranges.specs.Fit.{FitLegs, fit-leg}
 
 -- whether an order stands in a series and side, by what the code tests: its series first, which differs most often
 module _ (s side : ℕ) (o : LegOrder) where
@@ -63,21 +64,9 @@ pub lot-most : (s side price : ℕ) (o : LegOrder) → FitOrder o → lot s side
 unfolding lot
 lot-most s side price o f = let P : ℕ → Type 0 = λ (y : ℕ). y ≤ 9999 in pick-all P _ (pick-all P _ (f .contracts) (omega arith)) (omega arith)
 
-best-most : (side p q c : ℕ) → p ≤ c → q ≤ c → bestPrice side p q ≤ c
-unfolding bestPrice
-best-most side p q c a b = let P : ℕ → Type 0 = λ (y : ℕ). y ≤ c in pick-all P _ b (pick-all P _ b a)
-
-pub price-most : (os : List LegOrder) (s side : ℕ) → All FitOrder os → (k : ℕ) → walk (priceStep os s side) 0 k ≤ 99_999
-unfolding walk priceWith
-price-most os s side a zero = omega arith
-price-most os s side a (suc k) =
-    let P : ℕ → Type 0 = λ (y : ℕ). y ≤ 99_999 in
-    let h : P (walk (priceStep os s side) 0 k) = price-most os s side a k in
-    pick-all P _ (best-most side _ _ 99_999 h (fit-order a k .price)) h
-
 pub prices-most : (os : List LegOrder) (side : ℕ) (legs : List Leg) → All FitOrder os → AtMost 99_999 (prices os side legs)
-unfolding prices legPrice priceOf
-prices-most os side legs a = table-most (priceAt os side legs) 99_999 (λ i. price-most os (getD legs i noLeg .series) (other (legSide side (getD legs i noLeg))) a 32) 6
+unfolding prices legPrice
+prices-most os side legs a = table-most (priceAt os side legs) 99_999 (λ i. price-most os a (getD legs i noLeg .series) (other (legSide side (getD legs i noLeg)))) 6
 
 -- the net by what the code tests
 module _ (s : Strategy) (ps : List ℕ) where

@@ -1,20 +1,23 @@
 -- The causes of refusals by what the loops find, and by the leg orders that are live.
-use mathlib.Core.Path.{_≡_, refl, sym, ap}
+use mathlib.Core.Path.{_≡_, refl, sym, _∙_, ap}
 use mathlib.Core.Bool.{Bool, true, false, not}
 use mathlib.Core.List.{List, [], _∷_}
 use Prim.Native.Nat.{ℕ, _≤_, _<_}
 use native.Mathlib.Omega.{arith}
-use borrow.Author.Tests.{ne-eqb}
+use borrow.Author.Tests.{eq-eqb, ne-eqb}
 use lib.Dec.{eqb, leb}
 use lib.ListN.{length}
 use Rattle.base.specs.Pick.{pick, pick-true, pick-false, pick-all, told, tests}
 use Rattle.base.specs.Walks.{anyN, any-holds, any-none}
+use Rattle.events.specs.declared.Sweep.{Sweep as GivenSweep}
 use Rattle.rules.specs.declared.Entry.{Entry}
 use Rattle.rules.specs.declared.LegOrder.{LegOrder}
 use Rattle.rules.specs.declared.State.{State}
-use Rattle.rules.specs.State.{noOrder}
+use Rattle.rules.specs.State.{noOrder, strategyAt}
+use Rattle.rules.specs.Sides.{other}
+use Rattle.rules.specs.Nets.{prices, netOf, legNet, betters}
 use Rattle.rules.specs.Events.{live, liveOrder, freeOrderSlot}
-use Rattle.rules.specs.Refusals.{Cause, _if_, firstCause, isOrderOf, orderAtIs, legOrderAtIs, notFound, isLegOrder, legOrdersFull}
+use Rattle.rules.specs.Refusals.{Cause, _if_, firstCause, isOrderOf, orderAtIs, legOrderAtIs, notFound, isLegOrder, legOrdersFull, bettersNothing}
 use Rattle.rules.proofs.Tables.{keep-length, sum-tally}
 use Rattle.base.specs.Walks.{Passed}
 
@@ -79,3 +82,20 @@ slots-full b l e = rw (
   keep-length liveOrder noOrder isLegOrder leg-order-is (b .orders),
   sym (sum-tally isLegOrder noOrder refl (b .orders) 32 (omega arith)),
 )
+
+-- a sweep against the leg net of its side, by what the code tests
+module _ (b : State) (e : GivenSweep) where
+  pub withdraws : e .units ≡ 0 → false ≡ bettersNothing b e
+  unfolding bettersNothing
+  withdraws z = sym (pick-true _ _ _ (eq-eqb _ _ z))
+
+  module _ (some : ¬ (e .units ≡ 0)) {r : Bool} (t : r ≡ betters true (e .side) (e .level) (netOf (strategyAt b (e .strategy)) (prices (b .orders) (other (e .side)) (strategyAt b (e .strategy) .legs)))) where
+    by-test : bettersNothing b e ≡ not r
+    unfolding bettersNothing legNet
+    by-test = pick-false _ _ _ (ne-eqb _ _ some) ∙ ap not (sym t)
+
+    pub is-better : r ≡ true → false ≡ bettersNothing b e
+    is-better g = sym (by-test ∙ ap not g)
+
+    pub no-better : r ≡ false → true ≡ bettersNothing b e
+    no-better g = sym (by-test ∙ ap not g)

@@ -7,13 +7,15 @@ ghost use Rattle.base.specs.Pick.{pick};
 ghost use Rattle.events.specs.declared.Event.the-variants as E;
 ghost use Rattle.rules.specs.Sizes.{strategySlots};
 ghost use Rattle.rules.specs.Auctions.{running};
-ghost use Rattle.rules.specs.Refusals.{firstCause, causes, undefined, notOpen, isOrderOf, isLegOrderOf, notFound, isStarter, unanswerable, ordersFull, sweepsFull, legOrdersFull, replaces, removesNone, noRoom, numbersOut, sweepNumbersOut, bidAboveOffer};
+ghost use Rattle.rules.specs.Refusals.{firstCause, causes, undefined, notOpen, isOrderOf, isLegOrderOf, notFound, isStarter, unanswerable, ordersFull, sweepsFull, legOrdersFull, replaces, removesNone, noRoom, numbersOut, sweepNumbersOut, bidAboveOffer, bettersNothing};
 ghost use Rattle.rules.specs.declared.State.{State};
 ghost use Rattle.rules.specs.Fits.{FitOrderGiven, FitSweepGiven, FitLegOrderGiven};
+ghost use Rattle.ranges.specs.Fit.{Fit};
 use entries::count_of;
 use entries::old_sweep;
 use given::sweep_given;
 use legs::free_order_slot;
+use nets::betters;
 use rules::Entry;
 use rules::LegOrder;
 use rules::State;
@@ -190,6 +192,22 @@ fn removes_none(b: State, e: events::Sweep) -> bool
     false
 }
 
+// Whether a sweep has units and is no better than the leg net of its side.
+fn betters_nothing(b: State, e: events::Sweep) -> bool
+    requires { ⌜ FitSweepGiven e × Fit b ⌝ }
+    ensures { λ r. ⌜ r ≡ bettersNothing b e ⌝ }
+{
+    if e.units == 0 {
+        return false;
+    }
+    let s = b.strategies[e.strategy as usize];
+    let os = b.orders;
+    if betters(true, e.side as u8, e.level, os, s) {
+        return false;
+    }
+    true
+}
+
 // Whether a sweep needs a slot and none is free.
 fn no_room(b: State, e: events::Sweep) -> bool
     requires { ⌜ FitSweepGiven e × (b .last < 4294967295) ⌝ }
@@ -216,7 +234,7 @@ fn sweep_numbers_out(b: State, e: events::Sweep) -> bool
 
 // The refusal of a sweep.
 pub fn sweep_refusal(b: State, e: events::Sweep) -> u32
-    requires { ⌜ FitSweepGiven e × (b .last < 4294967295) ⌝ }
+    requires { ⌜ FitSweepGiven e × (b .last < 4294967295) × Fit b ⌝ }
     ensures { λ r. ⌜ r ≡ firstCause (causes b (E.Sweep e)) ⌝ }
 {
     if undefined(b, e.strategy) {
@@ -227,6 +245,9 @@ pub fn sweep_refusal(b: State, e: events::Sweep) -> u32
     }
     if removes_none(b, e) {
         return 10;
+    }
+    if betters_nothing(b, e) {
+        return 15;
     }
     if no_room(b, e) {
         return 12;

@@ -20,7 +20,7 @@ use Rattle.rules.specs.State.{noOrder, fresh}
 use Rattle.rules.specs.Sides.{better, bestPrice}
 use Rattle.rules.specs.Nets.{stands, priceWith, priceStep, priceOf, lot, lotAt, lots, bestOf, noBest, startsAfresh, bestWith, bestAfter}
 use Rattle.rules.specs.Valid.{Priced, Sound, Valid}
-use Rattle.rules.specs.Sentences.{BetterPrice, first, higher, lower, Walked}
+use Rattle.rules.specs.Sentences.{Any, BetterPrice, first, higher, lower, Walked}
 use Rattle.rules.specs.Totals.{Sent, after}
 use Rattle.rules.proofs.Tables.{all-of}
 use Rattle.rules.proofs.Firsts.{better-turn, better-past, better-alike}
@@ -165,6 +165,11 @@ unfolding bestAfter walk bestWith
 none-price os s side zero h = refl
 none-price os s side (suc k) h = pick-false _ _ _ (h k (omega arith)) ∙ none-price os s side k (λ i l. h i (omega arith))
 
+-- .. there is no price
+pub price-none : (os : List LegOrder) (s side : ℕ) → ((i : ℕ) → stands s side (getD os i noOrder) ≡ false) → priceOf os s side ≡ 0
+unfolding priceOf walk
+price-none os s side h = walk-rest (priceStep os s side) 0 0 32 (λ i x l. with-no s side x (getD os i noOrder) (h i))
+
 -- THE WALK
 
 module _ (os : List LegOrder) (s side : ℕ) (w : All Priced os) where
@@ -181,6 +186,19 @@ module _ (os : List LegOrder) (s side : ℕ) (w : All Priced os) where
       (λ g. let q = all-at noOrder priced-none w k .price (stands-live s side (at k) g) in
       ⊎-elim (λ z. rw z (best-self side p (at k .price) q)) (λ l. best-keeps side p (at k .price) (at i .price) q (leads k i l e)) (below h))
       (λ g. ⊎-elim (λ z. absurd (clash (rw z at e) g)) (λ l. leads k i l e) (below h))
+
+  -- and it is the price of one that stands
+  price-from : (k : ℕ) → 0 < priceIn os s side k → Any (λ (i : ℕ). (stands s side (at i) ≡ true) × (at i .price ≡ priceIn os s side k)) k
+  unfolding walk priceWith bestPrice
+  price-from zero = λ h. absurd (omega arith)
+  price-from (suc k) =
+      let p : ℕ = priceIn os s side k in
+      let P : ℕ → Type 0 = λ (r : ℕ). 0 < r → Any (λ (i : ℕ). (stands s side (at i) ≡ true) × (at i .price ≡ r)) (suc k) in
+      let old : P p = λ h. let a = price-from k h in record { at = a .at; below = omega (arith, a .below); has = a .has } in
+      pick-by P (stands s side (at k))
+      (λ e. let new : P (at k .price) = λ h. record { at = k; below = omega arith; has = (e, refl) } in
+      pick-all P (eqb p 0) new (pick-all P (better side p (at k .price)) new old))
+      (λ e. old)
 
   -- so a better one has no contracts yet
   fresh-lot : (k i q : ℕ) → i < k → startsAfresh side (priceIn os s side k) q ≡ true → lotAt os s side q i ≡ 0
@@ -225,6 +243,15 @@ module _ (os : List LegOrder) (s side : ℕ) (w : All Priced os) where
       → bestAfter os s side (suc k) ≡ record { price = at k .price; contracts = at k .contracts }
   unfolding bestAfter walk bestWith
   anew k e h = pick-true _ _ _ e ∙ pick-true _ _ _ (afresh-better side _ _ h)
+
+  -- THE BEST PRICE: one at which an order stands, and none stands at a better
+  pub price-stands : 0 < priceOf os s side → Any (λ (i : ℕ). (stands s side (at i) ≡ true) × (at i .price ≡ priceOf os s side)) 32
+  unfolding priceOf
+  price-stands h = price-from 32 h
+
+  pub price-best : (i : ℕ) → i < 32 → stands s side (at i) ≡ true → (0 < priceOf os s side) × (better side (priceOf os s side) (at i .price) ≡ false)
+  unfolding priceOf
+  price-best i h e = let l = leads 32 i h e in (l .some, l .not-better)
 
   -- THE SENTENCES OF THE REQUEST
   pub best-walked : Walked os s side

@@ -1,4 +1,4 @@
--- When an event is accepted: the causes of refusals 4 to 14 in another form, both ways.
+-- When an event is accepted: the causes of refusals 4 to 15 in another form, both ways.
 use mathlib.Core.Path.{_≡_, refl, sym, _∙_, ap}
 use mathlib.Core.Bool.{Bool, true, false, not}
 use mathlib.Core.Logic.{_⊎_, inl, inr, ⊎-elim}
@@ -21,14 +21,16 @@ use Rattle.rules.specs.State.{entryAt, strategyAt}
 use Rattle.rules.specs.Auctions.{running}
 use Rattle.rules.specs.Events.{oldSweep}
 use Rattle.rules.specs.Given.{sweepGiven}
-use Rattle.rules.specs.Refusals.{firstCause, causes, isSweepAt, undefined, unanswerable, notOpen, replaces, removesNone, ordersFull, sweepsFull, legOrdersFull, noRoom, numbersOut, sweepNumbersOut, bidAboveOffer}
+use Rattle.rules.specs.Refusals.{firstCause, causes, isSweepAt, undefined, unanswerable, notOpen, replaces, removesNone, ordersFull, sweepsFull, legOrdersFull, noRoom, numbersOut, sweepNumbersOut, bidAboveOffer, bettersNothing}
 use Rattle.rules.specs.Valid.{Valid}
+use Rattle.rules.specs.Fits.{FitSweepGiven}
 use Rattle.rules.specs.Sentences.{Runs, Any, SweepOf, OrderMay, SweepMay, LegOrderMay, ClockMay, NationalMay}
 use Rattle.rules.proofs.Validity.{clear, then-no}
 use Rattle.rules.proofs.Clocks.{runs}
+use Rattle.rules.proofs.BetterNets.{bettered, betters-it}
 use Rattle.rules.proofs.Sweeps.{old-low, old-is}
 
-runs-of : (b : State) (k : ℕ) → running b k ≡ true → Runs b k
+pub runs-of : (b : State) (k : ℕ) → running b k ≡ true → Runs b k
 runs-of b k r = let n = eqb-false (strategyAt b k .starter) 0 (not-true _ r) in omega (arith, n)
 
 -- A COMPLEX ORDER
@@ -107,7 +109,7 @@ unfolding causes firstCause
 range-accepted b e = refl
 
 -- A SWEEP
-module _ (b : State) (v : Valid b) (e : GivenSweep) where
+module _ (b : State) (v : Valid b) (e : GivenSweep) (f : FitSweepGiven e) where
   any-old : replaces b e ≡ true → Any (λ (i : ℕ). SweepOf e (entryAt b i)) 32
   any-old r = let l = ltb-true _ _ r in record { at = oldSweep b (sweepGiven b e); below = l; has = old-is b e v l }
 
@@ -115,17 +117,19 @@ module _ (b : State) (v : Valid b) (e : GivenSweep) where
   old-any a = lt-ltb _ _ (old-low b e v (a .at) (a .has))
 
   pub sweep-may : firstCause (causes b (E.Sweep e)) ≡ 0 → SweepMay b e
-  unfolding causes undefined removesNone noRoom sweepNumbersOut sweepsFull numbersOut
+  unfolding causes undefined removesNone bettersNothing noRoom sweepNumbersOut sweepsFull numbersOut
   sweep-may c =
       let x = clear 4 (undefined b (e .strategy)) _ (omega arith) c in
       let y = clear 9 (not (running b (e .strategy))) _ (omega arith) (x .1) in
       let z = clear 10 (removesNone b e) _ (omega arith) (y .1) in
-      let w = clear 12 (noRoom b e) _ (omega arith) (z .1) in
+      let n = clear 15 (bettersNothing b e) _ (omega arith) (z .1) in
+      let w = clear 12 (noRoom b e) _ (omega arith) (n .1) in
       let u = clear 13 (sweepNumbersOut b e) _ (omega arith) (w .1) in
       record {
         defined = leb-false _ _ (x .0);
         auction = runs-of b (e .strategy) (not-false _ (y .0));
         removes = λ n. any-old (not-false _ (sym (pick-true _ _ _ (eq-eqb _ _ n)) ∙ z .0));
+        betters = λ p. bettered b (e .side) (e .strategy) (e .level) (v .sound) (f .side) (not-false _ (then-no (eqb (e .units) 0) (n .0) (some p)));
         slot = λ p. place (replaces b e) refl (then-no (eqb (e .units) 0) (w .0) (some p));
         number = λ p. leb-false _ _ (then-no (eqb (e .units) 0) (u .0) (some p));
       }
@@ -138,15 +142,17 @@ module _ (b : State) (v : Valid b) (e : GivenSweep) where
       place false t h = inr (leb-false _ _ (then-no (replaces b e) h t))
 
   pub sweep-accepted : SweepMay b e → firstCause (causes b (E.Sweep e)) ≡ 0
-  unfolding causes firstCause undefined removesNone noRoom sweepNumbersOut sweepsFull numbersOut
+  unfolding causes firstCause undefined removesNone bettersNothing noRoom sweepNumbersOut sweepsFull numbersOut
   sweep-accepted m =
       let P : Bool → Type 0 = λ (t : Bool). t ≡ false in
       let removed : removesNone b e ≡ false = pick-by P (eqb (e .units) 0) (λ t. ap not (old-any (m .removes (eqb-true _ _ t)))) (λ t. refl) in
+      let better : bettersNothing b e ≡ false =
+      pick-by P (eqb (e .units) 0) (λ t. refl) (λ t. ap not (betters-it b (e .side) (e .strategy) (e .level) (v .sound) (f .side) (m .betters (left t)))) in
       let placed : noRoom b e ≡ false =
       pick-by P (eqb (e .units) 0) (λ t. refl)
       (λ t. ⊎-elim (λ a. pick-true _ _ _ (old-any a)) (λ f. pick-by P (replaces b e) (λ r. refl) (λ r. lt-leb _ _ f)) (m .slot (left t))) in
       let numbered : sweepNumbersOut b e ≡ false = pick-by P (eqb (e .units) 0) (λ t. refl) (λ t. lt-leb _ _ (m .number (left t))) in
-      pick-false _ _ _ (lt-leb _ _ (m .defined)) ∙ pick-false _ _ _ (ap not (runs b (e .strategy) (m .auction))) ∙ pick-false _ _ _ removed ∙ pick-false _ _ _ placed
+      pick-false _ _ _ (lt-leb _ _ (m .defined)) ∙ pick-false _ _ _ (ap not (runs b (e .strategy) (m .auction))) ∙ pick-false _ _ _ removed ∙ pick-false _ _ _ better ∙ pick-false _ _ _ placed
       ∙ pick-false _ _ _ numbered
     where
       left : eqb (e .units) 0 ≡ false → 0 < e .units

@@ -1,7 +1,7 @@
 -- "Clock: auctions begun at least the timer ago end, by strategy."
 use mathlib.Core.Path.{_≡_, refl, sym, _∙_, ap}
 use mathlib.Core.Bool.{Bool, true, false, not}
-use mathlib.Core.Logic.{inl, ⊎-elim}
+use mathlib.Core.Logic.{_⊎_, inl, inr, ⊎-elim}
 use mathlib.Core.List.{List, [], _∷_, List·Memᴰ, List·Memᴰ·head}
 use Prim.Native.Nat.{ℕ, zero, suc, _+_, _≤_, _<_}
 use native.Mathlib.Omega.{arith}
@@ -19,9 +19,9 @@ use Rattle.rules.specs.declared.Record.{Record}
 use Rattle.rules.specs.declared.Kind.{Kind}
 use Rattle.rules.specs.declared.Allocation.{Allocation}
 use Rattle.rules.specs.declared.Allocation.the-variants.{Shared, Numbered}
-use Rattle.rules.specs.State.{entryAt, strategyAt, withClock}
+use Rattle.rules.specs.State.{entryAt, strategyAt, withStrategies, withClock}
 use Rattle.rules.specs.Moves.{Moved, still, and-then, each}
-use Rattle.rules.specs.Auctions.{liveIn, running, close, cancelLapsed, starterSlot, starterPass, later, laterPass, endUnfilled, endAuction, due, endDue}
+use Rattle.rules.specs.Auctions.{liveIn, running, putAuction, close, cancelLapsed, starterSlot, starterPass, later, laterPass, endUnfilled, endAuction, due, endDue}
 use Rattle.rules.specs.Records.{kindNumber}
 use Rattle.rules.specs.Fills.{cancelEntry}
 use Rattle.rules.specs.Passes.{pass}
@@ -29,9 +29,9 @@ use Rattle.rules.specs.Events.{onClock}
 use Rattle.rules.specs.Refusals.{causes}
 use Rattle.rules.specs.Step.{accept}
 use Rattle.rules.specs.Valid.{Starter, Valid}
-use Rattle.rules.specs.Sentences.{AcceptedEvent, Runs, IsKind, UnpricedOf, HadTurn, auctionEnded, ClockSentence}
+use Rattle.rules.specs.Sentences.{AcceptedEvent, Runs, IsKind, UnpricedOf, HadTurn, auctionEnded, ClockSentence, AuctionEnds}
 use Rattle.rules.proofs.Tables.{positive, mem-left, mem-right}
-use Rattle.rules.proofs.Shrinks.{Shrinks, shrinks-trans, shrinks-refl}
+use Rattle.rules.proofs.Shrinks.{Shrinks, shrinks-trans, shrinks-refl, entry-same}
 use Rattle.rules.proofs.Control.{laterPass-kept, endUnfilled-kept, endAuction-kept, endDue-kept, shrinks-kept}
 use Rattle.rules.proofs.Only.{Only, live-in, lapsed-only, only-trans, only-each, starterPass-only, laterPass-only}
 use Rattle.rules.proofs.Settled.{same-or, strategy-same, only-sound, valid-loose}
@@ -73,6 +73,14 @@ module _ (k : ℕ) (b : State) (v : Valid b) (r : running b k ≡ true) where
       let low : k < 16 = running-low b (v .sound) k r in
       rw (ended-is k low (valid-loose v) passed-only) (ended-other k low (valid-loose v) passed-only j n)
 
+  -- nor has an entry of another strategy
+  pub end-leaves : (i : ℕ) → (entryAt b i .strategy ≡ k → ⊥) → entryAt (endAuction k b .state) i ≡ entryAt b i
+  unfolding endAuction endUnfilled and-then close putAuction withStrategies
+  end-leaves i n =
+      let c : State = each (cancelLapsed k) 32 passed .state in
+      let o : Only k b c = only-trans passed-only (only-each (cancelLapsed k) passed 32 (λ j _ d _. lapsed-only k j d)) in
+      entry-same (entryAt b i) (entryAt c i) (o .shrinks .entry i) (omega (arith, o .others i n))
+
 -- BY STRATEGY: after the first n
 record Ended (b : State) (n : ℕ) (c : State) : Type 0 where
   valid : Valid c
@@ -80,6 +88,8 @@ record Ended (b : State) (n : ℕ) (c : State) : Type 0 where
   ahead : (j : ℕ) → n ≤ j → strategyAt c j ≡ strategyAt b j
   ended : (j : ℕ) → j < n → due b j ≡ true → strategyAt c j .starter ≡ 0
   left : (j : ℕ) → j < n → due b j ≡ false → strategyAt c j ≡ strategyAt b j
+  stays : (i : ℕ) → (n ≤ entryAt b i .strategy) ⊎ (due b (entryAt b i .strategy) ≡ false) → entryAt c i ≡ entryAt b i
+  wholly : (j : ℕ) → j < n → due b j ≡ true → AuctionEnds b j c
 
 -- whether an auction is due depends on its strategy, the clock and the timer
 due-same : (b c : State) (k : ℕ) → strategyAt c k ≡ strategyAt b k → c .clock ≡ b .clock → c .timer ≡ b .timer → due c k ≡ due b k
@@ -101,6 +111,24 @@ module _ (b c : State) (n : ℕ) (e : Ended b n c) where
         ahead = λ j h. o j (λ q. omega arith) ∙ e .ahead j (omega arith);
         ended = λ j h d. ⊎-elim (λ q. rw q (end-none n c (e .valid) r)) (λ m. rw (o j (λ q. omega arith)) (e .ended j m d)) (below h);
         left = λ j h d. ⊎-elim (λ q. absurd (clash (sym same ∙ t) (rw q at d))) (λ m. o j (λ q. omega arith) ∙ e .left j m d) (below h);
+        stays = λ i p. end-leaves n c (e .valid) r i (λ q. not-its i p (sym (e .shrinks .entry i .strategy) ∙ q)) ∙ e .stays i (⊎-elim (λ l. inl (omega arith)) (λ d. inr d) p);
+        wholly = λ j h d. ⊎-elim (λ q. its-end j q) (λ m. its-still j m r (e .wholly j m d)) (below h);
+      }
+    where
+      not-its : (i : ℕ) → (suc n ≤ entryAt b i .strategy) ⊎ (due b (entryAt b i .strategy) ≡ false) → entryAt b i .strategy ≡ n → ⊥
+      not-its i (inl l) q = omega arith
+      not-its i (inr d) q = clash (sym same ∙ t) (rw q at d)
+
+      its-end : (j : ℕ) → j ≡ n → AuctionEnds b j (endAuction n c .state)
+      its-end j q = rw q (record { moment = c; since = e .shrinks; auction = e .ahead n (omega arith); found = λ i s. e .stays i (inl (omega arith)); leaves = λ i s. refl })
+
+      its-still : (j : ℕ) → j < n → running c n ≡ true → AuctionEnds b j c → AuctionEnds b j (endAuction n c .state)
+      its-still j m r w = record {
+        moment = w .moment;
+        since = w .since;
+        auction = w .auction;
+        found = w .found;
+        leaves = λ i s. end-leaves n c (e .valid) r i (λ q. omega (arith, e .shrinks .entry i .strategy)) ∙ w .leaves i s;
       }
 
   next-not : due c n ≡ false → Ended b (suc n) c
@@ -110,6 +138,8 @@ module _ (b c : State) (n : ℕ) (e : Ended b n c) where
     ahead = λ j h. e .ahead j (omega arith);
     ended = λ j h d. ⊎-elim (λ q. absurd (clash (rw q at d) (sym same ∙ t))) (λ m. e .ended j m d) (below h);
     left = λ j h d. ⊎-elim (λ q. rw q (e .ahead n (omega arith))) (λ m. e .left j m d) (below h);
+    stays = λ i p. e .stays i (⊎-elim (λ l. inl (omega arith)) (λ d. inr d) p);
+    wholly = λ j h d. ⊎-elim (λ q. absurd (clash (rw q at d) (sym same ∙ t))) (λ m. e .wholly j m d) (below h);
   }
 
   next : Ended b (suc n) (endDue n c .state)
@@ -118,7 +148,7 @@ module _ (b c : State) (n : ℕ) (e : Ended b n c) where
 
 all-ended : (b : State) → Valid b → (n : ℕ) → Ended b n (each endDue n b .state)
 unfolding each and-then
-all-ended b v zero = record { valid = v; shrinks = shrinks-refl b; ahead = λ j h. refl; ended = λ j h. absurd (omega arith); left = λ j h. absurd (omega arith) }
+all-ended b v zero = record { valid = v; shrinks = shrinks-refl b; ahead = λ j h. refl; ended = λ j h. absurd (omega arith); left = λ j h. absurd (omega arith); stays = λ i p. refl; wholly = λ j h. absurd (omega arith) }
 all-ended b v (suc n) = next b _ n (all-ended b v n)
 
 -- LEGS BARRED: the auction of strategy k was answered, and n is its starter
@@ -379,6 +409,8 @@ clock-sentence b e a =
     record {
       ends = λ k r h. d .ended k (low k r) (is-due (withClock b t) k r h);
       goesOn = λ k r h. d .left k (low k r) (not-due (withClock b t) k h);
+      stays = λ i p. d .stays i (inr (⊎-elim (λ z. none-due (withClock b t) (entryAt b i .strategy) z) (λ h. not-due (withClock b t) (entryAt b i .strategy) h) p));
+      wholly = λ k r h. d .wholly k (low k r) (is-due (withClock b t) k r h);
       beginsNone = λ k z. ⊎-elim
           (λ (l : k < 16). rw (d .left k l (none-due (withClock b t) k z)) z)
           (λ (l : 16 ≤ k). rw (d .ahead k l) z)

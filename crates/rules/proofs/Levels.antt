@@ -5,9 +5,9 @@ use Prim.Native.Nat.{ℕ, zero, suc, _+_, _-_, _*_, _≤_, _<_}
 use native.Mathlib.Nat.{mul-add}
 use native.Mathlib.Omega.{arith}
 use borrow.Author.Tests.{ltb-true, ltb-false, lt-ltb, le-ltb}
-use lib.Dec.{ltb, le→leb}
+use lib.Dec.{ltb, le→leb, lt→ltb}
 use lib.IntN.{ℤ, pos, negsuc, negℤ, subℕ, _+ℤ_, _-ℤ_, _*ℤ_}
-use lib.Signed.{_≤ℤ_}
+use lib.Signed.{_≤ℤ_, _<ℤ_}
 use Rattle.rules.specs.Records.{cents}
 
 -- the difference by which is larger
@@ -65,6 +65,16 @@ sub-le a c b h =
     (λ m. absurd (omega arith))
     (λ m. record { le = le→leb (a - b) (c - b) (omega arith) }))
 
+pub sub-less : (a c b : ℕ) → a < c → subℕ a b <ℤ subℕ c b
+sub-less a c b h =
+    sub-by (λ (z : ℤ). z <ℤ subℕ c b) a b
+    (λ k. sub-by (λ (z : ℤ). negsuc (b - suc a) <ℤ z) c b
+    (λ m. record { lt = lt→ltb (b - suc c) (b - suc a) (omega arith) })
+    (λ m. record { lt = tt }))
+    (λ k. sub-by (λ (z : ℤ). pos (a - b) <ℤ z) c b
+    (λ m. absurd (omega arith))
+    (λ m. record { lt = lt→ltb (a - b) (c - b) (omega arith) }))
+
 -- cents are a level less 10,000,000
 pub cents-is : (level : ℕ) → cents level ≡ subℕ level 10_000_000
 unfolding cents
@@ -72,6 +82,9 @@ cents-is level = refl
 
 pub cents-le : (x y : ℕ) → x ≤ y → cents x ≤ℤ cents y
 cents-le x y h = rw (cents-is x, cents-is y) (sub-le x y 10_000_000 h)
+
+pub cents-lt : (x y : ℕ) → x < y → cents x <ℤ cents y
+cents-lt x y h = rw (cents-is x, cents-is y) (sub-less x y 10_000_000 h)
 
 -- a price's level
 pub cents-price : (p : ℕ) → cents (10_000_000 + p) ≡ pos p

@@ -9,7 +9,6 @@ pub mod Turns
 pub mod Ends
 pub mod Firsts
 pub mod Bests
-pub mod BetterNets
 pub mod Finishes
 pub mod DayEnd
 pub mod Entering
@@ -40,6 +39,9 @@ pub mod InRange
 pub mod Nets
 pub mod Known
 pub mod NetsSaid
+pub mod BetterNets
+pub mod LegBooks
+pub mod SweepsSaid
 pub mod Barred
 pub mod Totals
 pub mod Sample
@@ -61,5 +63,7 @@ pub mod Definitions
 pub mod Nationals
 pub mod Sentences
 pub mod Causes
+pub mod SweepNets
+pub mod SweepLists
 pub mod Choices
 pub mod TurnLevels

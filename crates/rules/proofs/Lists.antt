@@ -68,6 +68,10 @@ went b x = go (eqb (refusal b (readOf (x .frame)) (x .space)) 0) refl
     go true t = went-accepted b x (readOf (x .frame)) refl (outcome-yes b x t) (eqb-true _ _ t) (λ n e. reads (x .frame) .number n e .0)
     go false t = refusedAs (refusal b (readOf (x .frame)) (x .space)) (eqb-false _ _ t) (outcome-no b x t)
 
+-- what two readings of one event are
+pub event-same : {e f : Event} → R.Event e ≡ R.Event f → e ≡ f
+event-same h = cc
+
 pub event-fits : (x : Sent) (e : Event) → readOf (x .frame) ≡ R.Event e → FitEvent e
 event-fits x e p = subst FitReading p (reading-fit (x .frame))
 
@@ -174,6 +178,11 @@ run-law l b (x ∷ xs) v g f =
     let h : Books l b (added l (rowIn b x)) (outcome b x .moved) = outcome-books l b x v (f .0) g in
     rw (tally-append (come l) (outcome b x .moved .records) (recordsOf (next b x) xs), tally-append (gone l) (outcome b x .moved .records) (recordsOf (next b x) xs))
     (omega (arith, h .sums, run-law l (next b x) xs (next-valid b x v) (h .goesOn) (f .1)))
+
+pub run-good : (l : Law) (b : State) (xs : List Sent) → Valid b → Good l b → Fitting l b xs → Good l (after b xs)
+unfolding after
+run-good l b [] v g f = g
+run-good l b (x ∷ xs) v g f = run-good l (next b x) xs (next-valid b x v) (outcome-books l b x v (f .0) g .goesOn) (f .1)
 
 -- the lines are those of the records
 map-append : {A B : Type 0} (f : A → B) (xs ys : List A) → map f (xs ++ ys) ≡ map f xs ++ map f ys

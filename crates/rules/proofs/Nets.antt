@@ -7,12 +7,12 @@ use mathlib.Core.Logic.{⊎-elim}
 use Prim.Native.Nat.{ℕ, zero, suc, _+_, _-_, _*_, _≤_, _<_}
 use native.Mathlib.Nat.{mul-le-mul}
 use native.Mathlib.Omega.{arith}
-use borrow.Author.Tests.{eqb-true, eqb-false, eq-eqb, ne-eqb, lt-ltb, ltb-true}
+use borrow.Author.Tests.{eqb-true, eqb-false, eq-eqb, ne-eqb, lt-ltb, le-ltb, ltb-true, ltb-false}
 use lib.Dec.{eqb}
 use lib.IntN.{ℤ, pos, negℤ, subℕ, _+ℤ_}
 use Rattle.base.specs.Pick.{pick, pick-by, pick-all, pick-true, pick-false, pick-yes}
 use Rattle.base.specs.All.{all-at}
-use Rattle.base.specs.Walks.{sumN, slot, table, table-slot, all-every, all-holds, sum-same, sum-zero, sum-one, sum-le, lt-or-le}
+use Rattle.base.specs.Walks.{sumN, slot, table, table-slot, allN, all-every, all-holds, all-stop, clash, sum-same, sum-zero, sum-one, sum-le, lt-or-le}
 use Rattle.events.specs.declared.Strategy.{Strategy as GivenStrategy}
 use Rattle.rules.specs.declared.Leg.{Leg}
 use Rattle.rules.specs.declared.Strategy.{Strategy}
@@ -23,6 +23,7 @@ use Rattle.rules.specs.Strategies.{divisor, dividedAt, defined, sameLeg,
 use Rattle.rules.specs.Given.{legsGiven}
 use Rattle.rules.specs.Records.{cents}
 use Rattle.rules.specs.Valid.{FitLeg, FitStrategy}
+use Rattle.rules.specs.Sentences.{Any}
 use Rattle.rules.specs.Totals.{legTerm, netOver}
 use Rattle.rules.proofs.Entering.{fit-no-leg}
 use Rattle.rules.proofs.Strategies.{Definition, defined-fit}
@@ -35,7 +36,7 @@ abbrev pub pricesBy : (Leg → ℕ) → Strategy → List ℕ
 pricesBy price s = table (λ (i : ℕ). price (legAt s i)) 6
 
 -- TWO STRATEGIES WITH THE SAME LEGS have the same nets
-table-same : {A : Type 0} (f g : ℕ → A) (k : ℕ) → ((i : ℕ) → i < k → f i ≡ g i) → table f k ≡ table g k
+pub table-same : {A : Type 0} (f g : ℕ → A) (k : ℕ) → ((i : ℕ) → i < k → f i ≡ g i) → table f k ≡ table g k
 unfolding table
 table-same f g zero h = refl
 table-same f g (suc k) h = rw (table-same f g k (λ i l. h i (omega arith)), h k (omega arith))
@@ -132,6 +133,55 @@ side-same side on l e h k =
     (λ (s : side ≡ 1). ⊎-elim (λ (o : on ≡ 0). rw (s, o)) (λ (o : on ≡ 1). rw (s, o)) (side-is on k))
     (side-is side h))
 
+-- a test of all that fails, fails of one
+some-fails : (f : ℕ → Bool) (k : ℕ) → allN f k ≡ false → Any (λ (i : ℕ). f i ≡ false) k
+unfolding allN
+some-fails f zero e = absurd (clash refl e)
+some-fails f (suc k) e = by (f k) refl (allN f k) refl (some-fails f k)
+  where
+    by : (t : Bool) → f k ≡ t → (u : Bool) → allN f k ≡ u → (allN f k ≡ false → Any (λ (i : ℕ). f i ≡ false) k) → Any (λ (i : ℕ). f i ≡ false) (suc k)
+    by false p u q h = record { at = k; below = omega arith; has = p }
+    by true p false q h = let a = h q in record { at = a .at; below = omega (arith, a .below); has = a .has }
+    by true p true q h = absurd (clash (rw (q, p) refl) e)
+
+-- THE NET OF A STRATEGY at a price for each leg
+module _ (s : Strategy) (fit : FitStrategy s) (price : Leg → ℕ) (most : (i : ℕ) → price (legAt s i) ≤ 99_999) where
+  pub ps-at : (i : ℕ) → i < s .count → slot (pricesBy price s) i ≡ price (legAt s i)
+  ps-at i l = table-slot (λ (j : ℕ). price (legAt s j)) 0 6 i (omega (arith, fit .count))
+
+  -- a sum over its legs
+  pub weighed-at : (x : ℕ) → weighed x (s .legs) (pricesBy price s) (s .count) ≡ sumN (λ (i : ℕ). weight x (legAt s i) (price (legAt s i))) (s .count)
+  unfolding weighed
+  weighed-at x = sum-same (weightAt x (s .legs) (pricesBy price s)) (λ (i : ℕ). weight x (legAt s i) (price (legAt s i))) (s .count) (λ i l. ap (weight x (legAt s i)) (ps-at i l))
+
+  pub weighed-few : weighed 1 (s .legs) (pricesBy price s) (s .count) ≤ 7_199_928
+  weighed-few =
+      let few : (i : ℕ) → weight 1 (legAt s i) (price (legAt s i)) ≤ 1_199_988 = λ i. weight-few (legAt s i) (price (legAt s i)) (all-at noLeg fit-no-leg (fit .legs) i .ratio) (most i) in
+      omega (arith, weighed-at 1, sum-le (λ (i : ℕ). weight 1 (legAt s i) (price (legAt s i))) 1_199_988 few (s .count), fit .count)
+
+  -- it is known where each leg has a price, and then it is not 0
+  pub net-some : known (pricesBy price s) (s .count) ≡ true → 0 < netOf s (pricesBy price s)
+  unfolding netOf
+  net-some k =
+      let n : netOf s (pricesBy price s) ≡ 10_000_000 + weighed 0 (s .legs) (pricesBy price s) (s .count) - weighed 1 (s .legs) (pricesBy price s) (s .count) = pick-true _ _ _ k in
+      omega (arith, n, weighed-few)
+
+  -- so one that is 0 misses a price
+  pub missing-at : netOf s (pricesBy price s) ≡ 0 → Any (λ (i : ℕ). price (legAt s i) ≡ 0) (s .count)
+  unfolding known
+  missing-at z = by (known (pricesBy price s) (s .count)) refl
+    where
+      by : (t : Bool) → known (pricesBy price s) (s .count) ≡ t → Any (λ (i : ℕ). price (legAt s i) ≡ 0) (s .count)
+      by true k = absurd (omega (arith, z, net-some k))
+      by false k =
+          let a : Any (λ (i : ℕ). pricedAt (pricesBy price s) i ≡ false) (s .count) = some-fails (pricedAt (pricesBy price s)) (s .count) k in
+          let z : slot (pricesBy price s) (a .at) ≡ 0 = omega (arith, ltb-false 0 (slot (pricesBy price s) (a .at)) (a .has)) in
+          record { at = a .at; below = a .below; has = sym (ps-at (a .at) (a .below)) ∙ z }
+
+  pub missing-zero : Any (λ (i : ℕ). price (legAt s i) ≡ 0) (s .count) → netOf s (pricesBy price s) ≡ 0
+  unfolding netOf known
+  missing-zero a = pick-false _ _ _ (all-stop (pricedAt (pricesBy price s)) (a .at) (s .count) (a .below) (rw (ps-at (a .at) (a .below), a .has) (le-ltb 0 0 (omega arith))))
+
 -- THE STRATEGY THAT AN EVENT DEFINED, at a price for each leg, 0 where it is missing; `said` is that of the event's leg at a place
 module _ (e : GivenStrategy) (def : Definition (legsGiven e) (e .count)) where
   abbrev st : Strategy
@@ -150,23 +200,12 @@ module _ (e : GivenStrategy) (def : Definition (legsGiven e) (e .count)) where
     abbrev ps : List ℕ
     ps = pricesBy price st
 
-    ps-at : (i : ℕ) → i < st .count → slot ps i ≡ price (legAt st i)
-    ps-at i l = table-slot (λ (j : ℕ). price (legAt st j)) 0 6 i (omega (arith, fit .count))
-
-    -- a sum over the strategy's legs, at their prices
-    weighed-at : (x : ℕ) → weighed x (st .legs) ps (st .count) ≡ sumN (λ (i : ℕ). weight x (legAt st i) (price (legAt st i))) (st .count)
-    unfolding weighed
-    weighed-at x = sum-same (weightAt x (st .legs) ps) (λ (i : ℕ). weight x (legAt st i) (price (legAt st i))) (st .count) (λ i l. ap (weight x (legAt st i)) (ps-at i l))
-
+    -- a sum over the strategy's legs is one over the event's
     weighed-said : (x : ℕ) → weighed x (st .legs) ps (st .count) ≡ sumN (λ (i : ℕ). weight x (given i) (said i)) (e .count)
     weighed-said x =
-        weighed-at x
+        weighed-at st fit price most x
         ∙ legs-sum (legsGiven e) (e .count) def (λ (l : Leg). weight x l (price l))
         ∙ sum-same _ _ (e .count) (λ i l. ap (weight x (given i)) (is i l))
-
-    weighed-few : weighed 1 (st .legs) ps (st .count) ≤ 7_199_928
-    weighed-few =
-        omega (arith, weighed-at 1, sum-le (λ (i : ℕ). weight 1 (legAt st i) (price (legAt st i))) 1_199_988 (λ i. weight-few (legAt st i) (price (legAt st i)) (fit-leg i .ratio) (most i)) (st .count), fit .count)
 
     -- where no price is missing the net is known
     priced : ((i : ℕ) → i < e .count → 0 < said i) → known ps (st .count) ≡ true
@@ -179,7 +218,7 @@ module _ (e : GivenStrategy) (def : Definition (legsGiven e) (e .count)) where
         all-every (pricedAt ps) (st .count)
         (λ i l.
         let z : missing (legAt st i) ≡ 0 = omega (arith, none, sum-one (λ (j : ℕ). missing (legAt st j)) (st .count) i l) in
-        lt-ltb 0 (slot ps i) (rw (ps-at i l) (some (price (legAt st i)) z)))
+        lt-ltb 0 (slot ps i) (rw (ps-at st fit price most i l) (some (price (legAt st i)) z)))
       where
         some : (p : ℕ) → _≡_ {A = ℕ} (pick (eqb p 0) 1 0) 0 → 0 < p
         some p = pick-by (λ (x : ℕ). x ≡ 0 → 0 < p) (eqb p 0) (λ _ z. absurd (omega arith)) (λ n _. let m = eqb-false p 0 n in omega (arith, m))
@@ -194,9 +233,9 @@ module _ (e : GivenStrategy) (def : Definition (legsGiven e) (e .count)) where
     net-said h =
         let n : netOf st ps ≡ 10_000_000 + weighed 0 (st .legs) ps (st .count) - weighed 1 (st .legs) ps (st .count) = pick-true _ _ _ (priced h) in
         record {
-          known = omega (arith, n, weighed-few);
+          known = net-some st fit price most (priced h);
           net = cents-is (netOf st ps)
-              ∙ sub-same (netOf st ps) 10_000_000 (weighed 0 (st .legs) ps (st .count)) (weighed 1 (st .legs) ps (st .count)) (omega (arith, n, weighed-few))
+              ∙ sub-same (netOf st ps) 10_000_000 (weighed 0 (st .legs) ps (st .count)) (weighed 1 (st .legs) ps (st .count)) (omega (arith, n, weighed-few st fit price most))
               ∙ (let q : subℕ (weighed 0 (st .legs) ps (st .count)) (weighed 1 (st .legs) ps (st .count)) ≡ netOver e said (e .count) = rw (weighed-said 0, weighed-said 1) (sym (over-is e said (e .count))) in q);
         }
 
@@ -208,7 +247,7 @@ module _ (e : GivenStrategy) (def : Definition (legsGiven e) (e .count)) where
         (λ k.
         let missing : Leg → ℕ = λ (x : Leg). pick (eqb (price x) 0) 1 0 in
         let none : sumN (λ (j : ℕ). missing (legAt st j)) (st .count) ≡ 0 =
-        sum-zero _ (st .count) (λ j m. pick-false (eqb (price (legAt st j)) 0) 1 0 (ne-eqb (price (legAt st j)) 0 (λ (y : price (legAt st j) ≡ 0). omega (arith, y, ps-at j m, ltb-true 0 (slot ps j) (all-holds (pricedAt ps) (st .count) j k m))))) in
+        sum-zero _ (st .count) (λ j m. pick-false (eqb (price (legAt st j)) 0) 1 0 (ne-eqb (price (legAt st j)) 0 (λ (y : price (legAt st j) ≡ 0). omega (arith, y, ps-at st fit price most j m, ltb-true 0 (slot ps j) (all-holds (pricedAt ps) (st .count) j k m))))) in
         let one : missing (given i) ≡ 1 = pick-true (eqb (price (given i)) 0) 1 0 (eq-eqb (price (given i)) 0 (is i l ∙ z)) in
         absurd (omega (arith, none, legs-sum (legsGiven e) (e .count) def missing, one, sum-one (λ (j : ℕ). missing (given j)) (e .count) i l)))
         (λ _. refl)

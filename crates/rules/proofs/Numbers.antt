@@ -37,9 +37,9 @@ use Rattle.rules.proofs.Shrinks.{SameStrategy, Shrinks, same-strategy, 
 use Rattle.rules.proofs.Tables.{behind-length, tally}
 use Rattle.rules.proofs.Control.{shrinks-kept, onOrder-kept, onLegOrder-kept, cancelNumber-kept, onClock-kept, shut-kept, reopen-kept}
 use Rattle.rules.proofs.Validity.{clear, known}
-use Rattle.rules.proofs.Laws.{Law, ofUnits, ofContracts, noEntries, noOrders, ofRatio, ofLimit, ofParty, ofPrice, size, come, gone, when-no}
+use Rattle.rules.proofs.Laws.{Law, ofUnits, ofContracts, noEntries, noOrders, ofRatio, ofLimit, ofParty, ofPrice, size, come, gone, Good, when-no}
 use Rattle.rules.proofs.Steps.{Row, entryRow, legRow, noRow, added, FitsRow, rowOf, sweep-units, size-fresh, good-fresh}
-use Rattle.rules.proofs.Lists.{done, Went, refusedAs, acceptedAs, went, rowIn, next, row-refused, row-accepted, refused-moved, accepted-moved, termsOf, brought-row, next-valid, recordsOf, enteredOf, Fitting, run-law, entered-append, fitting-append, after-valid}
+use Rattle.rules.proofs.Lists.{done, Went, refusedAs, acceptedAs, went, rowIn, next, row-refused, row-accepted, refused-moved, accepted-moved, termsOf, brought-row, next-valid, recordsOf, enteredOf, Fitting, run-law, run-good, entered-append, fitting-append, after-valid}
 
 -- WITHIN A DAY
 -- the last number given, after what entered
@@ -229,6 +229,12 @@ one-day-split b (x ∷ (z ∷ zs)) y ys d =
     let r = one-day-split (next b x) (z ∷ zs) y ys (d .1) in
     ((d .0, r .0), r .1)
 
+pub open-day : (b : State) (xs : List Sent) → Open b xs → OneDay (run b xs)
+unfolding run
+open-day b [] o = tt
+open-day b (x ∷ []) o = tt
+open-day b (x ∷ (y ∷ ys)) o = (o .0, open-day (next b x) (y ∷ ys) (o .1))
+
 pub after-rises : (b : State) (xs : List Sent) → Valid b → Open b xs → b .last ≤ after b xs .last
 unfolding after
 after-rises b [] v d = omega arith
@@ -365,31 +371,37 @@ unfolding run
 apart-behind n c x [] v d e = tt
 apart-behind n c x (y ∷ ys) v d e = apart-after n (next c x) (y ∷ ys) (next-valid c x v) (d .1) (omega (arith, outcome-goes c x v (d .0) .last))
 
-law-at : {n : ℕ} {l : Law} → About n l → (timer : ℕ) (ys : List Sent) (x : Sent) (zs : List Sent) → Valid (fresh timer) → OneDay (run (fresh timer) (ys ++ (x ∷ zs))) →
-    lastBy (after (fresh timer) ys .last) (rowIn (after (fresh timer) ys) x) ≡ n → after (fresh timer) ys .last < n → FitsRow l (after (fresh timer) ys) (rowIn (after (fresh timer) ys) x) →
-    added l (rowIn (after (fresh timer) ys) x) + tally (come l) (recordsOf (fresh timer) (ys ++ (x ∷ zs)))
-    ≡ tally (gone l) (recordsOf (fresh timer) (ys ++ (x ∷ zs))) + size l (after (fresh timer) (ys ++ (x ∷ zs)))
-unfolding enteredOf
-law-at {n} {l} a timer ys x zs v day e h f =
-    let b : State = fresh timer in
-    let c : State = after b ys in
-    let d = one-day-split b ys x zs day in
-    let p : Quiet l b ys = quiet a b ys (apart-before n b ys v (d .0) h) in
-    let q : Quiet l (next c x) zs = quiet a (next c x) zs (apart-behind n c x zs (after-valid b ys v) (d .1) e) in
-    omega (
-      arith,
-      run-law l b (ys ++ (x ∷ zs)) v (good-fresh l timer) (fitting-append l b ys (x ∷ zs) (p .fitting) (f, q .fitting)),
-      entered-append l b ys (x ∷ zs),
-      p .none,
-      q .none,
-      size-fresh l timer,
-    )
+-- the events before the one that gave a number, and those behind it, have nothing to do with its laws
+record Its (l : Law) (timer : ℕ) (ys : List Sent) (x : Sent) (zs : List Sent) : Type 0 where
+  before : enteredOf l (fresh timer) ys ≡ 0
+  behind : enteredOf l (next (after (fresh timer) ys) x) zs ≡ 0
+  fitting : Fitting l (fresh timer) (ys ++ (x ∷ zs))
+
+module _ {n : ℕ} {l : Law} (a : About n l) (timer : ℕ) (ys : List Sent) (x : Sent) (zs : List Sent) (v : Valid (fresh timer)) (day : OneDay (run (fresh timer) (ys ++ (x ∷ zs))))
+    (e : lastBy (after (fresh timer) ys .last) (rowIn (after (fresh timer) ys) x) ≡ n) (h : after (fresh timer) ys .last < n) (f : FitsRow l (after (fresh timer) ys) (rowIn (after (fresh timer) ys) x)) where
+  its : Its l timer ys x zs
+  its =
+      let b : State = fresh timer in
+      let c : State = after b ys in
+      let d = one-day-split b ys x zs day in
+      let p : Quiet l b ys = quiet a b ys (apart-before n b ys v (d .0) h) in
+      let q : Quiet l (next c x) zs = quiet a (next c x) zs (apart-behind n c x zs (after-valid b ys v) (d .1) e) in
+      record { before = p .none; behind = q .none; fitting = fitting-append l b ys (x ∷ zs) (p .fitting) (f, q .fitting) }
+
+  law-at : added l (rowIn (after (fresh timer) ys) x) + tally (come l) (recordsOf (fresh timer) (ys ++ (x ∷ zs)))
+      ≡ tally (gone l) (recordsOf (fresh timer) (ys ++ (x ∷ zs))) + size l (after (fresh timer) (ys ++ (x ∷ zs)))
+  unfolding enteredOf
+  law-at = omega (arith, run-law l (fresh timer) (ys ++ (x ∷ zs)) v (good-fresh l timer) (its .fitting), entered-append l (fresh timer) ys (x ∷ zs), its .before, its .behind, size-fresh l timer)
+
+  good-at : Good l (after (fresh timer) (ys ++ (x ∷ zs)))
+  good-at = run-good l (fresh timer) (ys ++ (x ∷ zs)) v (good-fresh l timer) (its .fitting)
 
 -- what a list brought in, as a row of the state before it
 pub record Entered (timer : ℕ) (xs : List Sent) (r : Row) : Type 0 where
   pub before : State
   pub law : {n : ℕ} {l : Law} → About n l → lastBy (before .last) r ≡ n → before .last < n → FitsRow l before r →
       added l r + tally (come l) (recordsOf (fresh timer) xs) ≡ tally (gone l) (recordsOf (fresh timer) xs) + size l (after (fresh timer) xs)
+  pub good : {n : ℕ} {l : Law} → About n l → lastBy (before .last) r ≡ n → before .last < n → FitsRow l before r → Good l (after (fresh timer) xs)
   pub numbered : Numbered before r
   pub valid : Valid before
   pub prefix : List Sent
@@ -404,6 +416,8 @@ entered timer xs v day {w} f = record {
   law = λ {n} {l} a e h k. subst (λ (ys : List Sent).
       added l (rowIn (after (fresh timer) (f .before)) (f .event)) + tally (come l) (recordsOf (fresh timer) ys) ≡ tally (gone l) (recordsOf (fresh timer) ys) + size l (after (fresh timer) ys))
       (sym (f .is)) (law-at a timer (f .before) (f .event) (f .behind) v (subst (λ (ys : List Sent). OneDay (run (fresh timer) ys)) (f .is) day) e h k);
+  good = λ {n} {l} a e h k. subst (λ (ys : List Sent). Good l (after (fresh timer) ys)) (sym (f .is))
+      (good-at a timer (f .before) (f .event) (f .behind) v (subst (λ (ys : List Sent). OneDay (run (fresh timer) ys)) (f .is) day) e h k);
   numbered = outcome-numbered (after (fresh timer) (f .before)) (f .event);
   valid = after-valid (fresh timer) (f .before) v;
   prefix = f .before;

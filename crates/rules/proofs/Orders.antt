@@ -94,7 +94,7 @@ rest-other : (b : State) (a : ℕ) → (entryAt b a .life ≡ 0 → ⊥) → res
 unfolding restOrCancel
 rest-other b a h = pick-false _ _ _ (ne-eqb _ _ h)
 
-rest-alone : (b : State) (a j : ℕ) → (j ≡ a → ⊥) → entryAt (restOrCancel a b .state) j ≡ entryAt b j
+pub rest-alone : (b : State) (a j : ℕ) → (j ≡ a → ⊥) → entryAt (restOrCancel a b .state) j ≡ entryAt b j
 unfolding restOrCancel
 rest-alone b a j n = pick-all (λ (m : Moved). entryAt (m .state) j ≡ entryAt b j) _ refl (cancel-other b a j n)
 

@@ -98,7 +98,7 @@ causes-in-order : (b : State) (e : Event) → InOrder 3 (causes b e)
 unfolding causes rank position pick
 causes-in-order b (E.Strategy e) = (omega arith, omega arith, (omega arith, omega arith, tt))
 causes-in-order b (E.Order e) = (omega arith, omega arith, (omega arith, omega arith, (omega arith, omega arith, (omega arith, omega arith, tt))))
-causes-in-order b (E.Sweep e) = (omega arith, omega arith, (omega arith, omega arith, (omega arith, omega arith, (omega arith, omega arith, (omega arith, omega arith, tt)))))
+causes-in-order b (E.Sweep e) = (omega arith, omega arith, (omega arith, omega arith, (omega arith, omega arith, (omega arith, omega arith, (omega arith, omega arith, (omega arith, omega arith, tt))))))
 causes-in-order b (E.LegOrder e) = (omega arith, omega arith, (omega arith, omega arith, (omega arith, omega arith, tt)))
 causes-in-order b (E.Cancel e) = (omega arith, omega arith, (omega arith, omega arith, tt))
 causes-in-order b (E.Series e) = tt
@@ -182,10 +182,13 @@ answer-read b r space h =
     pick-by (λ (o : Outcome). o .answer ≡ refusal b r space) (eqb (refusal b r space) 0)
     (λ t. performed b r space h (eqb-true _ _ t) ∙ sym (eqb-true _ _ t)) (λ _. refl)
 
+pub answer-is : (b : State) (frame : List ℕ) (space : ℕ) → step b frame space .answer ≡ refusal b (readOf frame) space
+unfolding step
+answer-is b frame space = answer-read b (readOf frame) space (reads frame)
+
 -- REFUSALS ARE EXACT: for every state, every frame of any bytes and every length of the record space
 pub refusals-exact : (b : State) (frame : List ℕ) (space : ℕ) → FirstRefusal (tableOf b (readOf frame) space) (step b frame space .answer)
-unfolding step
-refusals-exact b frame space = rw (answer-read b (readOf frame) space (reads frame)) (table-exact b (readOf frame) space (reads frame))
+refusals-exact b frame space = rw (answer-is b frame space) (table-exact b (readOf frame) space (reads frame))
 
 -- the number that applies and before which none that applies is checked is the answer
 exact-only : (cs : List Cause) (n m : ℕ) → InOrder 0 cs → FirstRefusal cs n → (m ≡ 0 → ⊥) → applies cs m ≡ true → ((k : ℕ) → rank k < rank m → applies cs k ≡ false) → n ≡ m

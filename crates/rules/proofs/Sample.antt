@@ -104,3 +104,40 @@ unfolding
     Examples.performed Records.lineOf Records.cents Totals.outcome Totals.run Totals.linesOf Totals.total Totals.wholeFilled Totals.cancelled
     Totals.quoteAfter Totals.rangeAfter Totals.quoted Totals.rangeSaid Totals.legTerm Totals.netOver Totals.priceSaid
 sample-bounded = record { net = refl; range = refl; filled = refl; stopped = refl; cancelled = refl }
+
+-- 2026-03: the same strategy, markets 200/205 and 100/103, so nets 97 bid and 105 offer. A customer's buy at 104 starts an auction (number 5). Sweeps
+-- sell at 105 and twice at 104, and buy at 97 and at 98; then an offer of 204 in series 0 takes the offer net to 104: one sweep at 104 is sent again
+-- with 2 units, the other is withdrawn; a clock that ends nothing, and one that ends the auction
+abbrev pub sweeping : List Totals.Sent
+sweeping =
+    sent (6 ∷ (0 ∷ (6 ∷ (0 ∷ (0 ∷ (1 ∷ []))))))
+    ∷ (sent (6 ∷ (0 ∷ (6 ∷ (0 ∷ (1 ∷ (1 ∷ []))))))
+    ∷ (sent (11 ∷ (0 ∷ (1 ∷ (0 ∷ (2 ∷ (0 ∷ (0 ∷ (1 ∷ (1 ∷ (1 ∷ (1 ∷ [])))))))))))
+    ∷ (sent (14 ∷ (0 ∷ (4 ∷ (0 ∷ (7 ∷ (0 ∷ (0 ∷ (0 ∷ (5 ∷ (0 ∷ (200 ∷ (0 ∷ (0 ∷ (0 ∷ []))))))))))))))
+    ∷ (sent (14 ∷ (0 ∷ (4 ∷ (0 ∷ (7 ∷ (0 ∷ (0 ∷ (1 ∷ (5 ∷ (0 ∷ (205 ∷ (0 ∷ (0 ∷ (0 ∷ []))))))))))))))
+    ∷ (sent (14 ∷ (0 ∷ (4 ∷ (0 ∷ (7 ∷ (0 ∷ (1 ∷ (0 ∷ (5 ∷ (0 ∷ (100 ∷ (0 ∷ (0 ∷ (0 ∷ []))))))))))))))
+    ∷ (sent (14 ∷ (0 ∷ (4 ∷ (0 ∷ (7 ∷ (0 ∷ (1 ∷ (1 ∷ (5 ∷ (0 ∷ (103 ∷ (0 ∷ (0 ∷ (0 ∷ []))))))))))))))
+    ∷ (sent (16 ∷ (0 ∷ (2 ∷ (0 ∷ (9 ∷ (0 ∷ (0 ∷ (0 ∷ (1 ∷ (0 ∷ (2 ∷ (0 ∷ (104 ∷ (0 ∷ (0 ∷ (0 ∷ []))))))))))))))))
+    ∷ (sent (14 ∷ (0 ∷ (3 ∷ (0 ∷ (3 ∷ (0 ∷ (0 ∷ (1 ∷ (1 ∷ (0 ∷ (105 ∷ (0 ∷ (0 ∷ (0 ∷ []))))))))))))))
+    ∷ (sent (14 ∷ (0 ∷ (3 ∷ (0 ∷ (3 ∷ (0 ∷ (0 ∷ (1 ∷ (1 ∷ (0 ∷ (104 ∷ (0 ∷ (0 ∷ (0 ∷ []))))))))))))))
+    ∷ (sent (14 ∷ (0 ∷ (3 ∷ (0 ∷ (5 ∷ (0 ∷ (0 ∷ (1 ∷ (1 ∷ (0 ∷ (104 ∷ (0 ∷ (0 ∷ (0 ∷ []))))))))))))))
+    ∷ (sent (14 ∷ (0 ∷ (3 ∷ (0 ∷ (4 ∷ (0 ∷ (0 ∷ (0 ∷ (1 ∷ (0 ∷ (97 ∷ (0 ∷ (0 ∷ (0 ∷ []))))))))))))))
+    ∷ (sent (14 ∷ (0 ∷ (3 ∷ (0 ∷ (4 ∷ (0 ∷ (0 ∷ (0 ∷ (1 ∷ (0 ∷ (98 ∷ (0 ∷ (0 ∷ (0 ∷ []))))))))))))))
+    ∷ (sent (14 ∷ (0 ∷ (4 ∷ (0 ∷ (7 ∷ (0 ∷ (0 ∷ (1 ∷ (1 ∷ (0 ∷ (204 ∷ (0 ∷ (0 ∷ (0 ∷ []))))))))))))))
+    ∷ (sent (14 ∷ (0 ∷ (3 ∷ (0 ∷ (3 ∷ (0 ∷ (0 ∷ (1 ∷ (2 ∷ (0 ∷ (104 ∷ (0 ∷ (0 ∷ (0 ∷ []))))))))))))))
+    ∷ (sent (14 ∷ (0 ∷ (3 ∷ (0 ∷ (5 ∷ (0 ∷ (0 ∷ (1 ∷ (0 ∷ (0 ∷ (104 ∷ (0 ∷ (0 ∷ (0 ∷ []))))))))))))))
+    ∷ (sent (8 ∷ (0 ∷ (7 ∷ (0 ∷ (1 ∷ (0 ∷ (0 ∷ (0 ∷ []))))))))
+    ∷ (sent (8 ∷ (0 ∷ (7 ∷ (0 ∷ (136 ∷ (19 ∷ (0 ∷ (0 ∷ []))))))))
+    ∷ [])))))))))))))))))
+
+-- refused 15 at a net, accepted a cent better; refused 15 where the net has come to the limit, and the sweep of before stays and is filled at the end,
+-- though it would better nothing now
+pub record Swept : Type 0 where
+  pub answers : map (λ (x : Totals.Logged). x .answer) (Totals.run State.first sweeping) ≡ 0 ∷ (0 ∷ (0 ∷ (0 ∷ (0 ∷ (0 ∷ (0 ∷ (0 ∷ (15 ∷ (0 ∷ (0 ∷ (15 ∷ (0 ∷ (0 ∷ (15 ∷ (0 ∷ (0 ∷ (0 ∷ [])))))))))))))))))
+  pub values : map (λ (x : Totals.Logged). x .value) (Totals.run State.first sweeping) ≡ 0 ∷ (0 ∷ (0 ∷ (1 ∷ (2 ∷ (3 ∷ (4 ∷ (5 ∷ (0 ∷ (6 ∷ (7 ∷ (0 ∷ (8 ∷ (9 ∷ (0 ∷ (0 ∷ (0 ∷ (0 ∷ [])))))))))))))))))
+  pub filled : Totals.wholeFilled 6 (Totals.linesOf (Totals.run State.first sweeping)) ≡ 1
+  pub withdrawn : Totals.cancelled 7 (Totals.linesOf (Totals.run State.first sweeping)) ≡ 1
+
+pub sample-swept : Swept
+unfolding Examples.performed Records.lineOf Records.cents Totals.outcome Totals.run Totals.linesOf Totals.total Totals.wholeFilled Totals.cancelled
+sample-swept = record { answers = refl; values = refl; filled = refl; withdrawn = refl }

@@ -109,6 +109,17 @@ tables-shrink b es os ss f g h l m n = record {
   range = refl;
 }
 
+-- an entry that has lost nothing is as it was
+pub entry-same : (e f : Entry) → SameEntry e f → e .units ≤ f .units → f ≡ e
+entry-same e f s h =
+    let u : f .units ≡ e .units = omega (arith, s .units) in
+    rows (s .number) (s .member) (s .strategy) (s .side) (s .class) (s .life) u (s .level)
+  where
+    rows : {n m k d c l u v n₁ m₁ k₁ d₁ c₁ l₁ u₁ v₁ : ℕ} → n ≡ n₁ → m ≡ m₁ → k ≡ k₁ → d ≡ d₁ → c ≡ c₁ → l ≡ l₁ → u ≡ u₁ → v ≡ v₁ →
+        _≡_ {A = Entry} (record { number = n; member = m; strategy = k; side = d; class = c; life = l; units = u; level = v })
+        (record { number = n₁; member = m₁; strategy = k₁; side = d₁; class = c₁; life = l₁; units = u₁; level = v₁ })
+    rows a b c d e f g h = rw (a, b, c, d, e, f, g, h)
+
 pub shrinks-refl : (b : State) → Shrinks b b
 unfolding withEntries withOrders withStrategies
 shrinks-refl b = tables-shrink b (b .entries) (b .orders) (b .strategies) (λ i. same-entry _) (λ i. same-order _) (λ k. same-strategy _) refl refl refl

@@ -2,15 +2,15 @@
 use mathlib.Core.Path.{_≡_, refl, sym, _∙_, ap, subst}
 use mathlib.Core.Bool.{Bool, true, false, not}
 use mathlib.Core.Logic.{⊎-elim}
-use mathlib.Core.List.{List, [], _∷_, _++_, map, List·Memᴰ, List·Memᴰ·head, List·Memᴰ·tail}
+use mathlib.Core.List.{List, [], _∷_, _++_, map, List·Memᴰ}
 use Prim.Native.Nat.{ℕ, _+_, _*_, _≤_, _<_}
 use native.Mathlib.Omega.{arith}
-use borrow.Author.Tests.{eqb-true, eqb-false, eq-eqb, ne-eqb, leb-true}
+use borrow.Author.Tests.{eqb-true, eq-eqb, ne-eqb, leb-true}
 use lib.Dec.{eqb}
 use lib.Signed.{_≤ℤ_}
-use Rattle.base.specs.Pick.{pick, both, pick-by, pick-yes, pick-true, pick-false}
-use Rattle.base.specs.Walks.{clash}
+use Rattle.base.specs.Pick.{pick, both, pick-yes, pick-true, pick-false}
 use Rattle.events.specs.declared.Strategy.{Strategy as GivenStrategy}
+use Rattle.events.specs.declared.Sweep.{Sweep as GivenSweep}
 use Rattle.rules.specs.declared.Bounds.{Bounds}
 use Rattle.rules.specs.declared.State.{State}
 use Rattle.rules.specs.declared.Record.{Record}
@@ -25,22 +25,24 @@ use Rattle.rules.specs.Sentences.{InRange}
 use Rattle.rules.specs.Records.{kindNumber, cents, Line, lineOf}
 use Rattle.rules.specs.Lookups.{liveQuantity}
 use Rattle.rules.specs.Valid.{FitQuote, Valid}
-use Rattle.rules.specs.Totals.{Sent, Logged, outcome, after, logOf, run, linesOf, total, ifSame, wholeFilled, legFilled, cancelled, contractsOn, bought, sold, Terms, Brought, complex, leg, nothing, brought, Came, Unknown, mentions, ratioIn, Answered, Defined, NotWorse, isLeg, isLegNumber, isFill, cash, OneDay, Totals, quoted, rangeSaid, WithinRange}
-use Rattle.rules.proofs.Endings.{or-no}
+use Rattle.rules.specs.Totals.{Sent, Logged, outcome, after, run, linesOf, total, ifSame, wholeFilled, legFilled, cancelled, contractsOn, bought, sold, Terms, complex, leg, nothing, Came, Unknown, mentions, ratioIn, Answered, Defined, NotWorse, isLegNumber, isFill, cash, OneDay, Totals, quoted, rangeSaid, WithinRange, Bettered, SweepIn}
 use Rattle.rules.proofs.Validity.{valid-fresh}
 use Rattle.rules.proofs.Tables.{tally}
 use Rattle.rules.proofs.Laws.{Law, noEntries, noOrders, ofSeries, ofCash, ofRatio, ofLimit, ofParty, ofPrice, size, come, gone, ratioFor, onComplex, onLegOrder, onWhole, onTraded, when-yes}
 use Rattle.rules.proofs.Steps.{Row, entryRow, legRow, noRow, added, FitsRow}
-use Rattle.rules.proofs.Lists.{rowIn, next, termsOf, brought-row, recordsOf, enteredOf, lines-records, records-of, Divided, run-divided, after-valid}
-use Rattle.rules.proofs.Numbers.{About, a-units, a-contracts, a-noEntries, a-noOrders, a-ratio, a-limit, a-party, a-price, Open, one-day-split, Quiet, quiet, apart-unknown, law-quiet, Entered, CameEntry, CameOrder, came-entry, came-order}
+use Rattle.rules.proofs.Lists.{rowIn, next, recordsOf, enteredOf, lines-records, records-of, Divided, run-divided, after-valid}
+use Rattle.rules.proofs.Numbers.{About, a-units, a-contracts, a-noEntries, a-noOrders, a-ratio, a-limit, a-party, a-price, Open, one-day-split, open-day, Quiet, quiet, apart-unknown, law-quiet, Entered, CameEntry, CameOrder, came-entry, came-order}
 use Rattle.rules.proofs.Levels.{cents-le, cents-price, cents-plus, cents-less}
-use Rattle.rules.proofs.Paper.{tally-none, tally-mem, Written, written, met, units-lines, contracts-lines, mentions-lines, legs-lines, ratio-lines, bought-lines, sold-lines, fillKind, paid-lines}
+use Rattle.rules.proofs.Paper.{tally-none, tally-mem, Written, written, met, units-lines, mentions-lines, legs-lines, ratio-lines, bought-lines, sold-lines, fillKind, paid-lines}
 use Rattle.rules.proofs.Origins.{lean-after, lean-fresh, HasLegs, settled-legs, settled-ratio, strategy-given}
 use Rattle.rules.proofs.InRange.{all-mem, event-in-range}
 use Rattle.rules.proofs.Known.{quotesSaid, bounds-known, quotes-most}
 use Rattle.rules.proofs.NetsSaid.{net-said}
 use Rattle.rules.proofs.Nationals.{bound-sentence}
 use Rattle.rules.proofs.Strategies.{Definition}
+use Rattle.rules.proofs.LegBooks as LegBooks
+use Rattle.rules.proofs.LegBooks.{LegCame, leg-came, quiet-legs}
+use Rattle.rules.proofs.SweepsSaid.{Arrived, arrived, bettered-said}
 
 -- laws that no entry has to do with
 quiet-plain : (l : Law) → ((b : State) (r : Row) → (added l r ≡ 0) × FitsRow l b r) → (b : State) (xs : List Sent) → Quiet l b xs
@@ -60,43 +62,6 @@ plain-cash : (b : State) (r : Row) → (added ofCash r ≡ 0) × FitsRow ofCash 
 plain-cash b (entryRow e) = (refl, tt)
 plain-cash b (legRow o) = (refl, tt)
 plain-cash b noRow = (refl, tt)
-
--- a number of which no leg order came
-no-leg : (n : ℕ) (b : State) (r : Row) → isLeg n (termsOf r) ≡ false → (added (noOrders n) r ≡ 0) × FitsRow (noOrders n) b r
-no-leg n b (entryRow e) h = (refl, tt)
-no-leg n b (legRow o) h = (refl, eqb-false (o .number) n h)
-no-leg n b noRow h = (refl, tt)
-
-quiet-legs : (n : ℕ) (b : State) (xs : List Sent) → isLegNumber (run b xs) n ≡ false → Quiet (noOrders n) b xs
-unfolding enteredOf run isLegNumber
-quiet-legs n b [] h = record { none = refl; fitting = tt }
-quiet-legs n b (x ∷ xs) h =
-    let p = or-no (isLeg n (brought (logOf x (outcome b x)))) h in
-    let r = no-leg n b (rowIn b x) (ap (isLeg n) (sym (brought-row b x)) ∙ p .0) in
-    let q : Quiet (noOrders n) (next b x) xs = quiet-legs n (next b x) xs (p .1) in
-    record { none = omega (arith, r .0, q .none); fitting = (r .1, q .fitting) }
-
--- a number of which one came
-record LegCame (n : ℕ) (log : List Logged) : Type 0 where
-  pub terms : Terms
-  pub number : terms .number ≡ n
-  pub came : Came (leg terms) log
-
-leg-is : (n : ℕ) (w : Brought) (log : List Logged) (x : Logged) → brought x ≡ w → isLeg n w ≡ true → LegCame n (x ∷ log)
-leg-is n (complex t k) log x e h = absurd (let z : _≡_ {A = ℕ} 0 1 = cc in omega arith)
-leg-is n (leg t) log x e h = record { terms = t; number = eqb-true (t .number) n h; came = List·Memᴰ·head (sym e) }
-leg-is n nothing log x e h = absurd (let z : _≡_ {A = ℕ} 0 1 = cc in omega arith)
-
-leg-came : (n : ℕ) (log : List Logged) → isLegNumber log n ≡ true → LegCame n log
-unfolding isLegNumber
-leg-came n [] = λ h. absurd (clash h refl)
-leg-came n (x ∷ xs) =
-    pick-by (λ (t : Bool). t ≡ true → LegCame n (x ∷ xs)) (isLeg n (brought x))
-    (λ t h. leg-is n (brought x) xs x refl t)
-    (λ t h. later (leg-came n xs h))
-  where
-    later : LegCame n xs → LegCame n (x ∷ xs)
-    later c = record { terms = c .terms; number = c .number; came = List·Memᴰ·tail (c .came) }
 
 -- what kind of a record a line is
 whole-line : (k : Kind) → kindNumber k ≡ 1 → k ≡ WholeFill
@@ -283,13 +248,10 @@ module _ (timer : ℕ) (low : 1 ≤ timer) (high : timer ≤ 5000) (xs : List Se
     order-law a f = o .entered .law a (o .number) (omega (arith, o .number, o .entered .numbered)) f
 
     no-entries : tally (come (noEntries (w .number))) rs ≡ 0
-    no-entries = omega (arith, order-law (a-noEntries) tt, tally-none rs)
+    no-entries = rw (o .number) at (LegBooks.no-entries timer xs (o .order) (o .entered))
 
     contracts-of : w .quantity ≡ legFilled (w .number) (linesOf log) + cancelled (w .number) (linesOf log) + liveQuantity end (w .number)
-    unfolding liveQuantity
-    contracts-of =
-        rw lines
-        (omega (arith, order-law a-contracts tt, when-yes (o .order .number) (w .number) (o .order .contracts) (o .number), o .contracts, order-law a-units tt, tally-none rs, contracts-lines (w .number) rs no-entries))
+    contracts-of = rw (o .number, o .contracts) at (LegBooks.contracts-live timer xs (o .order) (o .entered))
 
     prices : tally (come (ofPrice (w .number) (o .order .series) (o .order .side) (o .order .price))) rs ≡ 0
     prices = omega (arith, order-law (a-price (o .order .series) (o .order .side) (o .order .price)) (λ z. (refl, refl, refl)), tally-none rs)
@@ -319,6 +281,19 @@ module _ (timer : ℕ) (low : 1 ≤ timer) (high : timer ≤ 5000) (xs : List Se
         let z : onComplex (x .of .kind) (ifSame (x .of .number) (w .number) 1) ≡ 0 = tally-mem (come (noEntries (w .number))) (x .of) rs (x .there) no-entries in
         let y : ifSame (x .of .number) (w .number) 1 ≡ 0 = rw (whole-line (x .of .kind) k) at z in
         omega (arith, y, when-yes (x .of .number) (w .number) 1 m)
+
+  -- a sweep that came bettered the net of its side
+  sweeps-of : (before : List Logged) (x : Logged) (behind : List Logged) → log ≡ before ++ (x ∷ behind) → (s : GivenSweep) → SweepIn x s → (e : GivenStrategy) → Answered e (s .strategy) log → Bettered before e s
+  sweeps-of before x behind is s i e a =
+      let d : Divided (fresh timer) xs before x = run-divided (fresh timer) xs before x behind is in
+      let b : State = after (fresh timer) (d .prefix) in
+      let t : Arrived b s = arrived b (after-valid (fresh timer) (d .prefix) v) (d .event) s (ap (λ (y : Logged). y .reading) (sym (d .here)) ∙ i .reading) (ap (λ (y : Logged). y .answer) (sym (d .here)) ∙ i .answer) (λ z. i .value (ap (λ (y : Logged). y .value) (d .here) ∙ z)) in
+      let o : Open (fresh timer) (d .prefix) × OneDay (run b (d .event ∷ d .suffix)) =
+      one-day-split (fresh timer) (d .prefix) (d .event) (d .suffix) (subst (λ (ys : List Sent). OneDay (run (fresh timer) ys)) (d .is) day) in
+      let h : HasLegs (strategyAt b (s .strategy)) e =
+      settled-legs (fresh timer) (d .prefix) (d .event ∷ d .suffix) e (s .strategy) v (o .0) (o .1) (subst (λ (ys : List Sent). Answered e (s .strategy) (run (fresh timer) ys)) (d .is) a) (t .defined) in
+      subst (λ (ls : List Logged). Bettered ls e s) (sym (d .earlier))
+      (bettered-said timer v (d .prefix) (open-day (fresh timer) (d .prefix) (o .0)) (s .strategy) e h (lean-after (fresh timer) (d .prefix) v (lean-fresh timer) (o .0) .padded (s .strategy) (t .defined)) s (t .betters))
 
   -- no other number
   other-law : (n : ℕ) → Unknown n log → {l : Law} → About n l → tally (come l) rs ≡ tally (gone l) rs + size l end
@@ -385,6 +360,7 @@ module _ (timer : ℕ) (low : 1 ≤ timer) (high : timer ≤ 5000) (xs : List Se
     whole = whole-of;
     paid = paid-of;
     range = range-of;
+    sweeps = sweeps-of;
   }
 
 -- THE TOTALS AFTER A LIST: for every list of events sent to a fresh book, of any bytes and with record spaces of any length, with nothing

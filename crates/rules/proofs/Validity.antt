@@ -32,7 +32,7 @@ use Rattle.rules.specs.Auctions.{liveIn, running, isNumber, starterSlot}
 use Rattle.rules.specs.Events.{live, oldSweep}
 use Rattle.rules.specs.National.{onNational, onRange}
 use Rattle.rules.specs.Given.{legsGiven, strategyGiven, orderGiven, sweepGiven, legOrderGiven, quoteGiven}
-use Rattle.rules.specs.Refusals.{Cause, _if_, firstCause, undefined, illFormed, notOpen, notFound, isStarter, unanswerable, replaces, removesNone, strategiesFull, isSweep, isOrderAt, isSweepAt, isLegOrderAt, ordersFull, sweepsFull, legOrdersFull, noRoom, numbersOut, sweepNumbersOut, causes, readCauses, tableOf, refusal}
+use Rattle.rules.specs.Refusals.{Cause, _if_, firstCause, undefined, illFormed, notOpen, notFound, isStarter, unanswerable, replaces, removesNone, strategiesFull, isSweep, isOrderAt, isSweepAt, isLegOrderAt, ordersFull, sweepsFull, legOrdersFull, noRoom, numbersOut, sweepNumbersOut, causes, readCauses, tableOf, refusal, bettersNothing}
 use Rattle.rules.specs.Step.{Outcome, accept, refused, perform, refuseOrPerform, step}
 use Rattle.rules.specs.Valid.{FitStrategy, FitQuote, Sound, Starter, HasStarter, Settled, Valid}
 use Rattle.rules.proofs.Strategies.{Definition, defined-fit, defined-two, defined-starter, defined-begun}
@@ -237,7 +237,8 @@ sweep-clear b e f c =
     let x = clear 4 (undefined b (e .strategy)) _ (omega arith) c in
     let y = clear 9 (not (running b (e .strategy))) _ (omega arith) (x .1) in
     let z = clear 10 (removesNone b e) _ (omega arith) (y .1) in
-    let w = clear 12 (noRoom b e) _ (omega arith) (z .1) in
+    let n = clear 15 (bettersNothing b e) _ (omega arith) (z .1) in
+    let w = clear 12 (noRoom b e) _ (omega arith) (n .1) in
     let u = clear 13 (sweepNumbersOut b e) _ (omega arith) (w .1) in
     (not-false _ (y .0), sweep-given b e f (x .0) (w .0) (u .0))
 

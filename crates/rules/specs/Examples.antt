@@ -87,7 +87,7 @@ unfolding
     Refusals.position Refusals.rank Refusals.firstCause Refusals.bidAboveOffer Refusals.undefined Refusals.illFormed Refusals.isOrderOf Refusals.isLegOrderOf
     Refusals.notFound Refusals.isStarter Refusals.unanswerable Refusals.removesNone Refusals.strategiesFull
     Refusals.isOrder Refusals.isSweep Refusals.isLegOrder Refusals.ordersFull Refusals.sweepsFull
-    Refusals.legOrdersFull Refusals.noRoom Refusals.numbersOut Refusals.sweepNumbersOut Refusals.causes
+    Refusals.legOrdersFull Refusals.noRoom Refusals.numbersOut Refusals.sweepNumbersOut Refusals.bettersNothing Refusals.causes
     Refusals.readCauses Refusals.tableOf Refusals.refusal
     Step.valueOf Step.accept Step.refused Step.perform Step.refuseOrPerform Step.step
     Records.kindNumber

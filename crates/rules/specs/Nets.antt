@@ -119,12 +119,14 @@ offerNet b k = legNet b 0 k
 abbrev pub bidNet : State → ℕ → ℕ
 bidNet b k = legNet b 1 k
 
--- "the .. leg net of its own side": that of an entry of a side, "bid net" for a buy, "offer net" for a sell
+-- "the .. leg net of its own side": that of an entry of a side, "bid net" for a buy, "offer net" for a sell. The net that starts an auction and the
+-- net that a sweep must better (2026-03) are this one.
 abbrev pub ownNet : State → ℕ → ℕ → ℕ
 ownNet b side k = legNet b (other side) k
 
--- whether a limit of a side is strictly better than that net ("buy above bid net, sell below offer net"); `unknown` is the answer where the net is
--- unknown. An order starts an auction if it is better than "the known leg net": there the answer is no.
+-- whether a limit of a side is strictly better than that net: "buy above bid net, sell below offer net"; 2026-03: "above the bid net when it buys,
+-- below the offer net when it sells". Both ask this one test, with two answers where the net is unknown: an order starts an auction by "the known
+-- leg net" alone, so there `unknown` is no; of a sweep "Where that net is unknown, every price betters it", so there it is yes.
 unfoldable pub betters : Bool → ℕ → ℕ → ℕ → Bool
 betters unknown side level net = pick (eqb net 0) unknown (better (other side) level net)
 

@@ -19,6 +19,7 @@ use Rattle.rules.specs.declared.LegOrder.{LegOrder}
 use Rattle.rules.specs.declared.State.{State}
 use Rattle.rules.specs.State.{entryAt, orderAt, strategyAt}
 use Rattle.rules.specs.Strategies.{twice, overThreefold, held}
+use Rattle.rules.specs.Nets.{ownNet, betters}
 use Rattle.rules.specs.Auctions.{running}
 use Rattle.rules.specs.Events.{live, liveOrder, oldSweep}
 use Rattle.rules.specs.Given.{legsGiven, strategyGiven, sweepGiven}
@@ -34,9 +35,9 @@ position [] n = 0
 position (x ∷ xs) n = pick (eqb x n) 0 (suc (position xs n))
 
 -- The order in which causes are checked. "The smallest number that applies is given"; 2026-01: "refusals of events [join] document 01's table,
--- .. each checked at the place named": 14 is "checked after 3".
+-- .. each checked at the place named": 14 is "checked after 3", 15 "checked between 10 and 11" (2026-03).
 abbrev pub checkOrder : List ℕ
-checkOrder = 1 ∷ (2 ∷ (3 ∷ (14 ∷ (4 ∷ (5 ∷ (6 ∷ (7 ∷ (8 ∷ (9 ∷ (10 ∷ (11 ∷ (12 ∷ (13 ∷ [])))))))))))))
+checkOrder = 1 ∷ (2 ∷ (3 ∷ (14 ∷ (4 ∷ (5 ∷ (6 ∷ (7 ∷ (8 ∷ (9 ∷ (10 ∷ (15 ∷ (11 ∷ (12 ∷ (13 ∷ []))))))))))))))
 
 -- the place of a refusal in it
 unfoldable pub rank : ℕ → ℕ
@@ -160,6 +161,11 @@ sweepNumbersOut b e = pick (eqb (e .units) 0) false (numbersOut b)
 unfoldable pub bidAboveOffer : GivenNational → Bool
 bidAboveOffer e = both (not (eqb (e .bid) 0)) (both (not (eqb (e .offer) 0)) (ltb (e .offer) (e .bid)))
 
+-- 15, 2026-03: "a sweep of 1 unit or more has to be above the bid net when it buys, below the offer net when it sells. Where that net is unknown,
+-- every price betters it." As it arrives, whether it replaces one or not: "A sweep that betters nothing is refused"
+unfoldable pub bettersNothing : State → GivenSweep → Bool
+bettersNothing b e = pick (eqb (e .units) 0) false (not (betters true (e .side) (e .level) (ownNet b (e .side) (e .strategy))))
+
 -- the causes that an event of each kind can have
 unfoldable pub causes : State → Event → List Cause
 causes b (E.Strategy e) = (5 if illFormed e) ∷ ((12 if strategiesFull b e) ∷ [])
@@ -168,7 +174,8 @@ causes b (E.Order e) =
     ∷ ((9 if unanswerable b (e .life) (e .strategy)) ∷ ((12 if ordersFull b) ∷ ((13 if numbersOut b) ∷ [])))
 causes b (E.Sweep e) =
     (4 if undefined b (e .strategy))
-    ∷ ((9 if not (running b (e .strategy))) ∷ ((10 if removesNone b e) ∷ ((12 if noRoom b e) ∷ ((13 if sweepNumbersOut b e) ∷ []))))
+    ∷ ((9 if not (running b (e .strategy)))
+    ∷ ((10 if removesNone b e) ∷ ((15 if bettersNothing b e) ∷ ((12 if noRoom b e) ∷ ((13 if sweepNumbersOut b e) ∷ [])))))
 causes b (E.LegOrder e) = (6 if notOpen b (e .series)) ∷ ((12 if legOrdersFull b) ∷ ((13 if numbersOut b) ∷ []))
 causes b (E.Cancel e) = (7 if notFound b (e .member) (e .number)) ∷ ((8 if isStarter b (e .number)) ∷ [])
 causes b (E.Series e) = []

@@ -16,12 +16,14 @@ use Rattle.base.specs.Sets.{has}
 use Rattle.base.specs.Gcd.{Divides}
 use Rattle.events.specs.declared.Event.{Event}
 use Rattle.events.specs.declared.Event.the-variants as E
+use Rattle.events.specs.declared.Reading.the-variants as R
 use Rattle.events.specs.declared.Strategy.{Strategy as GivenStrategy}
 use Rattle.events.specs.declared.Order.{Order as GivenOrder}
 use Rattle.events.specs.declared.Sweep.{Sweep as GivenSweep}
 use Rattle.events.specs.declared.LegOrder.{LegOrder as GivenLegOrder}
 use Rattle.events.specs.declared.National.{National as GivenNational}
 use Rattle.events.specs.declared.Range.{Range as GivenRange}
+use Rattle.frames.specs.Frames.{readOf}
 use Rattle.rules.specs.declared.Leg.{Leg}
 use Rattle.rules.specs.declared.Strategy.{Strategy}
 use Rattle.rules.specs.declared.Entry.{Entry}
@@ -35,14 +37,14 @@ use Rattle.rules.specs.declared.Kind.the-variants.{LegFill, LegOrderFill
 use Rattle.rules.specs.State.{noLeg, noOrder, noQuote, fresh, entryAt, orderAt, strategyAt, legAt, withOpened, withClock, withNational, withRange}
 use Rattle.rules.specs.Moves.{Moved, still, each}
 use Rattle.rules.specs.Records.{kindNumber}
-use Rattle.rules.specs.Sides.{other, meets, better}
+use Rattle.rules.specs.Sides.{other, legSide, meets, better}
 use Rattle.rules.specs.Nets.{stands, bestOf, noBest, bestAfter, offerNet, bidNet}
 use Rattle.rules.specs.Fills.{partyRecords}
 use Rattle.rules.specs.National.{boundsAt, mayBuy, maySell, mayFill, mayTake, mayMeet}
 use Rattle.rules.specs.declared.Allocation.the-variants.{Shared}
 use Rattle.rules.specs.Passes.{bestOpposite, readyNet, turnAt, pass}
-use Rattle.rules.specs.Auctions.{matchIn}
-use Rattle.rules.specs.Sizes.{orderSlots, sweepSlots, legOrderSlots, tableRows, zeroLevel}
+use Rattle.rules.specs.Auctions.{endAuction, matchIn}
+use Rattle.rules.specs.Sizes.{orderSlots, sweepSlots, legOrderSlots, tableRows, recordSpace, zeroLevel}
 use Rattle.rules.specs.Refusals.{firstCause, causes, isOrderAt, isSweepAt, isLegOrderAt}
 use Rattle.rules.specs.Events.{enter, enterOrder, freeSlot, freeOrderSlot, tradeAll}
 use Rattle.rules.specs.Given.{legsGiven, orderGiven, legOrderGiven}
@@ -255,12 +257,25 @@ pub record LaterSentence (b : State) (i : ℕ) (x : Moved) : Type 0 where
 abbrev pub UnpricedOf : ℕ → Record → Type 0
 UnpricedOf n r = r .kind ≡ LegFill → r .number ≡ n → r .level ≡ zeroLevel
 
+-- "The starter gets a shared pass, ..": THE END of the auction of strategy k, between b and c. As it comes, every entry of the strategy is as it was in
+-- b, sweeps too, whatever the legs have done (2026-03: "Sweeps already in are not looked at again"); and what it leaves of them is what c has.
+pub record AuctionEnds (b : State) (k : ℕ) (c : State) : Type 0 where
+  pub moment : State
+  pub since : Shrinks b moment
+  pub auction : strategyAt moment k ≡ strategyAt b k
+  pub found : (i : ℕ) → entryAt b i .strategy ≡ k → entryAt moment i ≡ entryAt b i
+  pub leaves : (i : ℕ) → entryAt b i .strategy ≡ k → entryAt c i ≡ entryAt (endAuction k moment .state) i
+
 -- CLOCK, at time t, from b to what x leaves.
 pub record ClockSentence (b : State) (t : ℕ) (x : Moved) : Type 0 where
   -- "auctions begun at least the timer ago end": a clock at or past an auction's begin and the timer ends it ..
   pub ends : (k : ℕ) → Runs b k → strategyAt b k .begun + b .timer ≤ t → strategyAt (x .state) k .starter ≡ 0
   -- .. and one before that leaves it as it was
   pub goesOn : (k : ℕ) → Runs b k → t < strategyAt b k .begun + b .timer → strategyAt (x .state) k ≡ strategyAt b k
+  -- .. and so every entry of its strategy, and of one without an auction
+  pub stays : (i : ℕ) → (strategyAt b (entryAt b i .strategy) .starter ≡ 0) ⊎ (t < strategyAt b (entryAt b i .strategy) .begun + b .timer) → entryAt (x .state) i ≡ entryAt b i
+  -- one that ends finds its entries as the clock did
+  pub wholly : (k : ℕ) → Runs b k → strategyAt b k .begun + b .timer ≤ t → AuctionEnds (withClock b t) k (x .state)
   -- "The starter gets a shared pass", with the legs if nobody answered; "then each other entry accepted meanwhile", sweeps without legs
   pub starterPass : (k : ℕ) → Runs b k → strategyAt b k .begun + b .timer ≤ t → (i : ℕ) → Starter b k i → HadTurn (withClock b t) (x .state) i (not (strategyAt b k .answered))
   pub otherPasses : (k : ℕ) → Runs b k → strategyAt b k .begun + b .timer ≤ t → (i : ℕ) → 0 < entryAt b i .units → entryAt b i .strategy ≡ k → strategyAt b k .starter < entryAt b i .number →
@@ -429,6 +444,17 @@ pub record CancelsIt (b : State) (a : ℕ) (x : Moved) : Type 0 where
 pub data BetterThanNet (b : State) (side k level : ℕ) : Type 0 where
   above-bid : side ≡ 0 → 0 < bidNet b k → bidNet b k < level → BetterThanNet b side k level
   below-offer : side ≡ 1 → 0 < offerNet b k → level < offerNet b k → BetterThanNet b side k level
+
+-- .. is not: at the bid net or below it for a buy, at the offer net or above it for a sell
+pub data NoBetterThanNet (b : State) (side k level : ℕ) : Type 0 where
+  not-above-bid : side ≡ 0 → 0 < bidNet b k → level ≤ bidNet b k → NoBetterThanNet b side k level
+  not-below-offer : side ≡ 1 → 0 < offerNet b k → offerNet b k ≤ level → NoBetterThanNet b side k level
+
+-- "Offer net takes offers for buy legs, bids for sell legs; bid net the reverse; unknown if a price is missing": on some leg of strategy k no leg order
+-- stands on the side that the net of an entry's own side takes, the one that the entry itself would take on the leg
+abbrev pub NetUnknown : State → ℕ → ℕ → Type 0
+NetUnknown b side k =
+    Any (λ (i : ℕ). (j : ℕ) → stands (legAt (strategyAt b k) i .series) (legSide side (legAt (strategyAt b k) i)) (orderAt b j) ≡ false) (strategyAt b k .count)
 
 -- "class 1 or 2 with life 0 or 1 .. if its limit is better than the known leg net of its own side"
 pub record StartsOne (b : State) (e : Entry) : Type 0 where
@@ -637,14 +663,27 @@ pub record OrderMay (b : State) (e : GivenOrder) : Type 0 where
   pub slot : sumN (isOrderAt b) tableRows < orderSlots
   pub number : b .last < 100_000
 
--- a sweep: its strategy is defined (4) and an auction runs in it (9); one of 0 units has one to remove (10); one with units replaces one or has
--- a slot (12), and has a number (13)
+-- a sweep: its strategy is defined (4) and an auction runs in it (9); one of 0 units has one to remove (10); one with units is better than the leg
+-- net of its side, or that is unknown (15), replaces one or has a slot (12), and has a number (13)
 pub record SweepMay (b : State) (e : GivenSweep) : Type 0 where
   pub defined : e .strategy < b .defined
   pub auction : Runs b (e .strategy)
   pub removes : e .units ≡ 0 → Any (λ (i : ℕ). SweepOf e (entryAt b i)) tableRows
+  pub betters : 0 < e .units → NetUnknown b (e .side) (e .strategy) ⊎ BetterThanNet b (e .side) (e .strategy) (e .level)
   pub slot : 0 < e .units → Any (λ (i : ℕ). SweepOf e (entryAt b i)) tableRows ⊎ (sumN (isSweepAt b) tableRows < sweepSlots)
   pub number : 0 < e .units → b .last < 100_000
+
+-- 2026-03: "A sweep that betters nothing is refused with 15, checked between 10 and 11": the frame is a sweep, of which nothing that is checked before
+-- applies: the space is long enough (1), it is read (2, 3), its strategy is defined (4), an auction runs in it (9), it has units (so not 10); and it is no
+-- better than a known leg net of its side
+pub record BettersNothing (b : State) (frame : List ℕ) (space : ℕ) : Type 0 where
+  pub sweep : GivenSweep
+  pub reading : readOf frame ≡ R.Event (E.Sweep sweep)
+  pub room : recordSpace ≤ space
+  pub defined : sweep .strategy < b .defined
+  pub auction : Runs b (sweep .strategy)
+  pub units : 0 < sweep .units
+  pub nothing : NoBetterThanNet b (sweep .side) (sweep .strategy) (sweep .level)
 
 -- a leg order: its series is open (6), a slot (12) and a number (13) are left
 pub record LegOrderMay (b : State) (e : GivenLegOrder) : Type 0 where

@@ -2,11 +2,11 @@
 use mathlib.Core.Path.{_≡_}
 use mathlib.Core.Bool.{Bool, true, false}
 use mathlib.Core.List.{List, [], _∷_, _++_, map, List·Memᴰ}
-use Prim.Native.Nat.{ℕ, zero, suc, _+_, _*_, _/_, _<_}
+use Prim.Native.Nat.{ℕ, zero, suc, _+_, _*_, _/_, _≤_, _<_}
 use lib.Dec.{eqb, leb}
 use lib.ListN.{getD}
 use lib.IntN.{ℤ, pos, negℤ, _+ℤ_, _-ℤ_, _*ℤ_}
-use lib.Signed.{_≤ℤ_}
+use lib.Signed.{_≤ℤ_, _<ℤ_}
 use Rattle.base.specs.Pick.{pick}
 use Rattle.base.specs.Walks.{sumN}
 use Rattle.events.specs.declared.Event.{Event}
@@ -14,11 +14,14 @@ use Rattle.events.specs.declared.Event.the-variants as E
 use Rattle.events.specs.declared.Reading.{Reading}
 use Rattle.events.specs.declared.Reading.the-variants as R
 use Rattle.events.specs.declared.Strategy.{Strategy as GivenStrategy}
+use Rattle.events.specs.declared.Sweep.{Sweep as GivenSweep}
+use Rattle.events.specs.declared.LegOrder.{LegOrder as GivenLegOrder}
 use Rattle.frames.specs.Frames.{readOf}
 use Rattle.rules.specs.declared.Leg.{Leg}
 use Rattle.rules.specs.declared.Quote.{Quote}
 use Rattle.rules.specs.declared.State.{State}
 use Rattle.rules.specs.State.{noLeg, noQuote}
+use Rattle.rules.specs.Sides.{other}
 use Rattle.rules.specs.Strategies.{seriesOf, ratioOf, divisor}
 use Rattle.rules.specs.Given.{legsGiven}
 use Rattle.rules.specs.Step.{Outcome, step}
@@ -311,6 +314,60 @@ pub record BelowRange (log : List Logged) (e : GivenStrategy) (level : ℕ) : Ty
   pub said : NetSaid log e 1
   pub below : cents level ≤ℤ (netSaid log e 1 -ℤ pos (rangeSaid 9999 log + 1))
 
+-- 2026-03, from the log alone: the leg book that the events of the list left. A leg order of that series and side stands in it at that price: an
+-- accepted kind 4 brought it in, and not all of it was filled (its records 2) or cancelled (its records 3)
+pub record LegStands (log : List Logged) (s side price : ℕ) : Type 0 where
+  pub entry : Logged
+  pub sent : List·Memᴰ entry log
+  pub order : GivenLegOrder
+  pub reading : entry .reading ≡ R.Event (E.LegOrder order)
+  pub answer : entry .answer ≡ 0
+  pub ofSeries : order .series ≡ s
+  pub onSide : order .side ≡ side
+  pub atPrice : order .price ≡ price
+  pub left : legFilled (entry .value) (linesOf log) + cancelled (entry .value) (linesOf log) < order .contracts
+
+-- the best price there: one stands at it, and none at a higher bid or a lower offer
+pub record BestSaid (log : List Logged) (s side price : ℕ) : Type 0 where
+  pub stands : LegStands log s side price
+  pub bid : side ≡ 0 → (q : ℕ) → LegStands log s side q → q ≤ price
+  pub offer : side ≡ 1 → (q : ℕ) → LegStands log s side q → price ≤ q
+
+-- "Offer net takes offers for buy legs, bids for sell legs; bid net the reverse": these are the best prices, by leg, that the bid net takes of the
+-- strategy that event e defined; none is missing
+abbrev pub BidPrices : List Logged → GivenStrategy → (ℕ → ℕ) → Type 0
+BidPrices log e price = (i : ℕ) → i < e .count → BestSaid log (getD (legsGiven e) i noLeg .series) (getD (legsGiven e) i noLeg .side) (price i)
+
+-- .. that the offer net takes
+abbrev pub OfferPrices : List Logged → GivenStrategy → (ℕ → ℕ) → Type 0
+OfferPrices log e price = (i : ℕ) → i < e .count → BestSaid log (getD (legsGiven e) i noLeg .series) (other (getD (legsGiven e) i noLeg .side)) (price i)
+
+-- 2026-03: "a sweep .. has to be above the bid net when it buys, below the offer net when it sells. Where that net is unknown, every price betters
+-- it.": sweep s in the strategy that event e defined, after the events of the log. Where a price is missing, there are no such prices.
+pub record Bettered (log : List Logged) (e : GivenStrategy) (s : GivenSweep) : Type 0 where
+  pub buy : s .side ≡ 0 → (price : ℕ → ℕ) → BidPrices log e price → netOver e price (e .count) <ℤ cents (s .level)
+  pub sell : s .side ≡ 1 → (price : ℕ → ℕ) → OfferPrices log e price → cents (s .level) <ℤ netOver e price (e .count)
+
+-- "A sweep that betters nothing": that net is known, and the sweep buys at it or below, or sells at it or above
+pub record NotBettered (log : List Logged) (e : GivenStrategy) (s : GivenSweep) : Type 0 where
+  pub price : ℕ → ℕ
+  pub buy : s .side ≡ 0 → BidPrices log e price × (cents (s .level) ≤ℤ netOver e price (e .count))
+  pub sell : s .side ≡ 1 → OfferPrices log e price × (netOver e price (e .count) ≤ℤ cents (s .level))
+
+-- event x brought in sweep s: "an accepted event of kind 2, 3 or 4 whose value isn't 0"
+pub record SweepIn (x : Logged) (s : GivenSweep) : Type 0 where
+  pub reading : x .reading ≡ R.Event (E.Sweep s)
+  pub answer : x .answer ≡ 0
+  pub value : x .value ≡ 0 → ⊥
+
+-- event x of the list, after those before it, is a sweep of 1 unit or more in a strategy that one of them defined, and it betters nothing
+pub record NothingBettered (log before : List Logged) (x : Logged) : Type 0 where
+  pub sweep : GivenSweep
+  pub reading : x .reading ≡ R.Event (E.Sweep sweep)
+  pub units : 0 < sweep .units
+  pub defined : Defined (sweep .strategy) before
+  pub nothing : (e : GivenStrategy) → Answered e (sweep .strategy) log → NotBettered before e sweep
+
 -- THE TOTALS of a list: `log` is what came of it, `end` the book that it left.
 pub record Totals (log : List Logged) (end : State) : Type 0 where
   -- what entered is filled, cancelled or live
@@ -340,3 +397,6 @@ pub record Totals (log : List Logged) (end : State) : Type 0 where
   pub range : (w : Terms) (k : ℕ) → Came (complex w k) log → (e : GivenStrategy) → Answered e k log →
       (before : List Logged) (x : Logged) (behind : List Logged) → log ≡ before ++ (x ∷ behind) →
       (l : Line) → List·Memᴰ l (x .lines) → l .kind ≡ 1 → l .number ≡ w .number → WithinRange before e w l
+  -- 2026-03: every sweep that came in bettered the leg net of its side as the events before it had left the leg books, or that net was unknown
+  pub sweeps : (before : List Logged) (x : Logged) (behind : List Logged) → log ≡ before ++ (x ∷ behind) →
+      (s : GivenSweep) → SweepIn x s → (e : GivenStrategy) → Answered e (s .strategy) log → Bettered before e s
