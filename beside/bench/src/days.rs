@@ -5,7 +5,7 @@ use reckoning::book::{
     Book, BUY, CUSTOMER, DAY, IMMEDIATE, MARKET_MAKER, SELL, SERIES, SPACE, STRATEGIES,
 };
 use reckoning::frames::{bytes, Event, Leg};
-use reckoning::generate::{list, Options};
+use reckoning::generate::{better_sweep, list, Options};
 
 pub type Frame = Vec<u8>;
 
@@ -15,24 +15,29 @@ const PART: usize = 2_500;
 /// Lists of the reckoning's generator, each from another seed, a day end after
 /// each: auctions, halts, openings, full tables and refusals. This many events; a
 /// shorter day is the beginning of a longer one. The lists are of kinds 1 to 8 and
-/// stay as they are, so that figures compare; a few of the damaged frames in them
-/// are of kind 10.
+/// stay as they are, so that figures compare; a few of the damaged frames in them are
+/// of kind 10. No sweep is refused 15: programs with and without request 2026-03
+/// print the same.
 pub fn busy_day(events: usize) -> Vec<Frame> {
     let options = Options {
         loose: false,
         day_ends: true,
     };
-    let mut frames = Vec::new();
+    let mut maker = Maker::empty();
     for seed in 1.. {
-        if frames.len() >= events {
+        if maker.frames.len() >= events {
             break;
         }
         let inputs = list(seed, PART, options);
-        frames.extend(inputs.into_iter().take(PART - 1).map(|input| input.frame));
-        frames.push(bytes(&Event::DayEnd { timer: 1_000 }));
+        for input in inputs.into_iter().take(PART - 1) {
+            // The timer is another than the list was made with, and so are some nets.
+            let sweep = better_sweep(&maker.book, &input.frame);
+            maker.push_frame(sweep.map_or(input.frame, |sweep| bytes(&sweep)));
+        }
+        maker.push(Event::DayEnd { timer: 1_000 });
     }
-    frames.truncate(events);
-    frames
+    maker.frames.truncate(events);
+    maker.frames
 }
 
 /// A day of one kind: what builds the book, and then the events of that kind.
@@ -218,7 +223,10 @@ impl Maker {
     }
 
     pub(crate) fn push(&mut self, event: Event) {
-        let frame = bytes(&event);
+        self.push_frame(bytes(&event));
+    }
+
+    fn push_frame(&mut self, frame: Frame) {
         self.book.step(&frame, SPACE);
         self.frames.push(frame);
     }

@@ -106,6 +106,8 @@ const STEP: u16 = 100;
 /// A limit that no net reaches, and the net of the legs at the best offers.
 const HIGH: i32 = 9_999_999;
 const NET: i32 = 6 * PRICE as i32;
+/// The highest limit of a sweep that sells below that net.
+const BELOW: i32 = NET - 1;
 
 /// A strategy that buys each leg, with other ratios than the others.
 fn strategy(index: u8) -> Event {
@@ -226,7 +228,7 @@ impl Maker {
     /// A sweep in each auction.
     fn sweep_in_each(&mut self) {
         for strategy in 0..SWEEPS as u8 {
-            let limit = self.net(strategy, BUY);
+            let limit = self.net(strategy, BUY) - 1;
             self.sweep(200, strategy, SELL, 4_000, limit);
         }
     }
@@ -236,11 +238,11 @@ fn full_book(maker: &mut Maker) {
     maker.strategies();
     maker.auctions(DAY);
     for member in 0..SWEEPS as u16 {
-        maker.sweep(200 + member, LAST, SELL, 4_000, NET);
+        maker.sweep(200 + member, LAST, SELL, 4_000, BELOW);
     }
     // What is full refuses.
     maker.order(LAST, BUY, CUSTOMER, DAY, 1, NET);
-    maker.sweep(300, LAST, SELL, 1, NET);
+    maker.sweep(300, LAST, SELL, 1, BELOW);
     maker.leg(31, BUY, 1, 0);
     maker.push(Event::Strategy {
         count: 6,
@@ -258,9 +260,9 @@ fn full_book(maker: &mut Maker) {
     }
     maker.push(held);
     let last = 200 + SWEEPS as u16 - 1;
-    maker.sweep(last, LAST, SELL, 3_000, NET);
-    maker.sweep(200, LAST, SELL, 0, NET);
-    maker.sweep(200, LAST, SELL, 3_000, NET);
+    maker.sweep(last, LAST, SELL, 3_000, BELOW);
+    maker.sweep(200, LAST, SELL, 0, BELOW);
+    maker.sweep(200, LAST, SELL, 3_000, BELOW);
     let numbers: Vec<u32> = maker.book.leg_orders.iter().map(|o| o.number).collect();
     maker.cancel(1, numbers[numbers.len() - 1]);
     maker.cancel(1, numbers[0]);
@@ -348,7 +350,7 @@ fn end_auction(maker: &mut Maker) {
     maker.offers_for(bids);
     // The sweeps have half of 16 times 100 left, and pass before the orders do.
     for member in 0..SWEEPS as u16 {
-        maker.sweep(200 + member, LAST, SELL, 100, NET);
+        maker.sweep(200 + member, LAST, SELL, 100, BELOW);
     }
     maker.order(LAST, BUY, MARKET_MAKER, DAY, 799 + 167, HIGH);
     maker.buyers(COMPLEX_ORDERS - 2);
@@ -361,10 +363,10 @@ fn answers(maker: &mut Maker) {
     maker.order(LAST, BUY, CUSTOMER, DAY, 1_501, NET);
     maker.offers_for(bids);
     for _ in 0..COMPLEX_ORDERS - 2 {
-        maker.order(LAST, SELL, MARKET_MAKER, DAY, 100, NET);
+        maker.order(LAST, SELL, MARKET_MAKER, DAY, 100, BELOW);
     }
     for member in 0..SWEEPS as u16 {
-        maker.sweep(200 + member, LAST, SELL, 100, NET);
+        maker.sweep(200 + member, LAST, SELL, 100, BELOW);
     }
     maker.order(LAST, BUY, BROKER_DEALER, IMMEDIATE, 9_999, HIGH);
     maker.clock(5_000);

@@ -37,9 +37,9 @@ fn a_busy_day_has_every_kind_and_most_answers() {
             *kinds.entry(frame[2]).or_default() += 1;
         }
     }
-    // The day is of kinds 1 to 8; a few of its damaged frames are of kind 10.
+    // The day is of kinds 1 to 8; a few of its damaged frames may be of kind 10.
     let damaged = kinds.remove(&10).unwrap_or(0);
-    assert!((1..5).contains(&damaged), "{damaged}");
+    assert!(damaged < 5, "{damaged}");
     assert_eq!(
         kinds.keys().copied().collect::<Vec<u8>>(),
         [1, 2, 3, 4, 5, 6, 7, 8]
@@ -49,10 +49,12 @@ fn a_busy_day_has_every_kind_and_most_answers() {
     assert!(2 * accepted > frames.len(), "{accepted}");
     let seen: BTreeSet<u32> = answers.iter().map(|answer| answer.answer).collect();
     assert!((2..=12).all(|refusal| seen.contains(&refusal)), "{seen:?}");
+    assert!(!seen.contains(&15), "every sweep betters its net");
 }
 
 /// The figures of two versions compare only on the same day: this is the one of
-/// document 01, by a sum over its bytes (FNV-1a, 64 bits).
+/// request 2026-03, which those before it play with the same lines, by a sum over its
+/// bytes (FNV-1a, 64 bits).
 #[test]
 fn the_busy_day_stays_as_it_is() {
     let sum = |events: usize| {
@@ -60,8 +62,8 @@ fn the_busy_day_stays_as_it_is() {
         let bytes = busy_day(events).concat();
         bytes.into_iter().fold(0xcbf2_9ce4_8422_2325, add)
     };
-    assert_eq!(sum(20_000), 0xe8a7_5343_feb4_dbca);
-    assert_eq!(sum(200_000), 0x8a8b_2522_b5cc_715e);
+    assert_eq!(sum(20_000), 0x867c_a271_6c9d_1314);
+    assert_eq!(sum(200_000), 0xb849_5946_e387_42fd);
 }
 
 /// Both bounds of each strategy.

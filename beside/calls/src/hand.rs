@@ -1,6 +1,6 @@
 //! Lists made by hand: spaces of every sort, ends of the input, long frames, depths
 //! of leg orders in every order, and the days of `tapes` with full tables, numbers at
-//! the ends of their ranges, national prices and best prices.
+//! the ends of their ranges, national prices, best prices and sweeps near the nets.
 
 use crate::lists::List;
 use reckoning::book::{Book, BUY, LEG_ORDERS, SELL, SPACE};
@@ -9,7 +9,7 @@ use reckoning::frames::{bytes, Event};
 use reckoning::generate::LAST_KIND;
 use reckoning::lists::Input;
 use tapes::days::Day;
-use tapes::hand::{best_prices, example, extremes, full_tables, national};
+use tapes::hand::{best_prices, example, extremes, full_tables, national, near_nets};
 use tapes::tally::frames;
 
 fn made(name: impl Into<String>, bytes: Vec<u8>) -> List {
@@ -134,11 +134,14 @@ pub fn long_frames() -> Vec<List> {
 
 /// Lists after which number 100,000 is live: a complex order, a sweep, a leg
 /// order. The numbers before it go to immediate orders in a strategy whose series
-/// are shut, which are cancelled at once.
+/// are shut, which are cancelled at once. Of two more sweeps that buy, the first is
+/// at the bid net, 199, and the second a cent above it (2026-03).
 pub fn last_numbers() -> Vec<List> {
     let order: &[u8] = &[16, 0, 2, 0, 9, 0, 1, 0, 3, 0, 2, 0, 250, 0, 0, 0];
     let sweep: &[u8] = &[14, 0, 3, 0, 3, 0, 0, 1, 1, 0, 240, 0, 0, 0];
     let leg_order: &[u8] = &[14, 0, 4, 0, 7, 0, 0, 0, 5, 0, 43, 1, 0, 0];
+    let at_net: &[u8] = &[14, 0, 3, 0, 3, 0, 0, 0, 1, 0, 199, 0, 0, 0];
+    let above: &[u8] = &[14, 0, 3, 0, 3, 0, 0, 0, 1, 0, 200, 0, 0, 0];
     let mut immediate = order.to_vec();
     immediate[9] = 1;
     let mut before = whole(&[
@@ -161,7 +164,7 @@ pub fn last_numbers() -> Vec<List> {
     ]
     .into_iter()
     .map(|(what, last)| {
-        let after = whole(&[last, order, sweep, leg_order, &immediate]);
+        let after = whole(&[last, order, sweep, at_net, above, leg_order, &immediate]);
         let name = format!("number 100,000 is {what}");
         made(name, [&before[..], &after].concat())
     })
@@ -225,6 +228,33 @@ pub fn depths() -> Vec<List> {
     lists
 }
 
+/// The days with sweeps near the nets, each as several lists that end in the middle
+/// of an auction: after a sweep that is refused 15.
+pub fn refused_sweeps() -> Vec<List> {
+    let mut lists = Vec::new();
+    for day in near_nets() {
+        let bytes = day.bytes();
+        let frames = frames(&bytes);
+        let mut book = Book::first();
+        let mut seen = 0;
+        for (index, frame) in frames.iter().enumerate() {
+            if book.step(frame, SPACE).answer != 15 {
+                continue;
+            }
+            seen += 1;
+            if seen % 25 == 0 {
+                let name = format!("{day}, up to its refusal 15 number {seen}");
+                // The sweep with too short a space, and then as it was.
+                let mut calls = whole(&frames[..index]);
+                calls.extend(call(frame, SPACE - 1));
+                calls.extend(call(frame, SPACE));
+                lists.push(made(name, calls));
+            }
+        }
+    }
+    lists
+}
+
 /// A day as calls, whole and up to the call after which the most is live.
 fn of_day(day: &Day) -> Vec<List> {
     let bytes = day.bytes();
@@ -247,5 +277,6 @@ pub fn days() -> Vec<List> {
     days.extend(extremes());
     days.extend(national());
     days.extend(best_prices());
+    days.extend(near_nets());
     days.iter().flat_map(of_day).collect()
 }

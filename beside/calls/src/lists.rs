@@ -1,7 +1,7 @@
 //! The lists of calls that are compared: inputs of `calls`, made from seeds or
 //! by hand.
 
-use reckoning::book::{Book, BUY, COMPLEX_ORDERS, LEG_ORDERS, SELL, SPACE};
+use reckoning::book::{Book, Entry, BUY, COMPLEX_ORDERS, LEG_ORDERS, SELL, SPACE};
 use reckoning::calls::item;
 use reckoning::frames::{bytes, judge, Event};
 use reckoning::generate::{
@@ -115,6 +115,11 @@ pub fn best_orders(book: &Book, series: u8, side: u8) -> usize {
         own().min()
     };
     own().filter(|price| Some(*price) == best).count()
+}
+
+/// Whether the sweep would be refused 15 if it came now.
+pub fn is_passed(book: &Book, sweep: &Entry) -> bool {
+    book.betters_own_net(sweep.strategy, sweep.side, sweep.limit) == Some(false)
 }
 
 /// Whether the order rests in an open strategy without an auction, beside an

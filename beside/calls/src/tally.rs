@@ -2,7 +2,7 @@
 //! sort, the lines of the lookups by what they tell, and the situations that the
 //! book reached.
 
-use crate::lists::{best_orders, rests_crossed};
+use crate::lists::{best_orders, is_passed, rests_crossed};
 use reckoning::book::{Book, BUY, SPACE};
 use reckoning::calls::items;
 use reckoning::national::FRESH_RANGE;
@@ -46,6 +46,7 @@ pub const SEEN: &[&str] = &[
     "L of a complex order",
     "L of a leg order",
     "L of a sweep",
+    "L of a sweep that the net has passed",
     "L of an auction's starter",
     "L of an order that rests crossed",
     "S with a shut leg that is not the first",
@@ -170,12 +171,17 @@ impl Tally {
 
     fn live(&mut self, number: u32, book: &Book) {
         let complex = book.complex_orders().any(|o| o.number == number);
-        let sweep = book.sweeps().any(|s| s.number == number);
+        let mut sweeps = book.sweeps().filter(|sweep| sweep.number == number);
+        let sweep = sweeps.next();
         let leg = book.leg_orders.iter().any(|o| o.number == number);
         let starter = (book.auctions.iter().flatten()).any(|a| a.starter == number);
         self.highest_live = self.highest_live.max(number);
         self.see_if(complex, "L of a complex order");
-        self.see_if(sweep, "L of a sweep");
+        self.see_if(sweep.is_some(), "L of a sweep");
+        self.see_if(
+            sweep.is_some_and(|sweep| is_passed(book, sweep)),
+            "L of a sweep that the net has passed",
+        );
         self.see_if(leg, "L of a leg order");
         self.see_if(starter, "L of an auction's starter");
         self.see_if(

@@ -5,10 +5,10 @@
 #![deny(warnings)]
 
 use calls::agree::agrees;
-use calls::hand::{days, depths, ends, last_numbers, long_frames, spaces};
+use calls::hand::{days, depths, ends, last_numbers, long_frames, refused_sweeps, spaces};
 use calls::lists::{any_frames, every_number, generated, several_days, List};
 use calls::tally::{Tally, SEEN};
-use reckoning::coverage::SITUATIONS;
+use reckoning::coverage::{LAST_SITUATIONS, SITUATIONS};
 use reckoning::generate::LAST_KIND;
 use std::path::Path;
 use std::process::Command;
@@ -49,7 +49,7 @@ fn agreed_by(what: &str, lists: &[List], delivery: Delivery) -> Tally {
 const ANSWERS: &[(u32, &[u32])] = &[
     (1, &[0, 1, 2, 3, 5, 12]),
     (2, &[0, 1, 2, 3, 4, 9, 12]),
-    (3, &[0, 1, 2, 3, 4, 9, 10, 12]),
+    (3, &[0, 1, 2, 3, 4, 9, 10, 12, 15]),
     (4, &[0, 1, 2, 3, 6, 12]),
     (5, &[0, 1, 2, 3, 7, 8]),
     (6, &[0, 1, 2, 3]),
@@ -73,7 +73,7 @@ fn generated_lists() {
             assert!(count >= 50, "kind {kind}, answer {answer}: {count}");
         }
     }
-    for answer in (0..=14).filter(|answer| *answer != 13) {
+    for answer in (0..=15).filter(|answer| *answer != 13) {
         let count = tally.answered(answer);
         assert!(count >= 2_000, "answer {answer}: {count}");
     }
@@ -89,7 +89,7 @@ fn generated_lists() {
         let count = tally.of(kind, 0);
         assert!(count >= 10_000, "accepted calls of kind {kind}: {count}");
     }
-    assert!(SITUATIONS.len() >= 129);
+    assert!(SITUATIONS.len() >= 165);
     for situation in SITUATIONS {
         let count = tally.reached(situation);
         assert!(count >= 50, "{situation}: {count}");
@@ -106,6 +106,10 @@ fn lists_that_give_every_number() {
         assert!(count >= 20, "kind {kind}, answer 13: {count}");
     }
     assert!(tally.of(9, 0) >= 100 && tally.of(10, 0) >= 50);
+    for situation in LAST_SITUATIONS {
+        let count = tally.reached(situation);
+        assert!(count >= 3, "{situation}: {count}");
+    }
 }
 
 #[test]
@@ -113,8 +117,12 @@ fn number_100000_is_live() {
     for list in last_numbers() {
         let tally = agreed(&list.to_string(), &[list]);
         assert_eq!(tally.highest_live, 100_000);
-        for kind in 2..=4 {
-            assert_eq!(tally.of(kind, 13), if kind == 2 { 2 } else { 1 });
+        for (kind, answer, count) in [(2, 13, 2), (3, 13, 2), (3, 15, 1), (4, 13, 1)] {
+            assert_eq!(
+                tally.of(kind, answer),
+                count,
+                "kind {kind}, answer {answer}"
+            );
         }
     }
 }
@@ -178,6 +186,22 @@ fn full_tables_and_extremes() {
         "list: 32 leg orders",
     ] {
         assert!(tally.saw(what) >= 1, "{what}");
+    }
+}
+
+#[test]
+fn sweeps_that_are_refused_15() {
+    let lists = refused_sweeps();
+    let tally = agreed("sweeps that are refused 15", &lists);
+    let (short, refused) = (tally.of(3, 1), tally.of(3, 15));
+    assert!(lists.len() >= 100 && short >= 100 && refused >= 10_000);
+    for what in [
+        "L of a sweep",
+        "L of a sweep that the net has passed",
+        "list: an auction runs",
+    ] {
+        let count = tally.saw(what);
+        assert!(count >= 50, "{what}: {count}");
     }
 }
 

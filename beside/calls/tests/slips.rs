@@ -5,7 +5,7 @@
 #![deny(warnings)]
 
 use calls::agree::{agrees, difference, reckoned};
-use calls::hand::{days, depths, ends, last_numbers, spaces};
+use calls::hand::{days, depths, ends, last_numbers, refused_sweeps, spaces};
 use calls::lists::{generated, several_days, List};
 use std::fs;
 use std::path::Path;
@@ -411,6 +411,61 @@ const SLIPS: &[Slip] = &[
         "            if let Some((price, contracts)) = found {",
         "            let found = found.or(book.depth(series as u8, 1 - side as u8).map(|_| (0, 0)));\n            if let Some((price, contracts)) = found {",
     ),
+    // Request 2026-03.
+    (
+        "refusal 1 after 15",
+        "events.rs",
+        "match (causes.first(), event) {",
+        "let sweep = Causes(causes.0 & 1 << 11).first();\n        match (sweep.or(causes.first()), event) {",
+    ),
+    (
+        "a sweep refused 15 that is live",
+        "events.rs",
+        "            (first, _) => {\n",
+        "            (first, event) => {\n                if let (Some(15), Ok(event)) = (first, event) {\n                    if self.sweeps().count() < SWEEPS && self.given < LAST_NUMBER {\n                        self.accept(&event, &mut Vec::new());\n                    }\n                }\n",
+    ),
+    (
+        "a refused replacement takes the old one out",
+        "events.rs",
+        "            (first, _) => {\n",
+        "            (first, event) => {\n                if let (Some(15), Ok(Event::Sweep { member, strategy, side, limit, .. })) = (first, event) {\n                    if let Some(old) = self.equal_sweep(member, strategy, side, limit) {\n                        self.cancel_live(old, &mut Vec::new());\n                    }\n                }\n",
+    ),
+    (
+        "a refused replacement with the new units in the old one",
+        "events.rs",
+        "            (first, _) => {\n",
+        "            (first, event) => {\n                if let (Some(15), Ok(Event::Sweep { member, strategy, side, limit, units })) = (first, event) {\n                    if let Some(old) = self.equal_sweep(member, strategy, side, limit) {\n                        if let Some(entry) = self.entries.iter_mut().find(|entry| entry.number == old) {\n                            entry.units = u32::from(units);\n                        }\n                    }\n                }\n",
+    ),
+    (
+        "a sweep with a short space and 15 that takes the old one out",
+        "events.rs",
+        "            (first, _) => {\n",
+        "            (first, event) => {\n                if let (Some(1), Ok(Event::Sweep { member, strategy, side, limit, .. })) = (first, event) {\n                    if !self.sweep_betters(strategy, side, limit) {\n                        if let Some(old) = self.equal_sweep(member, strategy, side, limit) {\n                            self.cancel_live(old, &mut Vec::new());\n                        }\n                    }\n                }\n",
+    ),
+    (
+        "live quantity without sweeps that the net has passed",
+        "calls.rs",
+        "    for number in book.live_numbers() {\n",
+        "    let passed = |number: &u32| book.entry(*number).is_some_and(|entry| entry.life.is_none() && book.betters_own_net(entry.strategy, entry.side, entry.limit) == Some(false));\n    for number in book.live_numbers().into_iter().filter(|number| !passed(number)) {\n",
+    ),
+    (
+        "an equal limit betters",
+        "events.rs",
+        "self.betters_own_net(strategy, side, limit).unwrap_or(true)",
+        "self.leg_net(strategy, 1 - side) == Some(i64::from(limit)) || self.betters_own_net(strategy, side, limit).unwrap_or(true)",
+    ),
+    (
+        "15 after 13",
+        "events.rs",
+        "                if units > 0 && !self.sweep_betters(strategy, side, limit) {\n",
+        "                if units > 0 && self.given < LAST_NUMBER && !self.sweep_betters(strategy, side, limit) {\n",
+    ),
+    (
+        "15 after 12",
+        "events.rs",
+        "[1, 2, 3, 14, 4, 5, 6, 7, 8, 9, 10, 15, 11, 12, 13]",
+        "[1, 2, 3, 14, 4, 5, 6, 7, 8, 9, 10, 11, 12, 15, 13]",
+    ),
 ];
 
 /// A part of the lists that the proved program is compared on.
@@ -422,6 +477,7 @@ fn lists() -> Vec<List> {
     lists.extend(days());
     lists.extend(depths());
     lists.extend(last_numbers());
+    lists.extend(refused_sweeps().into_iter().step_by(5));
     lists
 }
 
@@ -446,7 +502,7 @@ fn slips_in_calls_are_found() {
     }
     assert!(missed.is_empty(), "slips not found: {missed:#?}");
     println!("slips found: {}", SLIPS.len());
-    assert!(SLIPS.len() >= 65);
+    assert!(SLIPS.len() >= 74);
 }
 
 #[test]

@@ -2,8 +2,8 @@
 //! generator. They play no part in any answer.
 
 use crate::book::{
-    depth, Book, Depth, Entry, LegOrder, RowEntry, BUY, DAY, DO_NOT_AUCTION, LEG_ORDERS, SELL,
-    STRATEGIES, SWEEPS,
+    depth, Book, Depth, Entry, LegOrder, RowEntry, BUY, DAY, DO_NOT_AUCTION, LAST_NUMBER,
+    LEG_ORDERS, SELL, STRATEGIES, SWEEPS,
 };
 use crate::events::Answer;
 use crate::frames::{read, Event};
@@ -21,6 +21,14 @@ thread_local! {
 
 /// Every situation that is counted and can occur.
 pub const SITUATIONS: &[&str] = &[
+    "auction: a net becomes better",
+    "auction: a net becomes known",
+    "auction: a net becomes unknown by a cancel",
+    "auction: a net becomes unknown by fills",
+    "auction: a net becomes worse by a cancel",
+    "auction: a net becomes worse by fills",
+    "auction: a net passes a live sweep",
+    "auction: a net that was unknown passes a live sweep",
     "best: a better price behind a worse one",
     "best: a better price with fewer contracts than the worse one",
     "best: a first order on an empty side",
@@ -58,6 +66,8 @@ pub const SITUATIONS: &[&str] = &[
     "end: a day starter rests",
     "end: a later pass meets an order from before",
     "end: a later pass meets the starter's rest",
+    "end: a sweep fills that the net has passed",
+    "end: a sweep that the net has passed is cancelled",
     "end: a sweep's own pass fills",
     "end: a sweep's own pass stops at the range",
     "end: a waiting order uses legs",
@@ -132,9 +142,35 @@ pub const SITUATIONS: &[&str] = &[
     "stop: the legs could fill",
     "strategy: equal in a full table",
     "strategy: equal to a held one",
+    "sweep: 10 where it betters nothing",
+    "sweep: 12 where it betters the net",
+    "sweep: 15 at a net below 0",
+    "sweep: 15 at a net that is not ready",
+    "sweep: 15 beside an unknown net of the other side",
+    "sweep: 15 in a full table",
+    "sweep: 15 of a buy at the bid net",
+    "sweep: 15 of a buy below the bid net",
+    "sweep: 15 of a replacement",
+    "sweep: 15 of a replacement in a full table",
+    "sweep: 15 of a sell above the offer net",
+    "sweep: 15 of a sell at the offer net",
+    "sweep: 15 where it betters the national net",
+    "sweep: 9 where it betters nothing",
+    "sweep: a buy between the nets",
+    "sweep: a buy one cent above the bid net",
+    "sweep: a buy where the bid net is unknown",
+    "sweep: a replacement one cent better than the net",
+    "sweep: a sell between the nets",
+    "sweep: a sell one cent below the offer net",
+    "sweep: a sell where the offer net is unknown",
+    "sweep: betters the net and not the national net",
+    "sweep: its net is unknown, the other is known",
+    "sweep: one cent better than a net below 0",
+    "sweep: one cent better than a net that is not ready",
     "sweep: replaced",
     "sweep: replaced in a full table",
     "sweep: withdrawn",
+    "sweep: withdrawn where it betters nothing",
     "turn: between two bounds",
     "turn: legs at the buyer's bound",
     "turn: legs at the seller's bound",
@@ -150,6 +186,14 @@ pub const SITUATIONS: &[&str] = &[
     "turn: whole at the seller's bound",
     "turn: whole in a numbered pass",
     "turn: whole in a shared pass",
+];
+
+/// Every situation that is counted and needs all 100,000 numbers given.
+pub const LAST_SITUATIONS: &[&str] = &[
+    "numbers: 13 of a sweep one cent better than the net",
+    "numbers: 15 of a new sweep",
+    "numbers: 15 of a replacement",
+    "numbers: withdrawn where it betters nothing",
 ];
 
 /// Every situation of a depth lookup in a lent row that is counted and can occur.
@@ -716,12 +760,178 @@ fn fills(book: &Book, records: &[Record]) -> Vec<Fill> {
     list
 }
 
-/// Counts the situations of one accepted event, from the book before it and
-/// after it, and its answer.
-pub fn observe(before: &Book, frame: &[u8], answer: &Answer, after: &Book) {
-    let (0, Ok(event)) = (answer.answer, read(frame)) else {
+/// By how many cents a limit is better than a net of its own side.
+fn cents_better(side: u8, limit: i32, net: i64) -> i64 {
+    let above = i64::from(limit) - net;
+    if side == BUY {
+        above
+    } else {
+        -above
+    }
+}
+
+/// Counts a sweep against the net of its side, as its answer tells (2026-03).
+fn count_sweep(before: &Book, event: &Event, answer: u32) {
+    let Event::Sweep {
+        member,
+        strategy,
+        side,
+        units,
+        limit,
+    } = *event
+    else {
         return;
     };
+    // 1 and 4 look at no net.
+    if ![0, 9, 10, 12, 13, 15].contains(&answer) {
+        return;
+    }
+    let own = before.leg_prices(strategy, 1 - side);
+    let own_net = own.map(|prices| net(&prices));
+    let other = before.leg_net(strategy, side);
+    let better = own_net.map(|net| cents_better(side, limit, net));
+    let nothing = better.is_some_and(|cents| cents <= 0);
+    let one_cent = better == Some(1);
+    let ready = own.is_some_and(|prices| crate::nets::ready(&prices));
+    let below_0 = own_net.is_some_and(|net| net < 0);
+    let national =
+        (before.national_net(strategy, 1 - side)).map(|net| cents_better(side, limit, net) > 0);
+    let replaced = before.sweeps().any(|sweep| {
+        (sweep.member, sweep.strategy, sweep.side, sweep.limit) == (member, strategy, side, limit)
+    });
+    let full = before.sweeps().count() == SWEEPS;
+    let last = before.given == LAST_NUMBER;
+    match (answer, units) {
+        (9, 1..) => reach_if(nothing, "sweep: 9 where it betters nothing"),
+        (10, _) => reach_if(nothing, "sweep: 10 where it betters nothing"),
+        (0, 0) => {
+            reach_if(nothing, "sweep: withdrawn where it betters nothing");
+            reach_if(
+                nothing && last,
+                "numbers: withdrawn where it betters nothing",
+            );
+        }
+        (12, _) => reach_if(better.is_some(), "sweep: 12 where it betters the net"),
+        (13, _) => reach_if(
+            one_cent,
+            "numbers: 13 of a sweep one cent better than the net",
+        ),
+        (15, _) => {
+            reach(match (side, better) {
+                (BUY, Some(0)) => "sweep: 15 of a buy at the bid net",
+                (BUY, _) => "sweep: 15 of a buy below the bid net",
+                (_, Some(0)) => "sweep: 15 of a sell at the offer net",
+                _ => "sweep: 15 of a sell above the offer net",
+            });
+            reach_if(replaced, "sweep: 15 of a replacement");
+            reach_if(
+                replaced && full,
+                "sweep: 15 of a replacement in a full table",
+            );
+            reach_if(full && !replaced, "sweep: 15 in a full table");
+            reach_if(below_0, "sweep: 15 at a net below 0");
+            reach_if(!ready, "sweep: 15 at a net that is not ready");
+            reach_if(
+                other.is_none(),
+                "sweep: 15 beside an unknown net of the other side",
+            );
+            reach_if(
+                national == Some(true),
+                "sweep: 15 where it betters the national net",
+            );
+            reach_if(last && !replaced, "numbers: 15 of a new sweep");
+            reach_if(last && replaced, "numbers: 15 of a replacement");
+        }
+        (0, _) => {
+            if better.is_none() {
+                reach(match side {
+                    BUY => "sweep: a buy where the bid net is unknown",
+                    _ => "sweep: a sell where the offer net is unknown",
+                });
+                reach_if(
+                    other.is_some(),
+                    "sweep: its net is unknown, the other is known",
+                );
+                return;
+            }
+            // Its limit does not better the net of the other side as well.
+            if other.is_some_and(|net| cents_better(side, limit, net) <= 0) {
+                reach(match side {
+                    BUY => "sweep: a buy between the nets",
+                    _ => "sweep: a sell between the nets",
+                });
+            }
+            reach_if(
+                national == Some(false),
+                "sweep: betters the net and not the national net",
+            );
+            if one_cent {
+                reach(match side {
+                    BUY => "sweep: a buy one cent above the bid net",
+                    _ => "sweep: a sell one cent below the offer net",
+                });
+                reach_if(
+                    replaced,
+                    "sweep: a replacement one cent better than the net",
+                );
+                reach_if(below_0, "sweep: one cent better than a net below 0");
+                reach_if(
+                    !ready,
+                    "sweep: one cent better than a net that is not ready",
+                );
+            }
+        }
+        _ => {}
+    }
+}
+
+/// Counts how an event other than a clock moved the nets of strategies whose auction
+/// goes on, and what that means for the live sweeps.
+fn count_net_moves(before: &Book, event: &Event, after: &Book) {
+    let cancel = matches!(event, Event::Cancel { .. });
+    let goes_on = |strategy: &u8| before.auction_runs(*strategy) && after.auction_runs(*strategy);
+    for strategy in (0..before.strategies.len() as u8).filter(goes_on) {
+        for side in [BUY, SELL] {
+            let net = |book: &Book| book.leg_net(strategy, 1 - side);
+            match (net(before), net(after)) {
+                (None, Some(_)) => reach("auction: a net becomes known"),
+                (Some(_), None) if cancel => reach("auction: a net becomes unknown by a cancel"),
+                (Some(_), None) => reach("auction: a net becomes unknown by fills"),
+                (Some(old), Some(new)) if old != new => {
+                    reach(match (strictly_better(1 - side, new, old), cancel) {
+                        (true, _) => "auction: a net becomes better",
+                        (false, true) => "auction: a net becomes worse by a cancel",
+                        (false, false) => "auction: a net becomes worse by fills",
+                    })
+                }
+                _ => {}
+            }
+        }
+        let live = |sweep: &&Entry| after.live(sweep.number) > 0 && sweep.strategy == strategy;
+        for sweep in before.sweeps().filter(live) {
+            let betters = |book: &Book| book.betters_own_net(strategy, sweep.side, sweep.limit);
+            match (betters(before), betters(after)) {
+                (Some(true), Some(false)) => reach("auction: a net passes a live sweep"),
+                (None, Some(false)) => reach("auction: a net that was unknown passes a live sweep"),
+                _ => {}
+            }
+        }
+    }
+}
+
+/// Counts the situations of one event, from the book before it and after it, and its
+/// answer: of a refused one those of a sweep.
+pub fn observe(before: &Book, frame: &[u8], answer: &Answer, after: &Book) {
+    let Ok(event) = read(frame) else {
+        return;
+    };
+    count_sweep(before, &event, answer.answer);
+    if answer.answer != 0 {
+        return;
+    }
+    if !matches!(event, Event::Clock { .. }) {
+        count_net_moves(before, &event, after);
+    }
     let records = &answer.records;
     let filled = records.iter().any(|record| record.kind == WHOLE_FILL);
     let ended = records.iter().filter(|r| r.kind == AUCTION_ENDED).count();
@@ -942,6 +1152,22 @@ fn count_end(before: &Book, records: &[Record], ended: Record, after: &Book) {
             fill.other.is_some_and(|other| other < starter),
             "end: a later pass meets an order from before",
         );
+    }
+    for sweep in before.sweeps().filter(|sweep| sweep.strategy == strategy) {
+        if before.betters_own_net(strategy, sweep.side, sweep.limit) == Some(false) {
+            let wrote = |kind: i32| {
+                let own = |record: &Record| record.number == sweep.number as i32;
+                (records.iter()).any(|record| record.kind == kind && own(record))
+            };
+            reach_if(
+                wrote(WHOLE_FILL),
+                "end: a sweep fills that the net has passed",
+            );
+            reach_if(
+                wrote(CANCELLED),
+                "end: a sweep that the net has passed is cancelled",
+            );
+        }
     }
     reach_if(after.live(starter) > 0, "end: a day starter rests");
     let cancelled = |record: &Record| record.kind == CANCELLED && record.number == ended.number;

@@ -1,5 +1,5 @@
 //! Document 01, "Refusals by cause" and "Events"; kinds 9 and 10 and refusal 14
-//! of request 2026-01.
+//! of request 2026-01; refusal 15 of request 2026-03.
 
 use crate::book::{
     Auction, Book, Entry, LegOrder, BROKER_DEALER, BUY, COMPLEX_ORDERS, CUSTOMER, DAY,
@@ -23,9 +23,9 @@ pub struct Answer {
 
 /// The refusals of events in the order in which they are checked: those of
 /// document 01 by number, as "The smallest number that applies is given"; 14 of
-/// request 2026-01 is "checked after 3". Later refusals join the table, "each
-/// checked at the place named".
-pub const ORDER: [u32; 14] = [1, 2, 3, 14, 4, 5, 6, 7, 8, 9, 10, 11, 12, 13];
+/// request 2026-01 is "checked after 3", 15 of request 2026-03 "checked between 10
+/// and 11". Later refusals join the table, "each checked at the place named".
+pub const ORDER: [u32; 15] = [1, 2, 3, 14, 4, 5, 6, 7, 8, 9, 10, 15, 11, 12, 13];
 
 /// The place of each refusal in that order, by its number; there is no 0.
 const PLACES: [u32; ORDER.len() + 1] = {
@@ -40,7 +40,7 @@ const PLACES: [u32; ORDER.len() + 1] = {
 
 /// The causes of refusal that apply, as a set of their places in the order.
 #[derive(Clone, Copy, Debug, Default, PartialEq, Eq)]
-pub struct Causes(u16);
+pub struct Causes(u32);
 
 impl Causes {
     /// Adds a cause by its number.
@@ -94,7 +94,7 @@ impl Book {
         }
     }
 
-    /// Adds every cause of refusal from 4 to 14 that applies to the event, one
+    /// Adds every cause of refusal from 4 to 15 that applies to the event, one
     /// condition per row of the table.
     fn add_causes(&self, event: &Event, causes: &mut Causes) {
         match *event {
@@ -129,6 +129,10 @@ impl Book {
                 }
                 if units == 0 && replaced.is_none() {
                     causes.add(10);
+                }
+                // "A sweep that betters nothing is refused with 15".
+                if units > 0 && !self.sweep_betters(strategy, side, limit) {
+                    causes.add(15);
                 }
                 // "a sweep that replaces one takes its slot"; "0 units enters
                 // nothing".
@@ -389,18 +393,28 @@ impl Book {
     /// than the known leg net of its own side (buy above bid net, sell below
     /// offer net)".
     fn starts_auction(&self, order: &Entry, class: u8) -> bool {
-        let limit = i64::from(order.limit);
-        let better = || {
-            if order.side == BUY {
-                self.bid_net(order.strategy).is_some_and(|net| limit > net)
-            } else {
-                self.offer_net(order.strategy)
-                    .is_some_and(|net| limit < net)
-            }
-        };
         (class == CUSTOMER || class == BROKER_DEALER)
             && (order.life == Some(DAY) || order.life == Some(IMMEDIATE))
-            && better()
+            && (self.betters_own_net(order.strategy, order.side, order.limit)).unwrap_or(false)
+    }
+
+    /// Request 2026-03: "a sweep of 1 unit or more has to be above the bid net when
+    /// it buys, below the offer net when it sells. Where that net is unknown, every
+    /// price betters it." A strategy that is not defined has no net.
+    fn sweep_betters(&self, strategy: u8, side: u8, limit: i32) -> bool {
+        !self.defined(strategy) || self.betters_own_net(strategy, side, limit).unwrap_or(true)
+    }
+
+    /// Whether a limit is better than the leg net of its own side, "buy above bid
+    /// net, sell below offer net"; nothing where that net is unknown. Whether the legs
+    /// are ready plays no part.
+    pub fn betters_own_net(&self, strategy: u8, side: u8, limit: i32) -> Option<bool> {
+        let limit = i64::from(limit);
+        if side == BUY {
+            self.bid_net(strategy).map(|net| limit > net)
+        } else {
+            self.offer_net(strategy).map(|net| limit < net)
+        }
     }
 
     /// "**Leg order**: trades with opposite leg orders that meet its price,

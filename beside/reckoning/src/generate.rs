@@ -2,7 +2,9 @@
 
 use crate::book::{RowEntry, BUY, LEG_ORDERS, SELL};
 use crate::frames::{bytes, Event, Leg};
-pub use crate::lists::{list, long_list, national_list, stream, tail, Input, Options};
+pub use crate::lists::{
+    better_sweep, list, long_list, national_list, stream, tail, Input, Options,
+};
 
 /// A small deterministic source of numbers (splitmix64).
 #[derive(Clone, Debug)]

@@ -1,15 +1,16 @@
 //! Lists of events made from a seed. The maker keeps a book of its own, so that
 //! it can choose limits near the nets, members and numbers that exist, national
 //! prices near the own ones, and so reach auctions, sharing, halts, openings, full
-//! tables, and passes that stop at the range.
+//! tables, passes that stop at the range, and sweeps that better nothing.
 
 use crate::book::{
     Book, Entry, BUY, COMPLEX_ORDERS, CUSTOMER, DAY, DO_NOT_AUCTION, IMMEDIATE, LAST_NUMBER,
     LEG_ORDERS, MARKET_MAKER, RESPONSE, SELL, SPACE, STRATEGIES, SWEEPS,
 };
-use crate::frames::{bytes, judge, Event, Leg};
+use crate::frames::{bytes, judge, read, Event, Leg};
 use crate::generate::{damaged_frame_up_to, edge_event, valid_event, Random, LAST_KIND};
 use crate::national::{Bounds, FRESH_RANGE};
+use crate::nets::side_taken;
 
 /// One event of a list: "a frame of any bytes, with a record space of any
 /// length", the length in numbers.
@@ -29,13 +30,15 @@ pub struct Options {
 }
 
 /// A list of about `events` events of kinds 1 to 8, ended by a day end in a third
-/// of the lists. It stays as it is from request to request: the benchmark times
-/// it.
+/// of the lists. No sweep in it is refused 15 (request 2026-03), so that books with
+/// and without that refusal do the same. It stays as it is from request to request:
+/// the benchmark times it.
 pub fn list(seed: u64, events: usize, options: Options) -> Vec<Input> {
     made(Maker::new(seed, options), events)
 }
 
-/// The same with kinds 9 and 10 of request 2026-01.
+/// The same with kinds 9 and 10 of request 2026-01, and with sweeps made to be
+/// refused 15.
 pub fn national_list(seed: u64, events: usize, options: Options) -> Vec<Input> {
     made(Maker::new(seed, options).with_national(seed), events)
 }
@@ -50,7 +53,33 @@ fn made(mut maker: Maker, events: usize) -> Vec<Input> {
     maker.finish()
 }
 
-/// Whether the streams and long lists of the seed have kinds 9 and 10.
+/// For a sweep that is refused 15 the same with a limit that betters its net, by one
+/// to four cents.
+pub fn better_sweep(book: &Book, frame: &[u8]) -> Option<Event> {
+    let mut event = read(frame).ok()?;
+    if let Event::Sweep {
+        strategy,
+        side,
+        units: 1..,
+        limit,
+        ..
+    } = &mut event
+    {
+        if book.auction_runs(*strategy) {
+            let above = i64::from(*limit) - book.leg_net(*strategy, 1 - *side)?;
+            let better = if *side == BUY { above } else { -above };
+            if better <= 0 {
+                let cents = (1 - better % 4 - better) as i32;
+                *limit += if *side == BUY { cents } else { -cents };
+                return Some(event);
+            }
+        }
+    }
+    None
+}
+
+/// Whether the streams and long lists of the seed have kinds 9 and 10, and sweeps
+/// made to be refused 15.
 fn has_national(seed: u64) -> bool {
     !seed.is_multiple_of(4)
 }
@@ -211,6 +240,9 @@ impl Maker {
                 self.refused_event();
                 self.refused_event();
             }
+            if self.national_now(1, 5) {
+                self.net_phase();
+            }
             match self.random.below(20) {
                 0..=7 => {
                     let amount = self.random.range(5, 40);
@@ -261,7 +293,17 @@ impl Maker {
         self.push_frame(bytes(&event), SPACE);
     }
 
+    /// A frame of the list. A sweep that would be refused 15 gets another limit: each
+    /// one, or two of three where such sweeps may come.
     fn push_frame(&mut self, frame: Vec<u8>, space: usize) {
+        let frame = match better_sweep(&self.book, &frame) {
+            Some(sweep) if !self.national_now(1, 3) => bytes(&sweep),
+            _ => frame,
+        };
+        self.push_as_it_is(frame, space);
+    }
+
+    fn push_as_it_is(&mut self, frame: Vec<u8>, space: usize) {
         self.book.step(&frame, space);
         self.list.push(Input { frame, space });
     }
@@ -1253,7 +1295,7 @@ impl Maker {
             self.complex_event(strategy, side, MARKET_MAKER, DAY, limit);
         }
         for leg in self.book.legs(strategy).to_vec() {
-            let leg_side = 1 - crate::nets::side_taken(side, &leg);
+            let leg_side = 1 - side_taken(side, &leg);
             self.make_leg_room(2);
             self.leg_order_event(leg.series, leg_side);
             self.leg_order_event(leg.series, leg_side);
@@ -1287,32 +1329,16 @@ impl Maker {
                 self.series_event(leg.series, 1);
             }
         }
-        // One leg order for the net of its own side, the others for the net it
-        // takes, at prices that grow worse.
-        for place in 0..LEG_ORDERS {
-            let leg = &legs[place % legs.len()];
-            let level = (place / legs.len()) as i64;
-            let taken = crate::nets::side_taken(side, leg);
-            let away = if taken == BUY { 1 } else { -1 };
-            let centre = self.centres[usize::from(leg.series)];
-            let (own, distance) = if level == 0 {
-                (taken, -20)
-            } else {
-                (1 - taken, level)
-            };
-            let ratio = i64::from(leg.ratio);
-            let contracts = ratio * self.random.range(1, 9) + self.random.range(0, ratio - 1);
-            self.push(Event::LegOrder {
-                member: 1 + place as u16,
-                series: leg.series,
-                side: own,
-                contracts: contracts as u16,
-                price: (centre + away * distance).clamp(1, 99_999) as u32,
-            });
+        // A leg order in each leg for the net of the starter's own side.
+        for place in 0..legs.len() {
+            self.heavy_leg_order(&legs, place, side);
         }
-        let Some(net) = self.book.leg_net(strategy, side) else {
-            return;
+        let price = |leg: &Leg| self.heavy_price(leg, side, 1) * i64::from(leg.ratio);
+        let signed = |leg: &Leg| match leg.side {
+            BUY => price(leg),
+            _ => -price(leg),
         };
+        let net: i64 = legs.iter().map(signed).sum();
         let limit = if side == BUY { net + 60 } else { net - 60 } as i32;
         let life = self.random.pick(&[DAY, IMMEDIATE]);
         let class = self.random.pick(&[1, 2]);
@@ -1348,8 +1374,214 @@ impl Maker {
                 limit,
             });
         }
+        // The others for the net that the starter takes. The sweeps would not better
+        // it; it was unknown when they came.
+        for place in legs.len()..LEG_ORDERS {
+            self.heavy_leg_order(&legs, place, side);
+        }
         let milliseconds = (self.book.clock + self.book.timer).min(86_400_000);
         self.push(Event::Clock { milliseconds });
+    }
+
+    /// A price of the leg so many cents from its centre, worse for a starter of this
+    /// side.
+    fn heavy_price(&self, leg: &Leg, side: u8, distance: i64) -> i64 {
+        let away = if side_taken(side, leg) == BUY { 1 } else { -1 };
+        (self.centres[usize::from(leg.series)] + away * distance).clamp(1, 99_999)
+    }
+
+    /// A leg order of the heavy phase: the first of each leg on the side that the
+    /// starter takes itself, the others on the other one, at prices that grow worse.
+    fn heavy_leg_order(&mut self, legs: &[Leg], place: usize, side: u8) {
+        let leg = &legs[place % legs.len()];
+        let level = (place / legs.len()) as i64;
+        let taken = side_taken(side, leg);
+        let (own, distance) = if level == 0 {
+            (taken, -20)
+        } else {
+            (1 - taken, level)
+        };
+        let ratio = i64::from(leg.ratio);
+        let contracts = ratio * self.random.range(1, 9) + self.random.range(0, ratio - 1);
+        let price = self.heavy_price(leg, side, distance);
+        self.push(Event::LegOrder {
+            member: 1 + place as u16,
+            series: leg.series,
+            side: own,
+            contracts: contracts as u16,
+            price: price as u32,
+        });
+    }
+
+    /// An auction with sweeps at the net of their side and a cent to each side of it.
+    /// Leg orders come, trade and are cancelled between them, and the same sweeps come
+    /// again.
+    fn net_phase(&mut self) {
+        if self.book.strategies.is_empty() {
+            return self.strategy_event();
+        }
+        let strategy = self.some_strategy();
+        self.make_ready(strategy);
+        if !self.book.auction_runs(strategy) {
+            self.start_auction(strategy);
+        }
+        if self.random.chance(1, 3) {
+            self.full_sweeps(strategy);
+        }
+        for _ in 0..self.random.range(2, 9) {
+            if !self.book.auction_runs(strategy) {
+                break;
+            }
+            for _ in 0..self.random.range(1, 5) {
+                self.near_sweep(strategy);
+            }
+            self.move_net(strategy);
+        }
+        self.near_sweep(strategy);
+        if self.random.chance(5, 6) {
+            let milliseconds = (self.book.clock + self.book.timer).min(86_400_000);
+            self.push(Event::Clock { milliseconds });
+        }
+    }
+
+    fn push_sweep(&mut self, member: u16, strategy: u8, side: u8, units: u16, limit: i32) {
+        let sweep = Event::Sweep {
+            member,
+            strategy,
+            side,
+            units,
+            limit,
+        };
+        self.push_as_it_is(bytes(&sweep), SPACE);
+    }
+
+    /// A sweep near the net of its side; or a live one once more, with other units or
+    /// none.
+    fn near_sweep(&mut self, strategy: u8) {
+        let live: Vec<Entry> = (self.book.sweeps())
+            .filter(|sweep| sweep.strategy == strategy)
+            .copied()
+            .collect();
+        if !live.is_empty() && self.random.chance(2, 5) {
+            let old = self.random.pick(&live);
+            let units = match self.random.below(4) {
+                0 => 0,
+                _ => self.some_units(),
+            };
+            return self.push_sweep(old.member, strategy, old.side, units, old.limit);
+        }
+        let side = self.random.range(0, 1) as u8;
+        let towards = if side == BUY { 1 } else { -1 };
+        let limit = match self.book.leg_net(strategy, 1 - side) {
+            Some(net) => net + towards * self.random.pick(&[-2, -1, 0, 0, 0, 1, 1, 1, 2, 3]),
+            None => i64::from(self.some_limit(strategy)),
+        };
+        let units = match self.random.below(8) {
+            0 => 0,
+            _ => self.some_units(),
+        };
+        let member = self.random.range(1, 9) as u16;
+        self.push_sweep(member, strategy, side, units, limit as i32);
+    }
+
+    /// Sweeps until their table is full, and some near the nets.
+    fn full_sweeps(&mut self, strategy: u8) {
+        for member in 1..=2 * SWEEPS as u16 {
+            if self.book.sweeps().count() == SWEEPS {
+                break;
+            }
+            let side = self.random.range(0, 1) as u8;
+            let (units, limit) = (self.some_units(), self.some_limit(strategy));
+            self.push(Event::Sweep {
+                member,
+                strategy,
+                side,
+                units,
+                limit,
+            });
+        }
+        for _ in 0..4 {
+            self.near_sweep(strategy);
+        }
+    }
+
+    /// Makes a net of the strategy better, worse or unknown, by leg orders that rest
+    /// or trade, or by cancels.
+    fn move_net(&mut self, strategy: u8) {
+        let legs = self.book.legs(strategy).to_vec();
+        let leg = self.random.pick(&legs);
+        // The side of the leg orders that the net of this side takes.
+        let own = side_taken(self.random.range(0, 1) as u8, &leg);
+        let away = if own == BUY { -1 } else { 1 };
+        let best = self.book.depth(leg.series, own);
+        let Some(best) = best else {
+            self.make_leg_room(1);
+            return self.leg_order_event(leg.series, own);
+        };
+        let (member, contracts) = (self.member(), self.some_contracts());
+        let order = |side: u8, contracts: u32, price: i64| Event::LegOrder {
+            member,
+            series: leg.series,
+            side,
+            contracts: contracts.clamp(1, 9_999) as u16,
+            price: price.clamp(1, 99_999) as u32,
+        };
+        let price = i64::from(best.price);
+        let better = price - away * self.random.range(1, 3);
+        match self.random.below(9) {
+            // Some of them hold less than the ratio.
+            0..=1 => {
+                self.make_leg_room(1);
+                self.push(order(own, 1, better));
+            }
+            2..=3 => {
+                self.make_leg_room(1);
+                self.push(order(own, u32::from(contracts), better));
+            }
+            4 => {
+                self.make_leg_room(1);
+                self.push(order(own, u32::from(contracts), price + away));
+            }
+            5..=6 => {
+                self.make_leg_room(1);
+                self.push(order(1 - own, best.contracts, price));
+            }
+            case => {
+                let all = case == 8;
+                let orders: Vec<(u16, u32)> = (self.book.leg_orders_of(leg.series, own))
+                    .filter(|order| all || order.price == best.price)
+                    .map(|order| (order.member, order.number))
+                    .collect();
+                for (member, number) in orders {
+                    self.push(Event::Cancel { member, number });
+                }
+            }
+        }
+    }
+
+    /// Moves the net of this side past the live sweeps: the other side of a leg is
+    /// cancelled, and a leg order comes 20 cents better than the best price.
+    fn pass_sweeps(&mut self, strategy: u8, side: u8) {
+        let leg = self.book.legs(strategy)[0];
+        let own = side_taken(side, &leg);
+        let others: Vec<(u16, u32)> = (self.book.leg_orders_of(leg.series, 1 - own))
+            .map(|order| (order.member, order.number))
+            .collect();
+        for (member, number) in others {
+            self.push(Event::Cancel { member, number });
+        }
+        let Some(best) = self.book.depth(leg.series, own) else {
+            return;
+        };
+        let away = if own == BUY { -20 } else { 20 };
+        self.make_leg_room(1);
+        self.push(Event::LegOrder {
+            member: 1,
+            series: leg.series,
+            side: own,
+            contracts: 9,
+            price: (i64::from(best.price) - away).clamp(1, 99_999) as u32,
+        });
     }
 
     /// Gives the last numbers while an auction runs, then replaces and withdraws
@@ -1374,20 +1606,31 @@ impl Maker {
                 limit,
             });
         }
+        let side = self.random.range(0, 1) as u8;
+        if self.national.is_some() {
+            self.pass_sweeps(strategy, side);
+        }
         while self.book.given < LAST_NUMBER {
             self.make_complex_room(1);
             self.complex_event(strategy, BUY, MARKET_MAKER, DO_NOT_AUCTION, -9_000_000);
         }
+        if let (Some(net), Some(_)) = (self.book.leg_net(strategy, 1 - side), &self.national) {
+            // A full table would come before the numbers.
+            let excess = self.book.sweeps().count().saturating_sub(SWEEPS - 1);
+            let first: Vec<Entry> = self.book.sweeps().copied().take(excess).collect();
+            for old in first {
+                self.push_sweep(old.member, old.strategy, old.side, 0, old.limit);
+            }
+            for member in 1..=6 {
+                for limit in net - 1..=net + 1 {
+                    self.push_sweep(member, strategy, side, 1, limit as i32);
+                }
+            }
+        }
         let sweeps: Vec<Entry> = self.book.sweeps().copied().collect();
         for sweep in sweeps {
             for units in [1, 0, 0] {
-                self.push(Event::Sweep {
-                    member: sweep.member,
-                    strategy: sweep.strategy,
-                    side: sweep.side,
-                    units,
-                    limit: sweep.limit,
-                });
+                self.push_sweep(sweep.member, sweep.strategy, sweep.side, units, sweep.limit);
             }
         }
     }

@@ -1,6 +1,6 @@
-//! Document 01, "The totals after a list", and what request 2026-01 claims of each
-//! fill, reckoned from the events, the answers and the records alone; of the last
-//! book only the live quantities.
+//! Document 01, "The totals after a list", what request 2026-01 claims of each fill
+//! and request 2026-03 of each sweep, reckoned from the events, the answers and the
+//! records alone; of the last book only the live quantities.
 
 use crate::book::{BUY, LAST_NUMBER};
 use crate::events::Answer;
@@ -197,8 +197,121 @@ fn within_the_range(
     Ok(())
 }
 
-/// The claims of "The totals after a list"; a description of the first one that
-/// fails. `live` is the lookup of the book after the list.
+/// A leg order as the list so far tells it.
+struct LegOrder {
+    series: u8,
+    side: u8,
+    price: i128,
+    /// What it entered less its records 2 and 3.
+    contracts: i128,
+}
+
+/// The leg orders before an event, by number: those that entered, with contracts left.
+#[derive(Default)]
+struct LegBook {
+    orders: BTreeMap<i64, LegOrder>,
+}
+
+impl LegBook {
+    /// Takes in an accepted event and its records.
+    fn learn(&mut self, event: &Event, answer: &Answer) {
+        if let (
+            Event::LegOrder {
+                series,
+                side,
+                contracts,
+                price,
+                ..
+            },
+            1..,
+        ) = (*event, answer.value)
+        {
+            let order = LegOrder {
+                series,
+                side,
+                price: i128::from(price),
+                contracts: i128::from(contracts),
+            };
+            self.orders.insert(i64::from(answer.value), order);
+        }
+        for record in &answer.records {
+            if let (LEG_FILL | CANCELLED, Some(order)) =
+                (record.kind, self.orders.get_mut(&i64::from(record.number)))
+            {
+                order.contracts -= i128::from(record.quantity);
+            }
+        }
+        self.orders.retain(|_, order| order.contracts > 0);
+    }
+
+    /// The highest bid or the lowest offer of a series.
+    fn best(&self, series: u8, side: u8) -> Option<i128> {
+        let own = (self.orders.values())
+            .filter(|order| order.series == series && order.side == side)
+            .map(|order| order.price);
+        match side {
+            BUY => own.max(),
+            _ => own.min(),
+        }
+    }
+
+    /// The bid net (side 0) or the offer net (side 1); none if it is unknown. The bid
+    /// net takes bids for buy legs, offers for sell legs; the offer net the reverse.
+    fn net(&self, legs: &[Leg], side: u8) -> Option<i128> {
+        let values = legs.iter().map(|leg| {
+            let taken = if leg.side == BUY { side } else { 1 - side };
+            let value = i128::from(leg.ratio) * self.best(leg.series, taken)?;
+            Some(if leg.side == BUY { value } else { -value })
+        });
+        values.sum()
+    }
+}
+
+/// Request 2026-03: "a sweep of 1 unit or more has to be above the bid net when it
+/// buys, below the offer net when it sells. Where that net is unknown, every price
+/// betters it. Sweeps already in are not looked at again when the legs move." Claimed
+/// of every sweep that entered, with records or without: it bettered the net of its
+/// side, as the events before its own left the leg orders, or that net was unknown. So
+/// each record 1, 2 or 3 of a sweep belongs to one that bettered.
+fn sweeps_better(
+    inputs: &[Input],
+    answers: &[Answer],
+    strategies: &BTreeMap<u32, Vec<Leg>>,
+) -> Result<(), String> {
+    let mut legs_before = LegBook::default();
+    let accepted = (inputs.iter().zip(answers))
+        .filter(|(_, answer)| answer.answer == 0)
+        .filter_map(|(input, answer)| Some((read(&input.frame).ok()?, answer)));
+    for (event, answer) in accepted {
+        if let (
+            Event::Sweep {
+                strategy,
+                side,
+                limit,
+                ..
+            },
+            number @ 1..,
+        ) = (event, answer.value)
+        {
+            let Some(legs) = strategies.get(&u32::from(strategy)) else {
+                return Err(format!("number {number} sweeps in no strategy"));
+            };
+            let limit = i128::from(limit);
+            let betters = legs_before.net(legs, side).is_none_or(|net| match side {
+                BUY => limit > net,
+                _ => limit < net,
+            });
+            if !betters {
+                return Err(format!("number {number} is a sweep that betters nothing"));
+            }
+        }
+        legs_before.learn(&event, answer);
+    }
+    Ok(())
+}
+
+/// The claims of "The totals after a list" and of the requests; a description of the
+/// first one that fails. `live` is the lookup of the book after the list.
 pub fn check(
     inputs: &[Input],
     answers: &[Answer],
@@ -272,6 +385,7 @@ pub fn check(
     }
 
     within_the_range(inputs, answers, &orders, &strategies)?;
+    sweeps_better(inputs, answers, &strategies)?;
 
     for (number, order) in &orders {
         let empty = Sums::default();

@@ -7,7 +7,7 @@ mod common;
 
 use common::two_walks;
 use reckoning::book::{depth, Book, Entry, BUY, RECORDS, SELL, SPACE};
-use reckoning::coverage::{self, SITUATIONS};
+use reckoning::coverage::{self, LAST_SITUATIONS, SITUATIONS};
 use reckoning::events::Answer;
 use reckoning::frames::{bytes, read, Event, Leg};
 use reckoning::generate::{list, long_list, national_list, stream, tail, Input, Options};
@@ -110,7 +110,7 @@ fn sound(book: &Book, national: bool) {
 struct Reached {
     events: usize,
     /// Events by answer, accepted events by kind, records by kind.
-    answers: [u64; 15],
+    answers: [u64; 16],
     accepted: [u64; 11],
     records: [u64; 6],
     /// The most records of one event.
@@ -170,15 +170,18 @@ fn every_situation_occurs() {
     let plain: Vec<Vec<Input>> = (0..100).map(|seed| list(seed, 2_000, options)).collect();
     reached.add(&plain);
     // Without national prices nothing on the other side meets the starter's limit
-    // after its pass, no order rests crossed, and no pass stops.
+    // after its pass, no order rests crossed, and no pass stops. Every sweep betters
+    // its net.
     for situation in reached.situations.keys() {
         assert!(
             *situation != "end: a later pass meets the starter's rest"
                 && !situation.contains("crossed")
-                && !situation.contains("stop"),
+                && !situation.contains("stop")
+                && !situation.contains("15"),
             "{situation}"
         );
     }
+    assert_eq!(reached.answers[15], 0);
     let mut lists: Vec<Vec<Input>> = (0..100)
         .map(|seed| national_list(seed, 2_000, options))
         .collect();
@@ -188,7 +191,7 @@ fn every_situation_occurs() {
         "events {}, most records of one event {}",
         reached.events, reached.most
     );
-    println!("answers 0 to 14: {:?}", reached.answers);
+    println!("answers 0 to 15: {:?}", reached.answers);
     println!("accepted by kind 1 to 10: {:?}", &reached.accepted[1..]);
     println!("records by kind 1 to 5: {:?}", &reached.records[1..]);
     for (situation, count) in &reached.situations {
@@ -208,8 +211,15 @@ fn every_situation_occurs() {
         let count = reached.count(situation);
         assert!(count >= 25, "{situation}: {count} times");
     }
+    for situation in LAST_SITUATIONS {
+        let count = reached.count(situation);
+        assert!(count >= 2, "{situation}: {count} times");
+    }
     for situation in reached.situations.keys() {
-        assert!(SITUATIONS.contains(situation), "{situation} is not listed");
+        assert!(
+            SITUATIONS.contains(situation) || LAST_SITUATIONS.contains(situation),
+            "{situation} is not listed"
+        );
     }
 }
 
@@ -225,11 +235,12 @@ fn digest(lists: impl Iterator<Item = Vec<Input>>) -> u64 {
     digest
 }
 
+/// They changed last with request 2026-03: their sweeps better the net.
 #[test]
 fn the_lists_of_kinds_1_to_8_stay_as_they_are() {
     for (loose, day_ends, expected) in [
-        (false, true, 0x6e16_7103_6778_1439_u64),
-        (true, true, 0x2a6b_095f_8233_1aa7),
+        (false, true, 0x3a1d_d930_34bf_92c1_u64),
+        (true, true, 0x8952_74f3_d9b1_4644),
     ] {
         let options = Options { loose, day_ends };
         let lists = (1..=60).map(|seed| list(seed, 2_500, options));
@@ -596,6 +607,309 @@ fn the_range_claim_goes_by_what_was_accepted_before_the_fill() {
     };
     assert_eq!(at(208, &after(2)), Ok(()));
     assert_eq!(at(208, &after(4)), Ok(()));
+}
+
+/// The claim that a sweep betters nothing, if the checker makes it.
+fn bettered_nothing(day: &Day) -> Option<String> {
+    holds(day)
+        .err()
+        .filter(|claim| claim.contains("a sweep that betters nothing"))
+}
+
+/// The limit in a sweep's frame becomes this one.
+fn set_limit(input: &mut Input, limit: i64) {
+    input.frame[10..].copy_from_slice(&(limit as i32).to_le_bytes());
+}
+
+#[test]
+fn the_checker_finds_sweeps_that_better_nothing() {
+    let options = Options {
+        loose: true,
+        day_ends: false,
+    };
+    let (mut told, mut moved) = (0, 0);
+    for seed in 0..6 {
+        for good in days(&national_list(seed, 800, options)) {
+            assert_eq!(holds(&good), Ok(()));
+            let mut book = Book::fresh(good.timer);
+            for (at, input) in good.inputs.iter().enumerate() {
+                let before = book.clone();
+                let answer = book.step(&input.frame, input.space);
+                let Ok(Event::Sweep {
+                    strategy,
+                    side,
+                    units: units @ 1..,
+                    ..
+                }) = read(&input.frame)
+                else {
+                    continue;
+                };
+                let mut day = good.clone();
+                if answer.answer == 15 {
+                    // Told as accepted under a number of its own, and cancelled at
+                    // once: every sum is right.
+                    day.answers[at].answer = 0;
+                    day.answers[at].value = 99_999;
+                    let record = Record::cancelled(99_999, side, u32::from(units));
+                    day.answers[at].records.push(record);
+                    let claim = "number 99999 is a sweep that betters nothing";
+                    assert_eq!(holds(&day), Err(claim.to_string()));
+                    told += 1;
+                    continue;
+                }
+                let own = |record: &&Record| record.number as u32 == answer.value;
+                let records = day.answers.iter().flat_map(|answer| &answer.records);
+                let kinds: Vec<i32> = records.filter(own).map(|record| record.kind).collect();
+                if answer.answer != 0 || kinds != [CANCELLED] {
+                    continue;
+                }
+                // Another limit near the net: nothing else is claimed of what was
+                // cancelled.
+                let net = before.leg_net(strategy, 1 - side);
+                let Some(net) = net else { continue };
+                let worse = if side == BUY { -1 } else { 1 };
+                for (cents, found) in [(-2, false), (-1, false), (0, true), (1, true)] {
+                    set_limit(&mut day.inputs[at], net + worse * cents);
+                    let number = answer.value;
+                    let claim = format!("number {number} is a sweep that betters nothing");
+                    assert_eq!(holds(&day), if found { Err(claim) } else { Ok(()) });
+                }
+                moved += 1;
+            }
+        }
+    }
+    println!("told as accepted: {told}, another limit: {moved}");
+    assert!(told > 100 && moved > 100, "{told}, {moved}");
+}
+
+/// A day whose offer net is 205 when a sweep of 5 units sells at 204, number 9: the
+/// leg orders 6 and 7, with offer nets of 203 and 202, were cancelled and filled
+/// before; 10, with 203, comes after it. Two units are filled, three cancelled.
+fn one_sweep() -> Day {
+    let series = |series| Event::Series { series, state: 1 };
+    let leg = |series, side, ratio| Leg {
+        series,
+        side,
+        ratio,
+    };
+    let mut legs = [Leg::default(); 6];
+    // 1:1 after the division.
+    legs[..2].copy_from_slice(&[leg(1, SELL, 3), leg(0, BUY, 3)]);
+    let leg_order = |series, side, contracts, price| Event::LegOrder {
+        member: 7,
+        series,
+        side,
+        contracts,
+        price,
+    };
+    let events = [
+        series(0),
+        series(1),
+        Event::Strategy { count: 2, legs },
+        leg_order(0, BUY, 10, 300),
+        leg_order(0, SELL, 10, 305),
+        leg_order(1, BUY, 10, 100),
+        leg_order(1, SELL, 10, 103),
+        Event::Complex {
+            member: 8,
+            strategy: 0,
+            side: BUY,
+            class: 1,
+            life: 0,
+            units: 2,
+            limit: 206,
+        },
+        leg_order(0, SELL, 3, 303),
+        Event::Cancel {
+            member: 7,
+            number: 6,
+        },
+        leg_order(0, SELL, 4, 302),
+        leg_order(0, BUY, 4, 302),
+        Event::Sweep {
+            member: 9,
+            strategy: 0,
+            side: SELL,
+            units: 5,
+            limit: 204,
+        },
+        leg_order(0, SELL, 1, 303),
+        Event::Clock {
+            milliseconds: 5_000,
+        },
+    ];
+    let inputs: Vec<Input> = (events.iter())
+        .map(|event| Input {
+            frame: bytes(event),
+            space: SPACE,
+        })
+        .collect();
+    days(&inputs).pop().expect("one day")
+}
+
+#[test]
+fn the_sweep_claim_goes_by_the_leg_orders_before_it() {
+    const CANCEL: usize = 9;
+    const TRADE: usize = 11;
+    const SWEEP: usize = 12;
+    const LATER: usize = 13;
+    const END: usize = 14;
+    let good = one_sweep();
+    assert_eq!(holds(&good), Ok(()));
+    assert!(good.answers.iter().all(|answer| answer.answer == 0));
+    let of_sweep = |day: &Day| -> Vec<i32> {
+        let own = (day.answers[END].records.iter()).filter(|record| record.number == 9);
+        own.map(|record| record.kind).collect()
+    };
+    assert_eq!(of_sweep(&good), [1, 2, 2, 3]);
+    // The sweep and its fill at another limit, which the buyer's allows.
+    let at = |limit: i64| {
+        let mut day = good.clone();
+        set_limit(&mut day.inputs[SWEEP], limit);
+        for record in &mut day.answers[END].records {
+            if record.kind == WHOLE_FILL {
+                record.price = limit as i32;
+            }
+        }
+        day
+    };
+    let claim = "number 9 is a sweep that betters nothing";
+    for limit in [-5, 203, 204] {
+        assert_eq!(holds(&at(limit)), Ok(()), "{limit}");
+    }
+    for limit in [205, 206] {
+        assert_eq!(holds(&at(limit)), Err(claim.to_string()), "{limit}");
+    }
+    // The leg orders that are gone, and the one that comes after it.
+    for (event, best) in [(CANCEL, 203), (TRADE, 202)] {
+        for limit in [best - 1, best] {
+            let mut day = at(i64::from(limit));
+            day.answers[event].records.clear();
+            assert_eq!(bettered_nothing(&day).is_some(), limit == best, "{event}");
+        }
+    }
+    for limit in [202, 203] {
+        let mut day = at(limit);
+        day.inputs.swap(SWEEP, LATER);
+        day.answers.swap(SWEEP, LATER);
+        assert_eq!(bettered_nothing(&day).is_some(), limit == 203);
+    }
+    // A part of the trade leaves the rest at 302.
+    let mut day = at(202);
+    for record in &mut day.answers[TRADE].records {
+        record.quantity -= 1;
+    }
+    assert!(bettered_nothing(&day).is_some());
+    // Of the leg orders that the offer net takes none may be missing; those of the
+    // bid net play no part.
+    for (event, unknown) in [(3, false), (4, true), (5, true), (6, false)] {
+        let mut day = at(206);
+        day.answers[event].answer = 1;
+        assert_eq!(bettered_nothing(&day).is_none(), unknown, "{event}");
+    }
+    // The legs are those of the strategy's own event: offers 2 x 305 less 100.
+    let mut day = at(206);
+    day.inputs[2].frame[7] = 1;
+    day.inputs[2].frame[10] = 2;
+    assert_eq!(bettered_nothing(&day), None);
+    // Whichever of its records are told, or none.
+    for kept in [0, 1, 2, 3] {
+        let mut day = at(205);
+        let records = &mut day.answers[END].records;
+        records.retain(|record| record.number != 9 || record.kind == kept);
+        assert!(bettered_nothing(&day).is_some(), "{kept}");
+    }
+    // One that did not enter has no such claim: refused, or with no number.
+    for (answer, value) in [(15, 0), (0, 0)] {
+        let mut day = at(205);
+        day.answers[SWEEP].answer = answer;
+        day.answers[SWEEP].value = value;
+        assert_eq!(bettered_nothing(&day), None, "{answer}");
+    }
+    // A sweep that is told as an order has no such claim.
+    let mut day = at(205);
+    day.inputs[SWEEP].frame = bytes(&Event::Complex {
+        member: 9,
+        strategy: 0,
+        side: SELL,
+        class: 3,
+        life: 2,
+        units: 5,
+        limit: 205,
+    });
+    assert_eq!(holds(&day), Ok(()));
+}
+
+#[test]
+fn the_checker_finds_live_sweeps_that_better_nothing() {
+    // The list ends with the sweep: all 5 units of it are live, and no record is of
+    // it, so that no other claim looks at its limit.
+    const SWEEP: usize = 12;
+    let inputs = &one_sweep().inputs[..=SWEEP];
+    let claim = "number 9 is a sweep that betters nothing";
+    let limits = [
+        (SELL, [-5, 203, 204], [205, 206]),
+        (BUY, [198, 199, 206], [-5, 197]),
+    ];
+    for (side, better, not_better) in limits {
+        let mut inputs = inputs.to_vec();
+        inputs[SWEEP].frame = bytes(&Event::Sweep {
+            member: 9,
+            strategy: 0,
+            side,
+            units: 5,
+            limit: better[0],
+        });
+        let good = days(&inputs).pop().expect("one day");
+        assert_eq!(good.answers[SWEEP].value, 9);
+        let mut records = good.answers.iter().flat_map(|answer| &answer.records);
+        assert!(records.all(|record| record.number != 9));
+        assert_eq!(good.book.live(9), 5);
+        let at = |limit: i32| {
+            let mut day = good.clone();
+            set_limit(&mut day.inputs[SWEEP], i64::from(limit));
+            day
+        };
+        for limit in better {
+            assert_eq!(holds(&at(limit)), Ok(()), "{side}, {limit}");
+        }
+        for limit in not_better {
+            let verdict = holds(&at(limit));
+            assert_eq!(verdict, Err(claim.to_string()), "{side}, {limit}");
+        }
+    }
+
+    // Sweeps that were refused 15, told as accepted and live.
+    let options = Options {
+        loose: true,
+        day_ends: false,
+    };
+    let mut told = 0;
+    for seed in 0..6 {
+        for good in days(&national_list(seed, 800, options)) {
+            for (at, input) in good.inputs.iter().enumerate() {
+                let Ok(Event::Sweep { units, .. }) = read(&input.frame) else {
+                    continue;
+                };
+                if good.answers[at].answer != 15 {
+                    continue;
+                }
+                let mut answers = good.answers.clone();
+                answers[at].answer = 0;
+                answers[at].value = 99_999;
+                let live = |asked: u32| match asked {
+                    99_999 => u32::from(units),
+                    _ => good.book.live(asked),
+                };
+                let claim = "number 99999 is a sweep that betters nothing";
+                let verdict = check(&good.inputs, &answers, &live);
+                assert_eq!(verdict, Err(claim.to_string()));
+                told += 1;
+            }
+        }
+    }
+    println!("told as live: {told}");
+    assert!(told > 100, "{told}");
 }
 
 #[test]

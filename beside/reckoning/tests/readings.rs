@@ -130,6 +130,8 @@ fn live_units_are_shared_and_the_groups_go_in_their_order() {
     );
     bench.value(complex(7, 0, BUY, CUSTOMER, IMMEDIATE, 10, 205));
     bench.value(complex(8, 0, SELL, BROKER, RESPONSE, 9, 205));
+    // With an unknown offer net the sweep betters it (2026-03).
+    bench.value(cancel(2, 2));
     bench.value(sweep(9, 0, SELL, 3, 205));
     bench.value(complex(10, 0, SELL, CUSTOMER, RESPONSE, 2, 205));
     let mut expected = whole((7, BUY), 10, 2, 205);
@@ -506,7 +508,10 @@ fn shutting_leaves_leg_orders_alone() {
 fn an_opposite_sweep_bars_the_legs_even_when_withdrawn() {
     let mut bench = Bench::market();
     bench.value(complex(5, 0, BUY, CUSTOMER, DAY, 2, 205));
+    // Where the offer net is unknown a sale at any price betters it (2026-03).
+    bench.value(cancel(2, 2));
     bench.value(sweep(6, 0, SELL, 1, 9_000_000));
+    bench.value(leg_order(2, 0, SELL, 10, 305));
     let (value, records) = bench.accepted(sweep(6, 0, SELL, 0, 9_000_000));
     assert_eq!((value, records), (0, vec![[3, 6, 0, 1, 1, 0]]));
     assert_eq!(bench.records(clock(5_000)), [[5, 5, 0, 0, 0, 0]]);
@@ -527,7 +532,7 @@ fn entries_of_the_same_side_and_do_not_auction_bar_nothing() {
     let mut bench = Bench::market();
     bench.value(complex(5, 0, BUY, CUSTOMER, DAY, 2, 205));
     bench.value(complex(6, 0, SELL, MAKER, DO_NOT_AUCTION, 1, 300));
-    bench.value(sweep(7, 0, BUY, 1, 190));
+    bench.value(sweep(7, 0, BUY, 1, 198));
     bench.value(complex(8, 0, BUY, MAKER, DAY, 1, 190));
     let mut expected = bought_by_legs(5, 2);
     expected.push([3, 7, 0, 0, 1, 0]);
@@ -554,10 +559,16 @@ fn waiting_orders_use_legs_and_sweeps_never_do() {
     bench.value(sweep(6, 0, BUY, 2, 205));
     bench.value(complex(7, 0, BUY, MAKER, RESPONSE, 2, 205));
     bench.value(complex(8, 0, BUY, BROKER, DAY, 1, 205));
-    // It bars the starter, and only the starter.
+    // It bars the starter, and only the starter. It comes where the offer net is
+    // unknown (2026-03), before the leg order 10.
+    bench.value(cancel(2, 2));
     bench.value(sweep(9, 0, SELL, 1, 300));
+    bench.value(leg_order(2, 0, SELL, 10, 305));
     let mut expected = bought_by_legs(7, 2);
     expected.extend(bought_by_legs(8, 1));
+    for record in expected.iter_mut().filter(|record| record[1] == 2) {
+        record[1] = 10;
+    }
     expected.push([3, 6, 0, 0, 2, 0]);
     expected.push([3, 9, 0, 1, 1, 0]);
     expected.push([5, 5, 0, 0, 0, 0]);
@@ -618,8 +629,8 @@ fn each_auction_is_finished_before_the_next() {
     let mut bench = Bench::two_strategies();
     bench.value(complex(7, 1, BUY, CUSTOMER, DAY, 1, 255));
     bench.value(complex(8, 0, BUY, CUSTOMER, DAY, 1, 205));
-    bench.value(sweep(9, 1, BUY, 1, 190));
-    bench.value(sweep(10, 0, BUY, 1, 190));
+    bench.value(sweep(9, 1, BUY, 1, 248));
+    bench.value(sweep(10, 0, BUY, 1, 198));
     let mut expected = bought_by_legs(8, 1);
     expected.push([3, 10, 0, 0, 1, 0]);
     expected.push([5, 8, 0, 0, 0, 0]);
@@ -729,8 +740,9 @@ fn member_is_1_to_65535_wherever_it_stands() {
     }
 }
 
-// Reading 24, with request 2026-01: the first in the order in which they are
-// checked. Among the causes that one event can have, the first is the smallest.
+// Reading 24, with requests 2026-01 and 2026-03: the first in the order in which
+// they are checked. Among the causes that one event can have, the first is the
+// smallest, but for a sweep's 15 (tests/sweeps.rs).
 
 #[test]
 fn the_smallest_refusal_is_given() {
@@ -764,30 +776,34 @@ fn the_smallest_refusal_is_given() {
 }
 
 #[test]
-fn fourteen_is_checked_after_3_and_before_4() {
-    // No kind has 14 and one of 4 to 13, so this is asked of the set of causes
-    // and not of a book.
-    let before = |first: u32, second: u32| match (first, second) {
-        (14, _) => second > 3,
-        (_, 14) => first <= 3,
-        _ => first < second,
+fn fourteen_is_checked_after_3_and_fifteen_between_10_and_11() {
+    // No kind has 14 and one of 4 to 13, or 15 and 11, so this is asked of the set of
+    // causes and not of a book.
+    let place = |cause: u32| match cause {
+        14 => (3, 1),
+        15 => (10, 1),
+        _ => (cause, 0),
     };
     assert_eq!(Causes::default().first(), None);
     let mut all = Causes::default();
-    for first in 1..=14 {
+    for first in 1..=15 {
         all.add(first);
         let mut one = Causes::default();
         one.add(first);
         assert_eq!(one.first(), Some(first));
-        for second in (1..=14).filter(|second| *second != first) {
+        for second in (1..=15).filter(|second| *second != first) {
             let mut both = one;
             both.add(second);
-            let answered = if before(first, second) { first } else { second };
+            let answered = if place(first) < place(second) {
+                first
+            } else {
+                second
+            };
             assert_eq!(both.first(), Some(answered), "{first} and {second}");
         }
     }
     assert_eq!(all.first(), Some(1));
-    assert_eq!(ORDER, [1, 2, 3, 14, 4, 5, 6, 7, 8, 9, 10, 11, 12, 13]);
+    assert_eq!(ORDER, [1, 2, 3, 14, 4, 5, 6, 7, 8, 9, 10, 15, 11, 12, 13]);
 }
 
 #[test]
@@ -807,22 +823,22 @@ fn a_sweep_that_replaces_one_takes_its_slot() {
     let mut bench = Bench::market();
     bench.value(complex(5, 0, BUY, CUSTOMER, DAY, 1, 198));
     for member in 1..=16 {
-        bench.value(sweep(member, 0, SELL, 1, 300));
+        bench.value(sweep(member, 0, SELL, 1, 204));
     }
-    assert_eq!(bench.answer(sweep(17, 0, SELL, 1, 300)), 12);
-    assert_eq!(bench.answer(sweep(17, 0, SELL, 0, 300)), 10);
-    assert_eq!(bench.answer(sweep(1, 0, SELL, 1, 301)), 12);
-    assert_eq!(bench.answer(sweep(1, 0, BUY, 1, 300)), 12);
-    let (value, records) = bench.accepted(sweep(3, 0, SELL, 2, 300));
+    assert_eq!(bench.answer(sweep(17, 0, SELL, 1, 204)), 12);
+    assert_eq!(bench.answer(sweep(17, 0, SELL, 0, 204)), 10);
+    assert_eq!(bench.answer(sweep(1, 0, SELL, 1, 203)), 12);
+    assert_eq!(bench.answer(sweep(1, 0, BUY, 1, 204)), 12);
+    let (value, records) = bench.accepted(sweep(3, 0, SELL, 2, 204));
     assert_eq!((value, records), (22, vec![[3, 8, 0, 1, 1, 0]]));
     assert_eq!(
         bench.answer(cancel(3, 22)),
         7,
         "a sweep is not cancelled by 5"
     );
-    let (value, records) = bench.accepted(sweep(3, 0, SELL, 0, 300));
+    let (value, records) = bench.accepted(sweep(3, 0, SELL, 0, 204));
     assert_eq!((value, records), (0, vec![[3, 22, 0, 1, 2, 0]]));
-    assert_eq!(bench.value(sweep(17, 0, SELL, 1, 300)), 23);
+    assert_eq!(bench.value(sweep(17, 0, SELL, 1, 204)), 23);
 }
 
 #[test]
@@ -841,15 +857,15 @@ fn when_all_numbers_are_given_a_sweep_of_0_units_is_accepted() {
         bench.value(complex(5, 0, BUY, MAKER, DO_NOT_AUCTION, 1, 1));
     }
     bench.value(complex(5, 0, BUY, CUSTOMER, DAY, 1, 198));
-    assert_eq!(bench.value(sweep(6, 0, SELL, 1, 300)), 99_999);
-    assert_eq!(bench.value(sweep(7, 0, SELL, 1, 300)), 100_000);
-    assert_eq!(bench.answer(sweep(6, 0, SELL, 1, 300)), 13);
-    assert_eq!(bench.answer(sweep(8, 0, SELL, 1, 300)), 13);
+    assert_eq!(bench.value(sweep(6, 0, SELL, 1, 204)), 99_999);
+    assert_eq!(bench.value(sweep(7, 0, SELL, 1, 204)), 100_000);
+    assert_eq!(bench.answer(sweep(6, 0, SELL, 1, 204)), 13);
+    assert_eq!(bench.answer(sweep(8, 0, SELL, 1, 204)), 13);
     assert_eq!(bench.answer(complex(8, 0, SELL, MAKER, DAY, 1, 300)), 13);
     assert_eq!(bench.answer(leg_order(8, 0, SELL, 1, 300)), 13);
     assert_eq!(bench.answer(leg_order(8, 9, SELL, 1, 300)), 6);
-    assert_eq!(bench.answer(sweep(8, 0, SELL, 0, 300)), 10);
-    let (value, records) = bench.accepted(sweep(6, 0, SELL, 0, 300));
+    assert_eq!(bench.answer(sweep(8, 0, SELL, 0, 204)), 10);
+    let (value, records) = bench.accepted(sweep(6, 0, SELL, 0, 204));
     assert_eq!((value, records), (0, vec![[3, 99_999, 0, 1, 1, 0]]));
     assert_eq!(
         bench.records(clock(5_000)),

@@ -58,16 +58,26 @@ fn vectors(request: &str) -> Vec<PathBuf> {
     paths
 }
 
-#[test]
-fn every_vector_of_2026_01_gives_its_lines() {
-    let paths = vectors("2026-01-");
-    assert_eq!(paths.len(), 6);
+/// Each of the so many vectors of a request gives its lines.
+fn give_their_lines(request: &str, amount: usize) {
+    let paths = vectors(request);
+    assert_eq!(paths.len(), amount);
     for path in paths {
         let hex = fs::read_to_string(&path).expect("the frames");
         let expected = fs::read_to_string(path.with_extension("out")).expect("the lines");
         let calls: Vec<Input> = hex.lines().map(call).collect();
         assert_eq!(printed(&calls), expected, "{}", path.display());
     }
+}
+
+#[test]
+fn every_vector_of_2026_01_gives_its_lines() {
+    give_their_lines("2026-01-", 6);
+}
+
+#[test]
+fn every_vector_of_2026_03_gives_its_lines() {
+    give_their_lines("2026-03-", 1);
 }
 
 #[test]

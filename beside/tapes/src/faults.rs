@@ -102,6 +102,14 @@ fn frame_faults() -> Vec<(&'static str, Fault)> {
             }),
         ),
         (
+            "sweep-limit-one-more",
+            Fault::Frame(|frame| {
+                if is(frame, 3) {
+                    one_more(frame, 10);
+                }
+            }),
+        ),
+        (
             "price-one-more",
             Fault::Frame(|frame| {
                 if is(frame, 4) {

@@ -1,6 +1,6 @@
 //! Days made by hand: ends of the input, long frames, full tables, numbers at the
-//! ends of their ranges, fills at the bounds of the execution range, and fills by
-//! the contracts of a best price.
+//! ends of their ranges, fills at the bounds of the execution range, fills by the
+//! contracts of a best price, and sweeps near the net of their side.
 
 use crate::days::Day;
 use reckoning::book::{Book, COMPLEX_ORDERS, LEG_ORDERS, SPACE, STRATEGIES, SWEEPS};
@@ -646,4 +646,205 @@ fn empty_sides() -> Day {
         made.clear(1);
     }
     day("each choice of sides with a leg order", &made.events)
+}
+
+impl Made {
+    /// A leg order in each leg of this side, a bid of 300 or an offer of 310.
+    fn market(&mut self, side: u8) {
+        for leg in self.book.legs(0).to_vec() {
+            let price = if side == BUY { 300 } else { 310 };
+            self.push(leg_order(1, leg.series, side, 9, price));
+        }
+    }
+
+    /// The net of this side.
+    fn net(&self, side: u8) -> Option<i32> {
+        self.book.leg_net(0, 1 - side).map(|net| net as i32)
+    }
+
+    /// An order of this side that starts an auction, at the net of the other side.
+    fn start(&mut self, side: u8) {
+        let limit = self.net(1 - side).unwrap_or(0);
+        self.push(order(2, side, CUSTOMER, IMMEDIATE, 99, limit));
+    }
+
+    /// Sweeps of a member on both sides, from two cents worse than the net to two
+    /// better, or at any limits where it is unknown.
+    fn sweeps(&mut self, member: u16, units: u16) {
+        for side in [BUY, SELL] {
+            let limits = match self.net(side) {
+                Some(net) => [-2, -1, 0, 1, 2].map(|cents| net + cents),
+                None => [-9_999_999, -1, 0, 1, 9_999_999],
+            };
+            for limit in limits {
+                self.push(sweep(member, side, units, limit));
+            }
+        }
+    }
+
+    /// Every live sweep once more with these units; 0 withdraws it.
+    fn again(&mut self, units: u16) {
+        let live: Vec<_> = self.book.sweeps().copied().collect();
+        for old in live {
+            self.push(sweep(old.member, old.side, units, old.limit));
+        }
+    }
+
+    /// The auction ends.
+    fn end(&mut self) {
+        self.push(clock(self.book.clock + self.book.timer));
+    }
+}
+
+/// Days of sweeps near the net of their side (2026-03).
+pub fn near_nets() -> Vec<Day> {
+    let mut days = Vec::new();
+    let pairs: [&[(u8, u8, u8)]; 5] = [
+        &[(0, BUY, 1), (1, SELL, 1)],
+        &[(0, SELL, 1), (1, BUY, 1)],
+        &[(0, BUY, 3), (1, BUY, 2)],
+        &[(0, SELL, 3), (1, SELL, 1)],
+        &[(0, BUY, 2), (1, SELL, 3), (31, SELL, 1)],
+    ];
+    for legs in pairs {
+        days.push(moved_nets(legs, None));
+        // National nets that are above, and below.
+        days.push(moved_nets(legs, Some((400, 410))));
+        days.push(moved_nets(legs, Some((200, 210))));
+    }
+    days.push(moved_nets(&six_legs(3), None));
+    days.push(known_sides());
+    days.push(full_of_sweeps());
+    days
+}
+
+/// Auctions of both sides, in which leg orders make each net better cent by cent, are
+/// filled and cancelled; before and after each the same sweeps come.
+fn moved_nets(legs: &[(u8, u8, u8)], national: Option<(u32, u32)>) -> Day {
+    let mut made = Made::new(legs);
+    for (number, _, _) in legs {
+        if let Some((bid, offer)) = national {
+            made.push(national_prices(*number, bid, offer));
+        }
+    }
+    for starter in [BUY, SELL] {
+        for (number, _, _) in legs {
+            for side in [BUY, SELL] {
+                made.market(BUY);
+                made.market(SELL);
+                made.start(starter);
+                made.sweeps(3, 1);
+                // One contract does not make the legs ready where the ratio is more.
+                for cents in 1..=2 {
+                    let price = if side == BUY {
+                        300 + cents
+                    } else {
+                        310 - cents
+                    };
+                    made.push(leg_order(4, *number, side, 1, price));
+                    made.again(2);
+                    made.sweeps(3, 3);
+                }
+                // The better of the two is filled, the other cancelled.
+                let price = if side == BUY { 302 } else { 308 };
+                made.push(leg_order(5, *number, 1 - side, 1, price));
+                made.again(4);
+                let other = made.book.best_leg_order(*number, side);
+                made.push(cancel(4, other.map_or(1, |order| order.number)));
+                made.sweeps(3, 5);
+                // Past some of the sweeps; they are refused, withdrawn, and filled.
+                made.push(leg_order(4, *number, side, 1, price));
+                made.again(6);
+                made.sweeps(6, 7);
+                made.push(sweep(3, side, 0, made.net(side).unwrap_or(0)));
+                made.push(sweep(7, side, 0, made.net(side).unwrap_or(0)));
+                made.end();
+                // Without an auction each is refused 9.
+                made.sweeps(3, 1);
+                for (series, _, _) in legs {
+                    made.clear(*series);
+                }
+            }
+        }
+    }
+    let list: Vec<u8> = legs.iter().map(|(_, side, _)| *side).collect();
+    let ratios: Vec<u8> = legs.iter().map(|(_, _, ratio)| *ratio).collect();
+    day(
+        &format!(
+            "sweeps near moved nets, sides {list:?}, ratios {ratios:?}, national prices {national:?}"
+        ),
+        &made.events,
+    )
+}
+
+/// Each choice of the sides of two legs that have an order, while an auction runs:
+/// sweeps of both sides; then the other orders come, and the same sweeps again.
+fn known_sides() -> Day {
+    let mut made = Made::new(&[(0, BUY, 1), (1, SELL, 1)]);
+    let sides = [(0, BUY, 290), (0, SELL, 310), (1, BUY, 90), (1, SELL, 110)];
+    for choice in 0..1 << sides.len() {
+        made.market(BUY);
+        made.market(SELL);
+        made.start(if choice % 2 == 0 { BUY } else { SELL });
+        // All bids or all offers of a leg are filled; then the others go too.
+        let (side, price) = if choice < 8 { (SELL, 300) } else { (BUY, 310) };
+        made.push(leg_order(6, 0, side, 9, price));
+        made.sweeps(3, 1);
+        made.clear(0);
+        made.clear(1);
+        for chosen in [1, 0] {
+            for (at, (number, side, price)) in sides.into_iter().enumerate() {
+                if choice >> at & 1 == chosen {
+                    made.push(leg_order(2, number, side, 9, price));
+                }
+            }
+            made.sweeps(3, 2);
+            made.again(3);
+        }
+        made.again(0);
+        made.end();
+        made.clear(0);
+        made.clear(1);
+    }
+    day("sweeps where one net is known, or none", &made.events)
+}
+
+/// A full table of sweeps, and more of them near the nets; the nets pass those that
+/// are in, and they come again.
+fn full_of_sweeps() -> Day {
+    let mut made = Made::new(&[(0, BUY, 1), (1, SELL, 1)]);
+    for starter in [BUY, SELL] {
+        made.market(BUY);
+        made.market(SELL);
+        made.start(starter);
+        for member in 1..=SWEEPS as u16 {
+            let (side, cents) = ((member % 2) as u8, i32::from(member) / 2 % 3 + 1);
+            let net = made.net(side).unwrap_or(0);
+            let limit = if side == BUY {
+                net + cents
+            } else {
+                net - cents
+            };
+            made.push(sweep(member, side, 2, limit));
+        }
+        made.sweeps(20, 1);
+        for cents in 1..=3 {
+            for (side, price) in [(BUY, 300 + cents), (SELL, 310 - cents)] {
+                made.push(leg_order(4, 0, side, 1, price));
+                made.again(3);
+                made.sweeps(20, 1);
+            }
+        }
+        // One goes; one that betters nothing does not take its slot.
+        let gone = made.book.sweeps().next().copied();
+        if let Some(gone) = gone {
+            made.push(sweep(gone.member, gone.side, 0, gone.limit));
+        }
+        made.sweeps(21, 1);
+        made.sweeps(22, 1);
+        made.end();
+        made.clear(0);
+        made.clear(1);
+    }
+    day("a full table of sweeps near the nets", &made.events)
 }

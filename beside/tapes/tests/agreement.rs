@@ -4,7 +4,7 @@
 #![forbid(unsafe_code)]
 #![deny(warnings)]
 
-use reckoning::coverage::SITUATIONS;
+use reckoning::coverage::{LAST_SITUATIONS, SITUATIONS};
 use reckoning::generate::LAST_KIND;
 use std::path::Path;
 use std::time::Duration;
@@ -12,7 +12,7 @@ use tapes::agree::agrees;
 use tapes::days::{
     any_frames, damaged_frames, every_number, generated, inputs_of_any_bytes, several_days, Day,
 };
-use tapes::hand::{best_prices, ends, extremes, full_tables, long_frames, national};
+use tapes::hand::{best_prices, ends, extremes, full_tables, long_frames, national, near_nets};
 use tapes::program::{Delivery, Program};
 use tapes::tally::{Tally, OTHER};
 
@@ -46,7 +46,7 @@ fn agreed_by(what: &str, days: &[Day], delivery: Delivery) -> Tally {
 const ANSWERS: &[(u32, &[u32])] = &[
     (1, &[0, 2, 3, 5, 12]),
     (2, &[0, 2, 3, 4, 9, 12]),
-    (3, &[0, 2, 3, 4, 9, 10, 12]),
+    (3, &[0, 2, 3, 4, 9, 10, 12, 15]),
     (4, &[0, 2, 3, 6, 12]),
     (5, &[0, 2, 3, 7, 8]),
     (6, &[0, 2, 3]),
@@ -68,7 +68,7 @@ fn generated_days() {
         }
     }
     // 1 is for calls, and 13 for days that give every number.
-    for answer in (0..=14).filter(|answer| ![1, 13].contains(answer)) {
+    for answer in (0..=15).filter(|answer| ![1, 13].contains(answer)) {
         let count = tally.answered(answer);
         assert!(count >= 2_000, "answer {answer}: {count}");
     }
@@ -80,7 +80,7 @@ fn generated_days() {
         let count = tally.of(kind, 0);
         assert!(count >= 20_000, "accepted events of kind {kind}: {count}");
     }
-    assert!(SITUATIONS.len() >= 129);
+    assert!(SITUATIONS.len() >= 165);
     for situation in SITUATIONS {
         let count = tally.reached(situation);
         assert!(count >= 100, "{situation}: {count}");
@@ -100,6 +100,10 @@ fn days_that_give_every_number() {
     for kind in [3, 5, 9, 10] {
         let count = tally.of(kind, 0);
         assert!(count >= 100, "accepted events of kind {kind}: {count}");
+    }
+    for situation in LAST_SITUATIONS {
+        let count = tally.reached(situation);
+        assert!(count >= 5, "{situation}: {count}");
     }
 }
 
@@ -283,6 +287,29 @@ fn best_prices_and_their_contracts() {
             "legs: not ready, a worse price behind would add up to the ratio",
             1_000,
         ),
+    ] {
+        let count = tally.reached(situation);
+        assert!(count >= least, "{situation}: {count}");
+    }
+}
+
+#[test]
+fn sweeps_near_the_net_of_their_side() {
+    let days = near_nets();
+    let tally = agreed("sweeps near the nets", &days);
+    assert!(days.len() >= 18);
+    for (answer, least) in [(0, 2_000), (9, 500), (10, 50), (12, 50), (15, 1_000)] {
+        let count = tally.of(3, answer);
+        assert!(count >= least, "answer {answer}: {count}");
+    }
+    for situation in SITUATIONS {
+        let wanted = situation.starts_with("sweep: ") || situation.starts_with("auction: ");
+        let count = tally.reached(situation);
+        assert!(!wanted || count >= 10, "{situation}: {count}");
+    }
+    for (situation, least) in [
+        ("end: a sweep fills that the net has passed", 10),
+        ("end: a sweep that the net has passed is cancelled", 10),
     ] {
         let count = tally.reached(situation);
         assert!(count >= least, "{situation}: {count}");

@@ -1,7 +1,7 @@
 //! The comparison finds slips in the book itself: the reckoning's sources with
 //! one edit each are built anew, and their tape has to differ from the
 //! reckoning's. Among them are the slips that document 01 names, and those of
-//! requests 2026-01 and 2026-02.
+//! requests 2026-01 to 2026-03.
 
 #![forbid(unsafe_code)]
 #![deny(warnings)]
@@ -11,7 +11,7 @@ use std::path::Path;
 use std::time::Duration;
 use tapes::agree::agrees;
 use tapes::days::{any_frames, every_number, generated, several_days, Day};
-use tapes::hand::{best_prices, ends, extremes, full_tables, national};
+use tapes::hand::{best_prices, ends, extremes, full_tables, national, near_nets};
 use tapes::program::Program;
 use tapes::slips::{built, Slip};
 
@@ -209,14 +209,14 @@ const SLIPS: &[Slip] = &[
     (
         "a starter at its own net",
         "events.rs",
-        ".is_some_and(|net| limit < net)",
-        ".is_some_and(|net| limit <= net)",
+        "(self.betters_own_net(order.strategy, order.side, order.limit)).unwrap_or(false)",
+        "(self.betters_own_net(order.strategy, order.side, order.limit - i32::from(order.side))).unwrap_or(false)",
     ),
     (
         "an auction where the net is unknown",
         "events.rs",
-        "self.bid_net(order.strategy).is_some_and(|net| limit > net)",
-        "self.bid_net(order.strategy).map_or(true, |net| limit > net)",
+        "(self.betters_own_net(order.strategy, order.side, order.limit)).unwrap_or(false)",
+        "(self.betters_own_net(order.strategy, order.side, order.limit)).unwrap_or(order.side == BUY)",
     ),
     (
         "a market maker's auction",
@@ -314,7 +314,7 @@ const SLIPS: &[Slip] = &[
         "the last refusal in the order",
         "events.rs",
         "Some(ORDER[self.0.trailing_zeros() as usize])",
-        "Some(ORDER[15 - self.0.leading_zeros() as usize])",
+        "Some(ORDER[31 - self.0.leading_zeros() as usize])",
     ),
     (
         "number 100,000 not given",
@@ -471,8 +471,8 @@ const SLIPS: &[Slip] = &[
     (
         "an auction not begun where its order may not fill",
         "events.rs",
-        "            && better()\n",
-        "            && better()\n            && self.bounds(order.strategy).allow(order.side, limit)\n",
+        "(self.betters_own_net(order.strategy, order.side, order.limit)).unwrap_or(false)\n",
+        "(self.betters_own_net(order.strategy, order.side, order.limit)).unwrap_or(false)\n            && self.bounds(order.strategy).allow(order.side, i64::from(order.limit))\n",
     ),
     (
         "the opening match not tested",
@@ -686,6 +686,213 @@ const SLIPS: &[Slip] = &[
         "            let best = self.depth(leg.series, 1 - side)?;\n",
         "            let best = self.depth(leg.series, side)?;\n",
     ),
+    // Request 2026-03: sweeps better the leg market.
+    (
+        "sweeps at any price",
+        "events.rs",
+        "                    causes.add(15);\n",
+        "",
+    ),
+    (
+        "a buy at the bid net",
+        "events.rs",
+        "self.betters_own_net(strategy, side, limit).unwrap_or(true)",
+        "self.betters_own_net(strategy, side, limit + i32::from(side == BUY)).unwrap_or(true)",
+    ),
+    (
+        "a sell at the offer net",
+        "events.rs",
+        "self.betters_own_net(strategy, side, limit).unwrap_or(true)",
+        "self.betters_own_net(strategy, side, limit - i32::from(side == SELL)).unwrap_or(true)",
+    ),
+    (
+        "a buy two cents above the bid net at least",
+        "events.rs",
+        "self.betters_own_net(strategy, side, limit).unwrap_or(true)",
+        "self.betters_own_net(strategy, side, limit - i32::from(side == BUY)).unwrap_or(true)",
+    ),
+    (
+        "only buys looked at",
+        "events.rs",
+        "if units > 0 && !self.sweep_betters(",
+        "if units > 0 && side == BUY && !self.sweep_betters(",
+    ),
+    (
+        "only sells looked at",
+        "events.rs",
+        "if units > 0 && !self.sweep_betters(",
+        "if units > 0 && side == SELL && !self.sweep_betters(",
+    ),
+    (
+        "only what is opposite the starter looked at",
+        "events.rs",
+        "if units > 0 && !self.sweep_betters(",
+        "if units > 0 && self.auctions[usize::from(strategy)].is_some_and(|auction| auction.side != side) && !self.sweep_betters(",
+    ),
+    (
+        "the net of the other side",
+        "events.rs",
+        "self.betters_own_net(strategy, side, limit).unwrap_or(true)",
+        "(if side == BUY { self.offer_net(strategy).map(|net| i64::from(limit) > net) } else { self.bid_net(strategy).map(|net| i64::from(limit) < net) }).unwrap_or(true)",
+    ),
+    (
+        "worse than the net of the other side",
+        "events.rs",
+        "self.betters_own_net(strategy, side, limit).unwrap_or(true)",
+        "(if side == BUY { self.offer_net(strategy).map(|net| i64::from(limit) < net) } else { self.bid_net(strategy).map(|net| i64::from(limit) > net) }).unwrap_or(true)",
+    ),
+    (
+        "the bid net for both sides",
+        "events.rs",
+        "self.betters_own_net(strategy, side, limit).unwrap_or(true)",
+        "self.bid_net(strategy).map(|net| if side == BUY { i64::from(limit) > net } else { i64::from(limit) < net }).unwrap_or(true)",
+    ),
+    (
+        "an unknown net refuses",
+        "events.rs",
+        "self.betters_own_net(strategy, side, limit).unwrap_or(true)",
+        "self.betters_own_net(strategy, side, limit).unwrap_or(false)",
+    ),
+    (
+        "an unknown net as 0",
+        "events.rs",
+        "self.betters_own_net(strategy, side, limit).unwrap_or(true)",
+        "self.betters_own_net(strategy, side, limit).unwrap_or(if side == BUY { limit > 0 } else { limit < 0 })",
+    ),
+    (
+        "an unknown net of the other side frees",
+        "events.rs",
+        "self.betters_own_net(strategy, side, limit).unwrap_or(true)",
+        "self.leg_net(strategy, side).is_none() || self.betters_own_net(strategy, side, limit).unwrap_or(true)",
+    ),
+    (
+        "a net that is not ready frees",
+        "events.rs",
+        "self.betters_own_net(strategy, side, limit).unwrap_or(true)",
+        "!self.leg_prices(strategy, 1 - side).is_some_and(|prices| crate::nets::ready(&prices)) || self.betters_own_net(strategy, side, limit).unwrap_or(true)",
+    ),
+    (
+        "a net that the other side has no ready legs for frees",
+        "events.rs",
+        "self.betters_own_net(strategy, side, limit).unwrap_or(true)",
+        "self.leg_prices(strategy, side).is_some_and(|prices| !crate::nets::ready(&prices)) || self.betters_own_net(strategy, side, limit).unwrap_or(true)",
+    ),
+    (
+        "the national net in the place of the leg net",
+        "events.rs",
+        "self.betters_own_net(strategy, side, limit).unwrap_or(true)",
+        "self.national_net(strategy, 1 - side).map(|net| if side == BUY { i64::from(limit) > net } else { i64::from(limit) < net }).unwrap_or(true)",
+    ),
+    (
+        "the national net bettered as well",
+        "events.rs",
+        "self.betters_own_net(strategy, side, limit).unwrap_or(true)",
+        "self.betters_own_net(strategy, side, limit).unwrap_or(true) && self.national_net(strategy, 1 - side).map(|net| if side == BUY { i64::from(limit) > net } else { i64::from(limit) < net }).unwrap_or(true)",
+    ),
+    (
+        "a price far from the net compared by its size",
+        "events.rs",
+        "self.betters_own_net(strategy, side, limit).unwrap_or(true)",
+        "self.leg_net(strategy, 1 - side).map(|net| if side == BUY { i64::from(limit).abs() > net.abs() } else { i64::from(limit).abs() < net.abs() }).unwrap_or(true)",
+    ),
+    (
+        "a response refused 15",
+        "events.rs",
+        "            Event::Complex { strategy, life, .. } => {\n",
+        "            Event::Complex { strategy, life, side, limit, .. } => {\n                if life == RESPONSE && !self.sweep_betters(strategy, side, limit) {\n                    causes.add(15);\n                }\n",
+    ),
+    // Request 2026-03: the place of 15.
+    (
+        "15 before 9",
+        "events.rs",
+        "[1, 2, 3, 14, 4, 5, 6, 7, 8, 9, 10, 15, 11, 12, 13]",
+        "[1, 2, 3, 14, 4, 5, 6, 7, 8, 15, 9, 10, 11, 12, 13]",
+    ),
+    (
+        "15 in the place of 10",
+        "events.rs",
+        "                    causes.add(10);\n",
+        "                    causes.add(if self.sweep_betters(strategy, side, limit) { 10 } else { 15 });\n",
+    ),
+    (
+        "15 after 12",
+        "events.rs",
+        "[1, 2, 3, 14, 4, 5, 6, 7, 8, 9, 10, 15, 11, 12, 13]",
+        "[1, 2, 3, 14, 4, 5, 6, 7, 8, 9, 10, 11, 12, 15, 13]",
+    ),
+    (
+        "15 after 13",
+        "events.rs",
+        "                if units > 0 && !self.sweep_betters(strategy, side, limit) {\n",
+        "                if units > 0 && self.given < LAST_NUMBER && !self.sweep_betters(strategy, side, limit) {\n",
+    ),
+    (
+        "15 after 12 and 13",
+        "events.rs",
+        "[1, 2, 3, 14, 4, 5, 6, 7, 8, 9, 10, 15, 11, 12, 13]",
+        "[1, 2, 3, 14, 4, 5, 6, 7, 8, 9, 10, 11, 12, 13, 15]",
+    ),
+    // Request 2026-03: 0 units, replacements, sweeps that are in.
+    (
+        "a sweep of 0 units refused 15",
+        "events.rs",
+        "if units > 0 && !self.sweep_betters(",
+        "if !self.sweep_betters(",
+    ),
+    (
+        "a sweep of 1 unit not looked at",
+        "events.rs",
+        "if units > 0 && !self.sweep_betters(",
+        "if units > 1 && !self.sweep_betters(",
+    ),
+    (
+        "a replacement not looked at",
+        "events.rs",
+        "if units > 0 && !self.sweep_betters(",
+        "if units > 0 && replaced.is_none() && !self.sweep_betters(",
+    ),
+    (
+        "only replacements looked at",
+        "events.rs",
+        "if units > 0 && !self.sweep_betters(",
+        "if units > 0 && replaced.is_some() && !self.sweep_betters(",
+    ),
+    (
+        "a refused replacement takes the old one out",
+        "events.rs",
+        "            (first, _) => {\n",
+        "            (first, event) => {\n                if let (Some(15), Ok(Event::Sweep { member, strategy, side, limit, .. })) = (first, event) {\n                    if let Some(old) = self.equal_sweep(member, strategy, side, limit) {\n                        self.cancel_live(old, &mut Vec::new());\n                    }\n                }\n",
+    ),
+    (
+        "a sweep refused 15 bars the legs",
+        "events.rs",
+        "            (first, _) => {\n",
+        "            (first, event) => {\n                if let (Some(15), Ok(Event::Sweep { strategy, side, .. })) = (first, event) {\n                    self.accepted_meanwhile(strategy, side);\n                }\n",
+    ),
+    (
+        "a number taken by a sweep refused 15",
+        "events.rs",
+        "            (first, _) => {\n",
+        "            (first, _) => {\n                if first == Some(15) {\n                    self.given = (self.given + 1).min(LAST_NUMBER);\n                }\n",
+    ),
+    (
+        "sweeps looked at again when a leg order rests",
+        "events.rs",
+        "            self.rest(incoming);\n",
+        "            self.rest(incoming);\n            let passed: Vec<u32> = self.sweeps().filter(|sweep| self.betters_own_net(sweep.strategy, sweep.side, sweep.limit) == Some(false)).map(|sweep| sweep.number).collect();\n            for number in passed {\n                self.cancel_live(number, records);\n            }\n",
+    ),
+    (
+        "sweeps looked at again when the auction ends",
+        "auctions.rs",
+        "        let auction = self.auctions[usize::from(strategy)].expect(\"the auction runs\");\n",
+        "        let auction = self.auctions[usize::from(strategy)].expect(\"the auction runs\");\n        let passed: Vec<u32> = self.sweeps().filter(|sweep| self.betters_own_net(sweep.strategy, sweep.side, sweep.limit) == Some(false)).map(|sweep| sweep.number).collect();\n        for number in passed {\n            self.cancel_live(number, records);\n        }\n",
+    ),
+    (
+        "sweeps looked at again when one comes",
+        "events.rs",
+        "                self.accepted_meanwhile(strategy, side);\n                number\n",
+        "                self.accepted_meanwhile(strategy, side);\n                let passed: Vec<u32> = self.sweeps().filter(|sweep| self.betters_own_net(sweep.strategy, sweep.side, sweep.limit) == Some(false)).map(|sweep| sweep.number).collect();\n                for old in passed {\n                    self.cancel_live(old, records);\n                }\n                number\n",
+    ),
 ];
 
 /// A part of the days that the proved tape is compared on.
@@ -697,6 +904,7 @@ fn days() -> Vec<Day> {
     days.extend(extremes());
     days.extend(national());
     days.extend(best_prices());
+    days.extend(near_nets());
     days.extend(ends().into_iter().step_by(40));
     days.extend(every_number(1));
     days
@@ -723,5 +931,5 @@ fn slips_in_the_book_are_found() {
     }
     assert!(missed.is_empty(), "slips not found: {missed:#?}");
     println!("slips found: {}", SLIPS.len());
-    assert!(SLIPS.len() >= 110);
+    assert!(SLIPS.len() >= 144);
 }
