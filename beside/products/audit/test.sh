@@ -76,7 +76,7 @@ check "fills: records 1 of leg orders" fails worked-example \
     's/^E 5 0 3 5$/E 5 0 3 7\nR 1 2 0 0 4 150\nR 1 1 0 1 4 150/' \
     'day 1, number 1: a leg order, and has records 1: 1' \
     'day 1, number 2: a leg order, and has records 1: 1'
-check "strategy: one that no event answered" fails halt 's/^E 6 0 2 0$/E 6 0 1 0/' \
+check "strategy: one that no event answered" fails halt 's/^E 6 0 2 0$/E 6 0 3 0/' \
     'day 2, number 9: no accepted event of the day defines strategy 2'
 check "ratio: contracts on a leg" fails opening 's/^R 2 2 0 0 3 300$/R 2 2 0 0 4 300/' \
     'day 1, number 2, series 0: 8 contracts, but ratio 1 x 7 units = 7' \
@@ -101,6 +101,14 @@ check "it is seen in the table" in_table
 check "national prices: a fill above the bound" fails national-prices 's/^R 1 5 0 0 2 205$/R 1 5 0 0 2 206/' \
     'day 1, number 5: filled at 206, above the national offer net 202 + range 3 = 205' \
     'day 1, cash: paid 3166, but received 3164'
+check "it is seen in the table" in_table
+check "sweeps: a sell at the offer net enters" fails sweeps 's/^E 9 15 0 0$/E 9 0 27 0/' \
+    'day 1, number 27: entered 4, but filled 0 + cancelled 0 + live 0 = 0' \
+    'day 1, number 27: a sweep that sells at 105, not below the offer net 105 of its arrival'
+check "it is seen in the table" in_table
+check "sweeps: a buy at the bid net after a fill enters" fails sweeps 's/^E 21 15 0 0$/E 21 0 27 0/' \
+    'day 1, number 27: entered 2, but filled 0 + cancelled 0 + live 0 = 0' \
+    'day 1, number 27: a sweep that buys at 92, not above the bid net 92 of its arrival'
 check "it is seen in the table" in_table
 check "paid: one price for each party" fails auction 's/^R 1 5 0 0 2 94$/R 1 5 0 0 2 93/' \
     'day 1, cash: paid 2673, but received 2675'

@@ -31,7 +31,7 @@ prints() {
     shift
     ./play "$@" >"$out/printed" && diff "$stored" "$out/printed"
 }
-several() { [ "$(find days -name '*.txt' | wc -l)" -ge 7 ]; }
+several() { [ "$(find days -name '*.txt' | wc -l)" -ge 8 ]; }
 has_text() { [ -f "${1%.out}.txt" ]; }
 has_stored() { [ -f "${1%.txt}.out" ] && [ -f "${1%.txt}.words" ] && [ -f "${1%.txt}.audit" ]; }
 # reckoned DAY: the reckoning's tape prints the stored lines for its frames.
@@ -41,7 +41,7 @@ reckoned() {
         diff "${1%.txt}.out" "$out/reckoned"
 }
 
-check "seven days or more" several
+check "eight days or more" several
 for day in days/*.txt; do
     check "$day" prints "${day%.txt}.out" "$day"
     check "$day in words" prints "${day%.txt}.words" --words "$day"
@@ -85,7 +85,7 @@ sed -n "$(($(grep -n '^line .*customer buy 13' days/auction.words | cut -d : -f 
 check "README.md shows the words of a day" in_readme "$out/piece"
 # What ./play --help says of refusals and lines, the README says, too.
 same_refusals() {
-    [ "$(./play --help | grep -cE '^  1?[0-9]   ? ?[a-z]')" -ge 14 ] && [ "$(grep -cE '^\| 1?[0-9] \| ' README.md)" -ge 14 ]
+    [ "$(./play --help | grep -cE '^  1?[0-9]   ? ?[a-z]')" -ge 15 ] && [ "$(grep -cE '^\| 1?[0-9] \| ' README.md)" -ge 15 ]
 }
 check "refusals in --help and README.md" same_refusals
 

@@ -1,7 +1,8 @@
-//! The claims of "The totals after a list" and of request 2026-01: what of them does
-//! not hold on a day.
+//! The claims of "The totals after a list" and of requests 2026-01 and 2026-03: what of
+//! them does not hold on a day.
 
 use crate::national::Bounded;
+use crate::sweeps::Arrival;
 use crate::totals::{Entry, Totals};
 
 /// Says what does not hold, in the order of the tables.
@@ -14,6 +15,7 @@ pub fn check(totals: &Totals, fails: &mut impl FnMut(String)) {
         check_limit(&entry, fails);
     }
     check_bounded(totals, fails);
+    check_sweeps(totals, fails);
     for entry in totals.entries() {
         check_legs(totals, &entry, fails);
     }
@@ -97,6 +99,22 @@ fn check_bounded(totals: &Totals, fails: &mut impl FnMut(String)) {
                 _ => format!(
                     "number {number}: filled at {price}, below the national bid net {net} - range {range} = {}",
                     net - range
+                ),
+            });
+        }
+    }
+}
+
+fn check_sweeps(totals: &Totals, fails: &mut impl FnMut(String)) {
+    for (number, arrival) in totals.sweeps() {
+        let Arrival { side, limit, net } = arrival;
+        if let (Some(net), false) = (net, arrival.holds()) {
+            fails(match side {
+                0 => format!(
+                    "number {number}: a sweep that buys at {limit}, not above the bid net {net} of its arrival"
+                ),
+                _ => format!(
+                    "number {number}: a sweep that sells at {limit}, not below the offer net {net} of its arrival"
                 ),
             });
         }

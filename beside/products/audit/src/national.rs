@@ -2,6 +2,7 @@
 //! day set them, and what they bound.
 
 use crate::frames::{Event, Leg};
+use crate::nets::{net, BID, OFFER};
 
 /// What is known at a place of a list.
 #[derive(Clone, Debug, PartialEq, Eq)]
@@ -44,21 +45,15 @@ impl National {
         }
     }
 
-    /// "The national nets are formed like our leg nets": the offer net for a buyer,
-    /// which "takes offers for buy legs, bids for sell legs", for a seller the bid
-    /// net, "the reverse"; none "if a price is missing".
+    /// "The national nets are formed like our leg nets": the offer net for a buyer, for
+    /// a seller the bid net.
     fn net(&self, legs: &[Leg], side: i64) -> Option<i64> {
-        let mut net = 0;
-        for leg in legs {
-            let [bid, offer] = *self.prices.get(leg.series as usize)?;
-            let price = if leg.side == side { offer } else { bid };
-            if price == 0 {
-                return None;
-            }
-            let value = leg.ratio * i64::from(price);
-            net += if leg.side == 0 { value } else { -value };
-        }
-        Some(net)
+        let of = if side == 0 { OFFER } else { BID };
+        net(legs, of, |series, side| {
+            let prices = self.prices.get(series as usize)?;
+            let price = *prices.get(side as usize)?;
+            (price != 0).then_some(price.into())
+        })
     }
 
     /// A fill in the strategy with these legs, if something bounds it: "A missing

@@ -120,6 +120,30 @@ fn bounded(totals: &Totals) -> impl Iterator<Item = [String; 8]> + '_ {
         })
 }
 
+const SWEEPS: [Column; 6] = [
+    Number("number"),
+    Word("side"),
+    Number("limit"),
+    Number("leg net"),
+    Number("better by"),
+    Word(""),
+];
+
+fn sweeps(totals: &Totals) -> impl Iterator<Item = [String; 6]> + '_ {
+    let or =
+        |value: Option<i64>, none: &str| value.map_or(none.to_string(), |value| value.to_string());
+    totals.sweeps().map(move |(number, arrival)| {
+        [
+            number.to_string(),
+            side(arrival.side),
+            arrival.limit.to_string(),
+            or(arrival.net, "unknown"),
+            or(arrival.better(), "-"),
+            said(arrival.holds()),
+        ]
+    })
+}
+
 const LEGS: [Column; 8] = [
     Number("number"),
     Number("strategy"),
@@ -236,6 +260,12 @@ impl<W: Write> Report<'_, W> {
             "no national net bounds a fill",
             BOUNDED,
             || bounded(totals),
+        )?;
+        self.section(
+            "Each sweep: its limit against the leg net of its own side at its arrival, in cents",
+            "no sweep entered",
+            SWEEPS,
+            || sweeps(totals),
         )?;
         self.section(
             "Each leg of a complex order or sweep with a fill: contracts = ratio x units",

@@ -1,11 +1,12 @@
-//! The sums of "The totals after a list", for one day, and the fills that national
-//! nets bound. They are added up record by record and held by number, never by
-//! event. Records may come in any order: a number's records count, too, if they come
-//! before it enters.
+//! The sums of "The totals after a list", for one day, the fills that national nets
+//! bound, and the leg net that each sweep met. They are added up record by record and
+//! held by number, never by event. Records may come in any order: a number's records
+//! count, too, if they come before it enters.
 
 use crate::frames::{Event, Leg, Terms, What};
 use crate::lines::Record;
 use crate::national::{Bounded, National};
+use crate::sweeps::{Arrival, LegBook, LegOrder};
 use std::collections::btree_map::Entry as Slot;
 use std::collections::BTreeMap;
 
@@ -117,6 +118,10 @@ pub struct Totals {
     /// The national prices and the range that are known so far.
     national: National,
     bounded: BTreeMap<i64, BoundedFills>,
+    /// The leg orders that are live so far.
+    leg_book: LegBook,
+    /// The leg net that each sweep of `entered` met, if it was known.
+    met: BTreeMap<(i64, usize), Option<i64>>,
 }
 
 impl Entry {
@@ -226,8 +231,41 @@ impl Totals {
     pub fn enter(&mut self, number: i64, terms: Terms) -> Result<(), String> {
         let count = self.entered.len();
         room(count, NUMBERS, "numbers")?;
+        if let What::Sweep { strategy } = terms.what {
+            let net = self.net_met(strategy.into(), &terms);
+            self.met.insert((number, count), net);
+        }
         self.entered.insert((number, count), terms);
+        self.set_live(number, count);
         Ok(())
+    }
+
+    /// The leg net of a sweep's own side, as the records before it leave the leg orders.
+    /// A strategy that no event has answered yet has none; of several rows the one
+    /// counts that the sweep betters least.
+    fn net_met(&self, strategy: i64, terms: &Terms) -> Option<i64> {
+        let rows = self.strategies.get(&strategy).into_iter().flatten();
+        let nets = rows.filter_map(|legs| self.leg_book.net(legs, terms.side.into()));
+        nets.min_by_key(|net| Arrival::new(terms, Some(*net)).better())
+    }
+
+    /// The leg orders that entered with this number, from this one of them on, are live
+    /// if their contracts are more than its records 2 and 3 have.
+    fn set_live(&mut self, number: i64, first: usize) {
+        let own = self.own(number);
+        let gone = own.leg_fills.quantity + own.cancelled;
+        for (entered, terms) in self.entered.range((number, first)..=(number, usize::MAX)) {
+            if let What::LegOrder { series } = terms.what {
+                let order = LegOrder {
+                    series: series.into(),
+                    side: terms.side.into(),
+                    price: terms.limit,
+                    entered: *entered,
+                };
+                let live = i128::from(terms.quantity) > gone;
+                self.leg_book.set(order, live);
+            }
+        }
     }
 
     /// "The ratio is that of the accepted kind 1 event that answered its
@@ -259,8 +297,12 @@ impl Totals {
                 own.leg_fills.add(record);
                 own.leg_cash.add(record);
                 self.add_contracts(record)?;
+                self.set_live(record.number, 0);
             }
-            _ => own.cancelled += i128::from(record.quantity),
+            _ => {
+                own.cancelled += i128::from(record.quantity);
+                self.set_live(record.number, 0);
+            }
         }
         Ok(())
     }
@@ -409,6 +451,14 @@ impl Totals {
     /// The fills that a national net bounds, by number.
     pub fn bounded(&self) -> impl Iterator<Item = (i64, BoundedFills)> + '_ {
         (self.bounded.iter()).map(|(number, fills)| (*number, *fills))
+    }
+
+    /// The sweeps as they came, by number.
+    pub fn sweeps(&self) -> impl Iterator<Item = (i64, Arrival)> + '_ {
+        self.entered.iter().filter_map(|(entered, terms)| {
+            let net = self.met.get(entered)?;
+            Some((entered.0, Arrival::new(terms, *net)))
+        })
     }
 
     pub fn series(&self) -> impl Iterator<Item = (i64, Traded)> + '_ {

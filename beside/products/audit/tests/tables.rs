@@ -223,14 +223,15 @@ impl Day {
         self.entered().iter().filter_map(row).collect()
     }
 
-    /// The national net that bounds a side in the strategy; none where a price of it
-    /// is missing, or no event up to this one answered the strategy.
-    fn national_net(
+    /// The bid net of a strategy, with `of` 1 its offer net, at the price that each
+    /// series and side has, 0 for a missing one; none where a price of it is missing,
+    /// or no event up to this one answered the strategy.
+    fn net(
         &self,
-        prices: &[[i64; 2]; 32],
         strategy: i64,
-        side: i64,
+        of: i64,
         at: usize,
+        price: impl Fn(i64, i64) -> i64,
     ) -> Option<i64> {
         let answered = |logged: &&Logged| logged.kind == 1 && logged.value == strategy;
         let fields = self.log[..=at].iter().find(answered)?.fields;
@@ -239,14 +240,58 @@ impl Day {
         let nets: Vec<(i64, i64)> = given
             .zip(ratios)
             .map(|(leg, (series, ratio))| {
-                let [bid, offer] = prices[series as usize];
-                // A buy of a buy leg and a sell of a sell leg pay the offer.
-                let price = if (leg[1] + side) % 2 == 0 { offer } else { bid };
+                let price = price(series, (leg[1] + of) % 2);
                 (price, price * ratio * (1 - 2 * leg[1]))
             })
             .collect();
         let known = nets.iter().all(|(price, _)| *price > 0);
         known.then(|| nets.iter().map(|(_, net)| net).sum())
+    }
+
+    /// The best price of the leg orders that entered before this event, with more
+    /// contracts than the records 2 and 3 before it took; 0 if there is none.
+    fn best(&self, series: i64, side: i64, at: usize) -> i64 {
+        let before = &self.log[..at];
+        let live = |one: &Entered| {
+            let records = before.iter().flat_map(|logged| &logged.records);
+            let own = records.filter(|record| [2, 3].contains(&record[0]));
+            let own = own.filter(|record| record[1] == one.number);
+            one.quantity > own.map(|record| record[4]).sum()
+        };
+        let entered = before.iter().filter_map(Entered::of);
+        let prices = entered
+            .filter(|one| (one.kind, one.place, one.side) == (4, series, side) && live(one))
+            .map(|one| one.limit);
+        let best = if side == 0 {
+            prices.max()
+        } else {
+            prices.min()
+        };
+        best.unwrap_or(0)
+    }
+
+    fn sweeps(&self) -> Vec<String> {
+        let mut rows = Vec::new();
+        for (at, logged) in self.log.iter().enumerate() {
+            let Some(sweep) = Entered::of(logged).filter(|one| one.kind == 3) else {
+                continue;
+            };
+            let prices = |series, side| self.best(series, side, at);
+            let net = self.net(sweep.place, sweep.side, at, prices);
+            let better = net.map(|net| (1 - 2 * sweep.side) * (sweep.limit - net));
+            let row = format!(
+                "{} {} {} {} {} {}",
+                sweep.number,
+                sweep.side(),
+                sweep.limit,
+                net.map_or("unknown".to_string(), |net| net.to_string()),
+                better.map_or("-".to_string(), |better| better.to_string()),
+                said(better.unwrap_or(1) > 0)
+            );
+            rows.push((sweep.number, row));
+        }
+        rows.sort_by_key(|(number, _)| *number);
+        rows.into_iter().map(|(_, row)| row).collect()
     }
 
     /// Number, side, price, net, range and how much better of each bounded fill.
@@ -264,7 +309,9 @@ impl Day {
                     None if side == 0 || side == 1 => (place, side),
                     None => continue,
                 };
-                if let Some(net) = self.national_net(&prices, place, side, at) {
+                let national = |series: i64, side: i64| prices[series as usize][side as usize];
+                // A buyer is bound by the offer net.
+                if let Some(net) = self.net(place, 1 - side, at, national) {
                     let sign = 1 - 2 * side;
                     let better = sign * net + range - sign * price;
                     list.push([number, side, price, net, range, better]);
@@ -408,6 +455,12 @@ impl Day {
                 self.bounded(),
             ),
             (
+                "Each sweep: its limit against the leg net of its own side at its arrival, in cents",
+                "number side limit leg net better by",
+                "no sweep entered",
+                self.sweeps(),
+            ),
+            (
                 "Each leg of a complex order or sweep with a fill: contracts = ratio x units",
                 "number strategy units series ratio ratio x units contracts",
                 "no complex order or sweep has a fill",
@@ -442,10 +495,17 @@ fn played(input: &[u8]) -> Vec<String> {
     text.lines().map(str::to_string).collect()
 }
 
-/// How many numbers have a fill that a national net bounds.
-fn bounded(input: &[u8], lines: &[String], ended: &[String]) -> usize {
+/// How many numbers have a fill that a national net bounds, and how many sweeps met a
+/// known leg net.
+fn reached(input: &[u8], lines: &[String], ended: &[String]) -> [usize; 2] {
     let days = days(input, lines, ended);
-    days.iter().map(|day| day.bounded().len()).sum()
+    let known = |row: &&String| !row.contains("unknown");
+    [
+        days.iter().map(|day| day.bounded().len()).sum(),
+        (days.iter())
+            .map(|day| day.sweeps().iter().filter(known).count())
+            .sum(),
+    ]
 }
 
 /// Compares what is printed with the sums, and answers how many failures there
@@ -481,15 +541,17 @@ fn with_end(input: &[u8]) -> Vec<u8> {
 
 #[test]
 fn the_tables_of_generated_days() {
-    let mut numbers = 0;
+    let (mut numbers, mut sweeps) = (0, 0);
     for seed in 1..=48 {
         let input = stream(seed, 250);
         let (lines, ended) = (played(&input), played(&with_end(&input)));
         let failures = compared(&input, &lines, &ended, &format!("seed {seed}"));
         assert_eq!(failures, 0);
-        numbers += bounded(&input, &lines, &ended);
+        let [bounded, known] = reached(&input, &lines, &ended);
+        numbers += bounded;
+        sweeps += known;
     }
-    assert!(numbers > 100, "{numbers}");
+    assert!(numbers > 100 && sweeps > 100, "{numbers} {sweeps}");
 }
 
 /// Another value in a field of a record 1, 2 or 3.
@@ -534,8 +596,8 @@ fn the_tables_of_lines_that_were_tampered_with() {
     assert!(failures > 500, "{failures}");
 }
 
-/// The frames with other bids in kind 9 and other ranges in kind 10.
-fn with_other_prices(input: &[u8], random: &mut Random) -> Vec<u8> {
+/// The input with each of its frames edited.
+fn edited(input: &[u8], mut edit: impl FnMut(&mut [u8])) -> Vec<u8> {
     let mut bytes = input.to_vec();
     let mut rest = &mut bytes[..];
     while rest.len() >= 4 {
@@ -544,15 +606,34 @@ fn with_other_prices(input: &[u8], random: &mut Random) -> Vec<u8> {
             break;
         }
         let (frame, after) = rest.split_at_mut(length);
-        match (frame[2], length) {
-            // The highest price, 99,999, ends in four ones: none leaves its range.
-            (9, 13) => frame[5] ^= random.below(16) as u8,
-            (10, 6) => frame[4..].copy_from_slice(&[random.below(8) as u8, 0]),
-            _ => {}
-        }
+        edit(frame);
         rest = after;
     }
     bytes
+}
+
+/// The frames with other bids in kind 9 and other ranges in kind 10.
+fn with_other_prices(input: &[u8], random: &mut Random) -> Vec<u8> {
+    edited(input, |frame| match (frame[2], frame.len()) {
+        // The highest price, 99,999, ends in four ones: none leaves its range.
+        (9, 13) => frame[5] ^= random.below(16) as u8,
+        (10, 6) => frame[4..].copy_from_slice(&[random.below(8) as u8, 0]),
+        _ => {}
+    })
+}
+
+/// The frames with other limits of sweeps.
+fn with_other_limits(input: &[u8], random: &mut Random) -> Vec<u8> {
+    edited(input, |frame| {
+        if (frame[2], frame.len()) == (3, 14) {
+            let limit = i32::from_le_bytes([frame[10], frame[11], frame[12], frame[13]]);
+            let change = 2 * random.below(64) as u8;
+            // Near an end of its range a limit stays, so that none leaves it.
+            if limit.unsigned_abs() < 9_999_000 {
+                frame[10] ^= change;
+            }
+        }
+    })
 }
 
 /// The same lines for frames with other national prices: fills that were between
@@ -568,4 +649,22 @@ fn the_tables_where_national_prices_are_others() {
         failures += compared(&others, &lines, &ended, &format!("seed {seed}"));
     }
     assert!(failures > 50, "{failures}");
+}
+
+/// The same lines for frames with other limits of sweeps: some no longer better the leg
+/// net, and some fills are worse than the limit.
+#[test]
+fn the_tables_where_limits_of_sweeps_are_others() {
+    let mut random = Random::new(17);
+    let (mut failures, mut sweeps) = (0, 0);
+    for seed in 1..=48 {
+        let input = stream(seed, 250);
+        let (lines, ended) = (played(&input), played(&with_end(&input)));
+        let others = with_other_limits(&input, &mut random);
+        failures += compared(&others, &lines, &ended, &format!("seed {seed}"));
+        let days = days(&others, &lines, &ended);
+        let rows = days.iter().flat_map(Day::sweeps);
+        sweeps += rows.filter(|row| row.ends_with("FAILS")).count();
+    }
+    assert!(failures > sweeps && sweeps > 50, "{failures} {sweeps}");
 }

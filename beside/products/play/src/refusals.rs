@@ -1,5 +1,5 @@
-//! The causes of refusals in words: those of document 01's table and of request
-//! 2026-01, said for the event at hand where its fields are known.
+//! The causes of refusals in words: those of document 01's table and of requests
+//! 2026-01 and 2026-03, said for the event at hand where its fields are known.
 
 use crate::event::{kind_name, Event};
 use assemble::framing::Why;
@@ -23,9 +23,10 @@ use Of::{All, Kinds, Known, LoneByte, PastEnd, Under4, Unknown};
 /// A refusal, the events, and its cause. `{name}` stands for a field of the
 /// event; `{kind}`, `{what}` and `{length}` for the number and the name of its
 /// kind and for its length; `{twice}`, `{largest}` and `{smallest}` for a series
-/// that stands twice in a strategy and for ratios that are too far apart. The
-/// first line is said that is of the event and all of whose names are known. The
-/// last one of each refusal is of all events.
+/// that stands twice in a strategy and for ratios that are too far apart; `{buys}`
+/// and `{sells}` for the limit of an event of that side. The first line is said
+/// that is of the event and all of whose names are known. The last one of each
+/// refusal is of all events.
 const CAUSES: &[(i64, Of, &str)] = &[
     (1, All, "the record space is under 15,360 numbers"),
     (2, Under4, "its length field is {length}, under 4"),
@@ -122,6 +123,21 @@ const CAUSES: &[(i64, Of, &str)] = &[
         "the national bid of series {series}, {bid}, is above its national offer, {offer}",
     ),
     (14, All, "a national bid above a national offer, neither 0"),
+    (
+        15,
+        Kinds(&[3]),
+        "a buy at {buys}, not above the bid net of strategy {strategy}",
+    ),
+    (
+        15,
+        Kinds(&[3]),
+        "a sell at {sells}, not below the offer net of strategy {strategy}",
+    ),
+    (
+        15,
+        All,
+        "a sweep that does not better the leg net of its own side",
+    ),
 ];
 
 /// The cause of a refusal of this event.
@@ -170,8 +186,16 @@ fn named(name: &str, event: &Event) -> Option<String> {
         ("twice", _) => twice(event).map(|series| series.to_string()),
         ("largest", _) => apart(event).map(|(_, largest)| largest.to_string()),
         ("smallest", _) => apart(event).map(|(smallest, _)| smallest.to_string()),
+        ("buys", _) => limit_of(event, 0),
+        ("sells", _) => limit_of(event, 1),
         _ => event.word(name),
     }
+}
+
+/// The limit of an event of this side.
+fn limit_of(event: &Event, side: i64) -> Option<String> {
+    let own = event.value("side") == Some(side);
+    event.word("limit").filter(|_| own)
 }
 
 /// The first series that stands twice in a strategy.

@@ -169,7 +169,33 @@ const CAUSES: &[(&str, i64, &str)] = &[
         14,
         "a national bid above a national offer, neither 0",
     ),
-    ("clock 1", 15, "no cause is known for this number"),
+    (
+        "sweep member 4 buy 3 of strategy 2 at 94",
+        15,
+        "a buy at 94, not above the bid net of strategy 2",
+    ),
+    (
+        "sweep member 4 sell 3 of strategy 15 at -105",
+        15,
+        "a sell at -105, not below the offer net of strategy 15",
+    ),
+    (
+        "bytes 0e 00 03 00 01 00 07 00 01 00 81 69 67 ff",
+        15,
+        "a buy at -9999999, not above the bid net of strategy 7",
+    ),
+    // A sweep that cannot be read, and an event that is none.
+    (
+        "bytes 0e 00 03 00 01 00 07 02 01 00 00 00 00 00",
+        15,
+        "a sweep that does not better the leg net of its own side",
+    ),
+    (
+        "complex-order member 1 customer sell 1 of strategy 3 day at 5",
+        15,
+        "a sweep that does not better the leg net of its own side",
+    ),
+    ("clock 1", 16, "no cause is known for this number"),
     ("clock 1", -1, "no cause is known for this number"),
 ];
 
@@ -184,7 +210,7 @@ fn each_refusal_has_its_words() {
         assert!(told.ends_with(&format!(": {said}")), "{line}: {told}");
         assert_eq!(reader::lines(&words), Ok(lines.into_bytes()), "{line}");
     }
-    for refusal in 1..=14 {
+    for refusal in 1..=15 {
         assert!(CAUSES.iter().any(|(_, known, _)| *known == refusal));
     }
 }
