@@ -11,7 +11,7 @@ use Rattle.base.specs.Pick.{tests}
 use Rattle.rules.specs.declared.Entry.{Entry}
 use Rattle.rules.specs.declared.State.{State}
 use Rattle.rules.specs.declared.Allocation.{Allocation}
-use Rattle.rules.specs.declared.Allocation.the-variants.{Shared, Numbered}
+use Rattle.rules.specs.declared.Allocation.the-variants.{ForStarter, Numbered}
 use Rattle.rules.specs.State.{noEntry, entryAt, strategyAt}
 use Rattle.rules.specs.Moves.{still, each}
 use Rattle.rules.specs.Passes.{pass, turn}
@@ -30,9 +30,9 @@ pass-past way legs a b n h =
 module _ (k : ℕ) (b : State) {a : ℕ} (p : a ≡ starterSlot b k) where
   pub starter-gone : length (b .entries) ≡ 32 → 32 ≤ a → starterPass k b ≡ still b
   unfolding starterPass
-  starter-gone n h = rw (← p) (pass-past Shared _ a b n h)
+  starter-gone n h = rw (← p) (pass-past ForStarter _ a b n h)
 
-  pub starter-here : {legs : Bool} → legs ≡ not (strategyAt b k .answered) → starterPass k b ≡ pass Shared legs a b
+  pub starter-here : {legs : Bool} → legs ≡ not (strategyAt b k .answered) → starterPass k b ≡ pass ForStarter legs a b
   unfolding starterPass
   starter-here l = rw (p, l)
 

@@ -30,7 +30,7 @@ fn starter_pass(b: State, k: usize, space: &mut [i32], n: usize) -> After
     let a = starter_slot(es, k, s.starter);
     if a < State::ROWS {
         let legs = !s.answered;
-        return pass(Allocation::Shared, legs, b, a, space, n);
+        return pass(Allocation::ForStarter, legs, b, a, space, n);
     }
     After { state: b, count: n }
 }

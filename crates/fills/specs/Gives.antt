@@ -12,10 +12,10 @@ use Rattle.rules.specs.declared.Strategy.{Strategy}
 use Rattle.rules.specs.declared.State.{State}
 use Rattle.rules.specs.State.{noEntry, noStrategy, entryAt, strategyOf, withEntries}
 use Rattle.rules.specs.Moves.{Moved, still, each}
-use Rattle.rules.specs.Quotas.{inTurn, share}
+use Rattle.rules.specs.Quotas.{Division}
 use Rattle.rules.specs.Fills.{partyRecords, noPrices, cutEntry, cut}
 use Rattle.rules.specs.Valid.{FitEntry}
-use Rattle.rules.specs.Passes.{sizes, giveAt, give, giveInTurn, giveGroup}
+use Rattle.rules.specs.Passes.{sizes, giveAt, give, giveGroup}
 use Rattle.rules.proofs.Gives.{whole-none}
 use Rattle.rules.proofs.Shrinks.{Shrinks, shrinks-refl, whole-shrinks, then-shrinks}
 use Rattle.records.specs.Space.{Appended, Room}
@@ -42,13 +42,9 @@ slots-shrink a level qs zero b = shrinks-refl b
 slots-shrink a level qs (suc k) b =
     then-shrinks b (each (giveAt a level qs) k b) (giveAt a level qs k) (slots-shrink a level qs k b) (whole-shrinks _ a k level (slot qs k))
 
-pub inTurn-shrinks : (a level g : ℕ) (b : State) → Shrinks b (giveInTurn a level g b .state)
-unfolding giveInTurn give
-inTurn-shrinks a level g b = slots-shrink a level (inTurn (entryAt b a .units) (sizes (b .entries) (entryAt b a) level g)) 32 b
-
-pub group-shrinks : (a level g : ℕ) (b : State) → Shrinks b (giveGroup a level g b .state)
+pub group-shrinks : (divide : Division) (a level g : ℕ) (b : State) → Shrinks b (giveGroup divide a level g b .state)
 unfolding giveGroup give
-group-shrinks a level g b = slots-shrink a level (share (entryAt b a .units) (sizes (b .entries) (entryAt b a) level g)) 32 b
+group-shrinks divide a level g b = slots-shrink a level (divide (entryAt b a .units) (sizes (b .entries) (entryAt b a) level g)) 32 b
 
 -- a rule that shrinks the book leaves entry a its strategy
 pub holds-after : {es rows : List Entry} {s : Strategy} {a : ℕ} {f : State → Moved} {sp sq : List ℤ} {n m : ℕ} → ((b : State) → Shrinks b (f b .state)) → DoneIn (HasRows es s a) f sp sq n m (putEntries rows) → (b : State) → HasRows es s a b → HasRows rows s a (putEntries rows b)
@@ -111,11 +107,7 @@ module _ {es : List Entry} {s : Strategy} {a level : ℕ} {qs : List ℕ} {sp sq
   unfolding give
   give-all l = let e : i ≡ 32 = omega (arith, g .most) in rw e at (g .done)
 
--- the ways to divide, by the quotas that the code has found
-pub in-turn-is : {es : List Entry} {s : Strategy} (a level g : ℕ) {qs : List ℕ} → qs ≡ inTurn (getD es a noEntry .units) (sizes es (getD es a noEntry) level g) → (b : State) → HasRows es s a b → giveInTurn a level g b ≡ give a level qs b
-unfolding giveInTurn
-in-turn-is a level g e b h = rw (e, h .entries)
-
-pub group-is : {es : List Entry} {s : Strategy} (a level g : ℕ) {qs : List ℕ} → qs ≡ share (getD es a noEntry .units) (sizes es (getD es a noEntry) level g) → (b : State) → HasRows es s a b → giveGroup a level g b ≡ give a level qs b
+-- a group, by the quotas that the code has found
+pub group-is : {es : List Entry} {s : Strategy} (divide : Division) (a level g : ℕ) {qs : List ℕ} → qs ≡ divide (getD es a noEntry .units) (sizes es (getD es a noEntry) level g) → (b : State) → HasRows es s a b → giveGroup divide a level g b ≡ give a level qs b
 unfolding giveGroup
-group-is a level g e b h = rw (e, h .entries)
+group-is divide a level g e b h = rw (e, h .entries)

@@ -5,7 +5,8 @@ ghost use Prim.Native.Nat.{_+_, _*_, _-_, _<_, _≤_};
 ghost use Rattle.base.specs.Walks.{joinN};
 ghost use Rattle.rules.specs.Sizes.{tableRows, zeroLevel};
 ghost use Rattle.rules.specs.Fills.{wholeRecord, legRecord, legRecordAt, partyRecords, noPrices, cutEntry, wholeFill, cancelRecord, cancelEntry};
-ghost use Rattle.rules.specs.Passes.{give, giveInTurn, giveGroup, giveShared};
+ghost use Rattle.rules.specs.Passes.{give, giveGroup, giveShared};
+ghost use Rattle.rules.specs.Quotas.{inTurn, share};
 ghost use Rattle.records.specs.Space.{Appended, Room};
 ghost use Rattle.records.specs.Done.{Done, RoomIn, DoneIn};
 ghost use Rattle.ranges.specs.Fit.{Fit};
@@ -206,8 +207,8 @@ pub fn give_in_turn(
     n: usize,
 ) -> AfterFills
     requires { ⌜ a < tableRows ⌝ }
-    requires { ⌜ RoomIn (HasRows es s a) (giveInTurn a level g) (now space) n ⌝ }
-    ensures { λ t. ⌜ DoneIn (HasRows es s a) (giveInTurn a level g) (now (space .entry)) (now (space .exit)) n (t .count) (putEntries (t .rows)) ⌝ }
+    requires { ⌜ RoomIn (HasRows es s a) (giveGroup inTurn a level g) (now space) n ⌝ }
+    ensures { λ t. ⌜ DoneIn (HasRows es s a) (giveGroup inTurn a level g) (now (space .entry)) (now (space .exit)) n (t .count) (putEntries (t .rows)) ⌝ }
 {
     let e = es[a];
     let xs = sizes(es, e, level, g);
@@ -226,8 +227,8 @@ fn give_group(
     n: usize,
 ) -> AfterFills
     requires { ⌜ a < tableRows ⌝ }
-    requires { ⌜ RoomIn (HasRows es s a) (giveGroup a level g) (now space) n ⌝ }
-    ensures { λ t. ⌜ DoneIn (HasRows es s a) (giveGroup a level g) (now (space .entry)) (now (space .exit)) n (t .count) (putEntries (t .rows)) ⌝ }
+    requires { ⌜ RoomIn (HasRows es s a) (giveGroup share a level g) (now space) n ⌝ }
+    ensures { λ t. ⌜ DoneIn (HasRows es s a) (giveGroup share a level g) (now (space .entry)) (now (space .exit)) n (t .count) (putEntries (t .rows)) ⌝ }
 {
     let e = es[a];
     let xs = sizes(es, e, level, g);
@@ -245,8 +246,8 @@ pub fn give_shared(
     n: usize,
 ) -> AfterFills
     requires { ⌜ a < tableRows ⌝ }
-    requires { ⌜ RoomIn (HasRows es s a) (giveShared a level) (now space) n ⌝ }
-    ensures { λ t. ⌜ DoneIn (HasRows es s a) (giveShared a level) (now (space .entry)) (now (space .exit)) n (t .count) (putEntries (t .rows)) ⌝ }
+    requires { ⌜ RoomIn (HasRows es s a) (giveShared share a level) (now space) n ⌝ }
+    ensures { λ t. ⌜ DoneIn (HasRows es s a) (giveShared share a level) (now (space .entry)) (now (space .exit)) n (t .count) (putEntries (t .rows)) ⌝ }
 {
     let x = give_in_turn(es, s, a, level, 0, space, n);
     let fs = x.rows;

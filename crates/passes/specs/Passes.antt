@@ -16,7 +16,7 @@ use Rattle.rules.specs.declared.Strategy.{Strategy}
 use Rattle.rules.specs.declared.LegOrder.{LegOrder}
 use Rattle.rules.specs.declared.State.{State}
 use Rattle.rules.specs.declared.Allocation.{Allocation}
-use Rattle.rules.specs.declared.Allocation.the-variants.{LegsOnly, Shared, Numbered}
+use Rattle.rules.specs.declared.Allocation.the-variants.{LegsOnly, Shared, ForStarter, Numbered}
 use Rattle.rules.specs.declared.Bounds.{Bounds}
 use Rattle.rules.specs.declared.Turn.{Turn}
 use Rattle.rules.specs.declared.Turn.the-variants.{Stop, ByLegs, AtLimit}
@@ -49,6 +49,7 @@ stopsAt (AtLimit level) = false
 unfoldable pub oppositeIn : Allocation → List Entry → Entry → ℕ
 oppositeIn LegsOnly es e = 0
 oppositeIn Shared es e = bestOpposite es e
+oppositeIn ForStarter es e = bestOpposite es e
 oppositeIn Numbered es e = bestOpposite es e
 
 -- the leg net where the legs may be used and are ready, else 0
@@ -79,6 +80,7 @@ opposite-in : (way : Allocation) (a : ℕ) (b : State) → opposite way a b ≡ 
 unfolding opposite oppositeIn
 opposite-in LegsOnly a b = refl
 opposite-in Shared a b = refl
+opposite-in ForStarter a b = refl
 opposite-in Numbered a b = refl
 
 pick-not : (t : Bool) (x y : ℕ) → pick (not t) x y ≡ pick t y x

@@ -77,6 +77,7 @@ fn opposite(way: Allocation, es: [Entry; State::ROWS], e: Entry) -> u32
     match way {
         Allocation::LegsOnly => 0,
         Allocation::Shared => best_opposite(es, e),
+        Allocation::ForStarter => best_opposite(es, e),
         Allocation::Numbered => best_opposite(es, e),
     }
 }
@@ -145,6 +146,7 @@ fn meet_limit(
     match way {
         Allocation::LegsOnly => AfterFills { rows: es, count: n },
         Allocation::Shared => give_shared(es, s, a, level, space, n),
+        Allocation::ForStarter => give_shared(es, s, a, level, space, n),
         Allocation::Numbered => give_in_turn(es, s, a, level, 3, space, n),
     }
 }

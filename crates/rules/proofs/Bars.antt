@@ -18,7 +18,7 @@ use Rattle.rules.specs.declared.Record.{Record}
 use Rattle.rules.specs.declared.Kind.{Kind}
 use Rattle.rules.specs.declared.Kind.the-variants.{WholeFill, LegFill, LegOrderFill}
 use Rattle.rules.specs.declared.Allocation.{Allocation}
-use Rattle.rules.specs.declared.Allocation.the-variants.{LegsOnly, Shared, Numbered}
+use Rattle.rules.specs.declared.Allocation.the-variants.{LegsOnly, Shared, ForStarter, Numbered}
 use Rattle.rules.specs.declared.Turn.{Turn}
 use Rattle.rules.specs.declared.Turn.the-variants.{Stop, ByLegs, AtLimit}
 use Rattle.rules.specs.State.{noOrder, entryAt, strategyAt, strategyOf}
@@ -26,7 +26,8 @@ use Rattle.rules.specs.Moves.{Moved, and-then, each}
 use Rattle.rules.specs.Records.{kindNumber}
 use Rattle.rules.specs.Nets.{prices, netOf, unitsOf}
 use Rattle.rules.specs.Fills.{legRecordAt, partyRecords, orderRow, orderRows, orderRecordsAt, takesAt, legQuotas, wholeFill, takeLegs, legFill, cancelEntry}
-use Rattle.rules.specs.Passes.{giveAt, give, giveInTurn, giveGroup, giveShared, meetLimit, opposite, turnOf, takeTurn, turn, pass}
+use Rattle.rules.specs.Quotas.{Division, share}
+use Rattle.rules.specs.Passes.{giveAt, give, giveGroup, giveShared, meetLimit, opposite, turnOf, takeTurn, turn, pass}
 use Rattle.rules.specs.Auctions.{starterSlot, cancelLapsed, close, endUnfilled, starterPass, later, laterPass}
 use Rattle.rules.specs.Valid.{Sound, Starter}
 use Rattle.rules.specs.Sentences.{Unpriced, UnpricedOf, WithoutLegs, LegsMeetNone, BarredHere, AheadNumbered, NonePassed, StarterSentence, LaterSentence}
@@ -36,7 +37,7 @@ use Rattle.rules.proofs.Ends.{pass-why}
 use Rattle.rules.proofs.Validity.{starter-slot}
 use Rattle.rules.proofs.WholeFills.{limit-without, pass-without}
 use Rattle.rules.proofs.Cancels.{same-slot}
-use Rattle.rules.proofs.Groups.{shared-pass, numbered-pass}
+use Rattle.rules.proofs.Groups.{starter-pass, numbered-pass}
 
 -- THE STARTER'S PASS
 -- the slot that the rules seek is the starter's
@@ -48,13 +49,13 @@ starter-is b s k i h =
 pub starter-sentence : (b : State) → Sound b → (k : ℕ) → StarterSentence b k (starterPass k b)
 unfolding starterPass opposite
 starter-sentence b s k = record {
-  barred = λ e. rw e (pass-without Shared (starterSlot b k) b);
-  passesNone = λ i h. rw (starter-is b s k i h) (shared-pass (not (strategyAt b k .answered)) i b s);
+  barred = λ e. rw e (pass-without ForStarter (starterSlot b k) b);
+  passesNone = λ i h. rw (starter-is b s k i h) (starter-pass (not (strategyAt b k .answered)) i b s);
   free = λ e i h. rw (e, starter-is b s k i h) (why i);
 }
   where
-    why : (i : ℕ) → (entryAt (pass Shared true i b .state) i .units ≡ 0) ⊎ (LegsMeetNone (pass Shared true i b .state) i ⊎ BarredHere (pass Shared true i b .state) i true)
-    why i = ⊎-elim inl (λ r. inr (⊎-elim (λ n. inl (n .legs)) inr r)) (pass-why Shared true i b)
+    why : (i : ℕ) → (entryAt (pass ForStarter true i b .state) i .units ≡ 0) ⊎ (LegsMeetNone (pass ForStarter true i b .state) i ⊎ BarredHere (pass ForStarter true i b .state) i true)
+    why i = ⊎-elim inl (λ r. inr (⊎-elim (λ n. inl (n .legs)) inr r)) (pass-why ForStarter true i b)
 
 -- THE PASS OF ANOTHER
 pub later-sentence : (b : State) → Sound b → (k n i : ℕ) → LaterSentence b i (laterPass k n i b)
@@ -165,10 +166,15 @@ module _ (K : Kind → Type 0) (whole : K WholeFill) (leg : K LegFill) (order : 
   give-kinds a level qs b =
       each-all P (giveAt a level qs) (λ i c. pick-all (λ (m : Moved). All P (m .records)) _ all-nil (all-append (party-kinds _ _ _ _ _) (party-kinds _ _ _ _ _))) 32 b
 
+  shared-kinds : (second : Division) (a level : ℕ) (b : State) → All P (giveShared second a level b .records)
+  unfolding giveShared giveGroup and-then
+  shared-kinds second a level b = all-append (give-kinds a level _ b) (all-append (give-kinds a level _ _) (give-kinds a level _ _))
+
   limit-kinds : (way : Allocation) (a level : ℕ) (b : State) → All P (meetLimit way a level b .records)
-  unfolding meetLimit giveShared giveInTurn giveGroup and-then
+  unfolding meetLimit giveGroup
   limit-kinds LegsOnly a level b = all-nil
-  limit-kinds Shared a level b = all-append (give-kinds a level _ b) (all-append (give-kinds a level _ _) (give-kinds a level _ _))
+  limit-kinds Shared a level b = shared-kinds share a level b
+  limit-kinds ForStarter a level b = shared-kinds share a level b
   limit-kinds Numbered a level b = give-kinds a level _ b
 
   take-kinds : (way : Allocation) (a : ℕ) (t : Turn) (b : State) → All P (takeTurn way a t b .records)

@@ -13,7 +13,7 @@ use Rattle.base.specs.Walks.{sumN, firstN, lt-or-le, first-holds, sum-zero, sum
 use Rattle.rules.specs.declared.Entry.{Entry}
 use Rattle.rules.specs.declared.LegOrder.{LegOrder}
 use Rattle.rules.specs.declared.State.{State}
-use Rattle.rules.specs.declared.Allocation.the-variants.{LegsOnly, Shared, Numbered}
+use Rattle.rules.specs.declared.Allocation.the-variants.{LegsOnly, Shared, ForStarter, Numbered}
 use Rattle.rules.specs.State.{noEntry, noOrder, entryAt, orderAt, strategyAt, withEntries, withOrders, withOpened, withClock, withLast}
 use Rattle.rules.specs.Moves.{Moved, and-then, each}
 use Rattle.rules.specs.Fills.{wholeFill, cancelEntry}
@@ -130,10 +130,10 @@ module _ (b₀ : State) (six : Six b₀) where
       ⊎-elim
       (λ (l : a < 32).
       let e : LiveIn k (entryAt b a) = live-in k (entryAt b a) (pick-yes (liveIn k (entryAt b a)) (first-holds (isNumber b k n) 32 l) .0) in
-      pass-pays b m Shared a (14 * sumN (heldAt b₀ k) 32) (rw (e .strategy) (omega (arith, held-shrinks k h))) _)
+      pass-pays b m ForStarter a (14 * sumN (heldAt b₀ k) 32) (rw (e .strategy) (omega (arith, held-shrinks k h))) _)
       (λ (l : 32 ≤ a).
       let e : entryAt b a ≡ noEntry = List·getD-eq-default (b .entries) noEntry {n = a} (omega (arith, m .entries)) in
-      rw (pass-none Shared (not (strategyAt b k .answered)) a b (ap (λ (x : Entry). x .units) e)) (pays-nothing _ b))
+      rw (pass-none ForStarter (not (strategyAt b k .answered)) a b (ap (λ (x : Entry). x .units) e)) (pays-nothing _ b))
       (lt-or-le a 32)
 
 -- AUCTIONS

@@ -14,7 +14,7 @@ use Rattle.rules.specs.declared.Strategy.{Strategy}
 use Rattle.rules.specs.declared.Entry.{Entry}
 use Rattle.rules.specs.declared.State.{State}
 use Rattle.rules.specs.declared.Allocation.{Allocation}
-use Rattle.rules.specs.declared.Allocation.the-variants.{LegsOnly, Shared, Numbered}
+use Rattle.rules.specs.declared.Allocation.the-variants.{LegsOnly, Shared, ForStarter, Numbered}
 use Rattle.rules.specs.declared.Turn.{Turn}
 use Rattle.rules.specs.declared.Turn.the-variants.{Stop, ByLegs, AtLimit}
 use Rattle.rules.specs.State.{entryAt}
@@ -22,7 +22,8 @@ use Rattle.rules.specs.Moves.{Moved, and-then, each}
 use Rattle.rules.specs.Records.{kindNumber}
 use Rattle.rules.specs.Sides.{meets, better}
 use Rattle.rules.specs.Fills.{legRecordAt, partyRecords, noPrices, wholeFill}
-use Rattle.rules.specs.Passes.{legsFirst, turnAt, giveAt, give, giveInTurn, giveGroup, giveShared, meetLimit}
+use Rattle.rules.specs.Quotas.{Division, share}
+use Rattle.rules.specs.Passes.{legsFirst, turnAt, giveAt, give, giveGroup, giveShared, meetLimit}
 use Rattle.rules.specs.Sentences.{TurnSentence, AtThatLimit}
 use Rattle.rules.proofs.Validity.{then-no}
 
@@ -113,8 +114,13 @@ give-at : (a level : ℕ) (qs : List ℕ) (b : State) → All (AtThatLimit level
 unfolding give
 give-at a level qs b = each-at level (giveAt a level qs) (λ i c. whole-at c a i level (slot qs i)) 32 b
 
+shared-price : (second : Division) (a level : ℕ) (b : State) → All (AtThatLimit level) (giveShared second a level b .records)
+unfolding giveShared giveGroup and-then
+shared-price second a level b = all-append (give-at a level _ b) (all-append (give-at a level _ _) (give-at a level _ _))
+
 pub limit-price : (way : Allocation) (a level : ℕ) (b : State) → All (AtThatLimit level) (meetLimit way a level b .records)
-unfolding meetLimit giveShared giveInTurn giveGroup and-then
+unfolding meetLimit giveGroup
 limit-price LegsOnly a level b = all-nil
-limit-price Shared a level b = all-append (give-at a level _ b) (all-append (give-at a level _ _) (give-at a level _ _))
+limit-price Shared a level b = shared-price share a level b
+limit-price ForStarter a level b = shared-price share a level b
 limit-price Numbered a level b = give-at a level _ b

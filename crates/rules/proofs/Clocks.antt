@@ -18,7 +18,7 @@ use Rattle.rules.specs.declared.State.{State}
 use Rattle.rules.specs.declared.Record.{Record}
 use Rattle.rules.specs.declared.Kind.{Kind}
 use Rattle.rules.specs.declared.Allocation.{Allocation}
-use Rattle.rules.specs.declared.Allocation.the-variants.{Shared, Numbered}
+use Rattle.rules.specs.declared.Allocation.the-variants.{ForStarter, Numbered}
 use Rattle.rules.specs.State.{entryAt, strategyAt, withStrategies, withClock}
 use Rattle.rules.specs.Moves.{Moved, still, and-then, each}
 use Rattle.rules.specs.Auctions.{liveIn, running, putAuction, close, cancelLapsed, starterSlot, starterPass, later, laterPass, endUnfilled, endAuction, due, endDue}
@@ -39,7 +39,7 @@ use Rattle.rules.proofs.Endings.{live-is, ended-at, ended-other, ended-
 use Rattle.rules.proofs.Validity.{clear, starter-found}
 use Rattle.rules.proofs.Firsts.{live-slot}
 use Rattle.rules.proofs.Cancels.{same-slot}
-use Rattle.rules.proofs.PassEnds.{turn-within, shared-had, numbered-had}
+use Rattle.rules.proofs.PassEnds.{turn-within, for-starter-had, numbered-had}
 use Rattle.rules.proofs.Bars.{starter-sentence, unpriced-of, each-all, pass-kinds, each-of, other-pass, later-of, unfilled-of}
 
 -- a strategy whose auction runs
@@ -173,7 +173,7 @@ module _ (b : State) (v : Valid b) (k : ℕ) (r : running b k ≡ true) (answere
         same-or (All (UnpricedOf mine) (starterPass j c .records)) j k
         (λ q. unpriced-of mine (starter-sentence c (e .valid .sound) j .barred (rw (e .ahead j (omega arith), q) answered) .prices))
         (λ q. let p : Starter c j (starterSlot c j) = starter-found c (e .valid) j run in
-        other-pass mine Shared _ (starterSlot c j) c rows (apart c (e .shrinks) (starterSlot c j) j q (p .live) (p .strategy)))
+        other-pass mine ForStarter _ (starterSlot c j) c rows (apart c (e .shrinks) (starterSlot c j) j q (p .live) (p .strategy)))
 
     others-of : (i : ℕ) (d : State) → Shrinks c d → All (UnpricedOf mine) (laterPass j (strategyAt c j .starter) i d .records)
     unfolding later
@@ -276,7 +276,7 @@ module _ (b : State) (v : Valid b) (k : ℕ) (low : k < 16) (r : running b k ≡
       let s = so-far .shrinks .entry (starterSlot now k) in
       let z : starterSlot now k ≡ i =
       same-slot (v .sound) (starterSlot now k) i (omega (arith, q .live, s .units)) (p .live) (sym (s .number) ∙ q .number ∙ ap (λ (t : Strategy). t .starter) row ∙ sym (p .number)) in
-      let h : HadTurn now first (starterSlot now k) (not (strategyAt now k .answered)) = shared-had (not (strategyAt now k .answered)) (starterSlot now k) now (so-far .valid .sound) in
+      let h : HadTurn now first (starterSlot now k) (not (strategyAt now k .answered)) = for-starter-had (not (strategyAt now k .answered)) (starterSlot now k) now (so-far .valid .sound) in
       turn-within (so-far .shrinks) (rw (z, row) at h) (shrinks-trans first-second second-end)
 
   -- an entry that was accepted meanwhile
@@ -348,7 +348,7 @@ module _ (b c : State) (j : ℕ) (e : Ended b j c) (t : due c j ≡ true) where
   unfolding endAuction endUnfilled and-then starterPass laterPass cancelLapsed cancelEntry kindNumber
   auction-fives =
       let P : Moved → Type 0 = λ (m : Moved). All (OfDue b) (m .records) in
-      all-append (noend (pass-noend Shared _ (starterSlot c j) c))
+      all-append (noend (pass-noend ForStarter _ (starterSlot c j) c))
       (all-append (each-all (OfDue b) (laterPass j (strategyAt c j .starter)) (λ i d. pick-all P _ (noend (pass-noend Numbered _ i d)) all-nil) 32 (starterPass j c .state))
       (all-append (each-all (OfDue b) (cancelLapsed j) (λ i d. pick-all P _ (pick-all P _ all-nil (all-cons (λ k. absurd (omega arith)) all-nil)) all-nil) 32 others)
       (rw its-record (all-cons (λ _. (due-b, refl)) all-nil))))

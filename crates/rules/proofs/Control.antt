@@ -16,23 +16,23 @@ use Rattle.rules.specs.declared.Entry.{Entry}
 use Rattle.rules.specs.declared.LegOrder.{LegOrder}
 use Rattle.rules.specs.declared.State.{State}
 use Rattle.rules.specs.declared.Allocation.{Allocation}
-use Rattle.rules.specs.declared.Allocation.the-variants.{LegsOnly, Shared, Numbered}
+use Rattle.rules.specs.declared.Allocation.the-variants.{LegsOnly, Shared, ForStarter, Numbered}
 use Rattle.rules.specs.declared.Turn.{Turn}
 use Rattle.rules.specs.declared.Turn.the-variants.{Stop, ByLegs, AtLimit}
 use Rattle.rules.specs.State.{entryAt, orderAt, strategyAt, strategyOf, withOpened, withClock}
 use Rattle.rules.specs.Moves.{Moved, still, and-then, each}
 use Rattle.rules.specs.Sides.{other, meets}
 use Rattle.rules.specs.Nets.{stands, prices, netOf, unitsStep, unitsOf}
-use Rattle.rules.specs.Quotas.{inTurn, share}
+use Rattle.rules.specs.Quotas.{Division, inTurn, share}
 use Rattle.rules.specs.National.{boundsAt, mayTake, mayMeet}
 use Rattle.rules.specs.Fills.{wholeFill, legFill, legTrade, cancelEntry, cancelOrder}
-use Rattle.rules.specs.Passes.{opposes, holding, sizes, giveAt, give, giveInTurn, giveGroup, giveShared, meetLimit, ready, readyNet, opposite, legsFirst, turnAt, allowed, turnOf, takeTurn, turn, pass}
+use Rattle.rules.specs.Passes.{opposes, holding, sizes, giveAt, give, giveGroup, giveShared, meetLimit, ready, readyNet, opposite, legsFirst, turnAt, allowed, turnOf, takeTurn, turn, pass}
 use Rattle.rules.specs.Auctions.{liveIn, begin, close, answer, cancelLapsed, endUnfilled, starterPass, laterPass, endAuction, endDue, endHolding, legPass, legPassesIn, legPasses, ahead, bestStep, bestSlot, crossed, matchOnce, matchAll, matchIn}
 use Rattle.rules.specs.Events.{enter, enterOrder, restOrCancel, waits, trades, arrive, onOrder, meetsOrder, aheadOrder, bestOrderStep, bestOrder, tradeOnce, tradeAll, ifRests, onLegOrder, cancelEntryOf, cancelOrderOf, cancelNumber, onClock, shut, reopen, closeRunning, lowestLive, cancelLowest}
 use Rattle.rules.proofs.Tables.{positive}
 use Rattle.rules.proofs.Shrinks.{Shrinks, shrinks-refl, then-shrinks, whole-shrinks, legs-shrinks, trade-shrinks, cancel-shrinks, cancelOrder-shrinks, begin-shrinks, close-shrinks, answer-shrinks}
 use Rattle.rules.proofs.Quotas.{Divides, inTurn-divides, share-divides}
-use Rattle.rules.proofs.Gives.{Lawful, lawful-shrinks, whole-none, opposed, opposed-apart, other-apart, Holder, Quoted, quoted-holder, inTurn-quoted, share-quoted, Given, given, given-each}
+use Rattle.rules.proofs.Gives.{Lawful, lawful-shrinks, whole-none, opposed, opposed-apart, other-apart, Holder, Quoted, quoted-holder, group-quoted, Given, given, given-each}
 
 -- A WHOLE FILL is proper: two that oppose each other, units that both have, a price that meets both limits.
 pub record Proper (b : State) (a h level q : ℕ) : Type 0 where
@@ -146,27 +146,16 @@ given-proper b a level g qs h k l some c v =
     }
 
 -- the state after a group's fills
-pub inTurn-given : (a level g : ℕ) (b : State) → Lawful b a level
-    → Given b a (inTurn (entryAt b a .units) (sizes (b .entries) (entryAt b a) level g)) 32 (giveInTurn a level g b .state)
-unfolding giveInTurn
-inTurn-given a level g b m = given b a level g _ (inTurn-quoted b a level g m)
-
-pub group-given : (a level g : ℕ) (b : State) → Lawful b a level
-    → Given b a (share (entryAt b a .units) (sizes (b .entries) (entryAt b a) level g)) 32 (giveGroup a level g b .state)
+pub group-given : {divide : Division} → Divides divide → (a level g : ℕ) (b : State) → Lawful b a level
+    → Given b a (divide (entryAt b a .units) (sizes (b .entries) (entryAt b a) level g)) 32 (giveGroup divide a level g b .state)
 unfolding giveGroup
-group-given a level g b m = given b a level g _ (share-quoted b a level g m)
+group-given d a level g b m = given b a level g _ (group-quoted d b a level g m)
 
 -- what a group leaves of the active entry
-given-left : {quotas : ℕ → List ℕ → List ℕ} → Divides quotas → {b c : State} {a : ℕ} {xs : List ℕ} → Given b a (quotas (entryAt b a .units) xs) 32 c → entryAt c a .units ≡ entryAt b a .units - sumN (slot xs) 32
-given-left d {b} {c} {a} {xs} v = omega (arith, ap (λ (x : Entry). x .units) (v .active), d .sum (entryAt b a .units) xs)
-
-pub inTurn-left : (a level g : ℕ) (b : State) → Lawful b a level
-    → entryAt (giveInTurn a level g b .state) a .units ≡ entryAt b a .units - sumN (slot (sizes (b .entries) (entryAt b a) level g)) 32
-inTurn-left a level g b m = given-left inTurn-divides (inTurn-given a level g b m)
-
-pub group-left : (a level g : ℕ) (b : State) → Lawful b a level
-    → entryAt (giveGroup a level g b .state) a .units ≡ entryAt b a .units - sumN (slot (sizes (b .entries) (entryAt b a) level g)) 32
-group-left a level g b m = given-left share-divides (group-given a level g b m)
+pub group-left : {divide : Division} → Divides divide → (a level g : ℕ) (b : State) → Lawful b a level
+    → entryAt (giveGroup divide a level g b .state) a .units ≡ entryAt b a .units - sumN (slot (sizes (b .entries) (entryAt b a) level g)) 32
+group-left d a level g b m =
+    omega (arith, ap (λ (x : Entry). x .units) (group-given d a level g b m .active), d .sum (entryAt b a .units) (sizes (b .entries) (entryAt b a) level g))
 
 -- LEGS
 -- the units of a fill by legs are no more than asked, and some where one is there
@@ -375,29 +364,26 @@ module _ {K : State → Moved → Type 0} (κ : Kept K) where
   unfolding give
   give-kept a level g qs b h = giveEach-kept b a level g qs h 32 (omega arith)
 
-  pub giveInTurn-kept : (a level g : ℕ) (b : State) → Lawful b a level → K b (giveInTurn a level g b)
-  unfolding giveInTurn
-  giveInTurn-kept a level g b m = give-kept a level g _ b (inTurn-quoted b a level g m)
-
-  pub giveGroup-kept : (a level g : ℕ) (b : State) → Lawful b a level → K b (giveGroup a level g b)
+  pub giveGroup-kept : {divide : Division} → Divides divide → (a level g : ℕ) (b : State) → Lawful b a level → K b (giveGroup divide a level g b)
   unfolding giveGroup
-  giveGroup-kept a level g b m = give-kept a level g _ b (share-quoted b a level g m)
+  giveGroup-kept d a level g b m = give-kept a level g _ b (group-quoted d b a level g m)
 
-  pub giveShared-kept : (a level : ℕ) (b : State) → Lawful b a level → K b (giveShared a level b)
+  pub giveShared-kept : {second : Division} → Divides second → (a level : ℕ) (b : State) → Lawful b a level → K b (giveShared second a level b)
   unfolding giveShared
-  giveShared-kept a level b m =
-      let c : State = giveInTurn a level 0 b .state in
-      let d : State = giveGroup a level 1 c .state in
-      let m₁ : Lawful c a level = lawful-shrinks (inTurn-given a level 0 b m .shrinks) m in
-      let m₂ : Lawful d a level = lawful-shrinks (group-given a level 1 c m₁ .shrinks) m₁ in
-      κ .both b (giveInTurn a level 0 b) _ (giveInTurn-kept a level 0 b m)
-      (κ .both c (giveGroup a level 1 c) (giveGroup a level 2) (giveGroup-kept a level 1 c m₁) (giveGroup-kept a level 2 d m₂))
+  giveShared-kept {second} d a level b m =
+      let c : State = giveGroup inTurn a level 0 b .state in
+      let e : State = giveGroup second a level 1 c .state in
+      let m₁ : Lawful c a level = lawful-shrinks (group-given inTurn-divides a level 0 b m .shrinks) m in
+      let m₂ : Lawful e a level = lawful-shrinks (group-given d a level 1 c m₁ .shrinks) m₁ in
+      κ .both b (giveGroup inTurn a level 0 b) _ (giveGroup-kept inTurn-divides a level 0 b m)
+      (κ .both c (giveGroup second a level 1 c) (giveGroup share a level 2) (giveGroup-kept d a level 1 c m₁) (giveGroup-kept share-divides a level 2 e m₂))
 
   pub meetLimit-kept : (way : Allocation) (a level : ℕ) (b : State) → Lawful b a level → K b (meetLimit way a level b)
   unfolding meetLimit
   meetLimit-kept LegsOnly a level b m = κ .nothing b
-  meetLimit-kept Shared a level b m = giveShared-kept a level b m
-  meetLimit-kept Numbered a level b m = giveInTurn-kept a level 3 b m
+  meetLimit-kept Shared a level b m = giveShared-kept share-divides a level b m
+  meetLimit-kept ForStarter a level b m = giveShared-kept share-divides a level b m
+  meetLimit-kept Numbered a level b m = giveGroup-kept inTurn-divides a level 3 b m
 
   -- passes
   pub take-kept : (way : Allocation) (a : ℕ) (t : Turn) (b : State) → Fits b a t → K b (takeTurn way a t b)
@@ -437,7 +423,7 @@ module _ {K : State → Moved → Type 0} (κ : Kept K) where
 
   pub starterPass-kept : (k : ℕ) (b : State) → K b (starterPass k b)
   unfolding starterPass
-  starterPass-kept k b = pass-kept Shared _ _ b
+  starterPass-kept k b = pass-kept ForStarter _ _ b
 
   pub laterPass-kept : (k n i : ℕ) (b : State) → K b (laterPass k n i b)
   unfolding laterPass

@@ -13,7 +13,7 @@ use Rattle.rules.specs.declared.Strategy.{Strategy}
 use Rattle.rules.specs.declared.Entry.{Entry}
 use Rattle.rules.specs.declared.State.{State}
 use Rattle.rules.specs.declared.Allocation.{Allocation}
-use Rattle.rules.specs.declared.Allocation.the-variants.{LegsOnly, Shared, Numbered}
+use Rattle.rules.specs.declared.Allocation.the-variants.{LegsOnly, Shared, ForStarter, Numbered}
 use Rattle.rules.specs.declared.Bounds.{Bounds}
 use Rattle.rules.specs.declared.Turn.{Turn}
 use Rattle.rules.specs.declared.Turn.the-variants.{Stop, ByLegs, AtLimit}
@@ -24,7 +24,8 @@ use Rattle.rules.specs.Nets.{prices, unitsOf}
 use Rattle.rules.specs.Fills.{cut, wholeFill, takeLegs, legFill}
 use Rattle.rules.specs.National.{boundsAt}
 use Rattle.rules.specs.Sentences.{BarredTurn, at-legs, at-limit, Barred}
-use Rattle.rules.specs.Passes.{opposes, groupOf, within, holding, sizeAt, sizes, giveAt, give, giveInTurn, giveGroup, giveShared, meetLimit, ready, readyNet, opposite, legsFirst, turnAt, allowed, turnOf, takeTurn, turn, pass}
+use Rattle.rules.specs.Quotas.{Division, inTurn, share}
+use Rattle.rules.specs.Passes.{opposes, groupOf, within, holding, sizeAt, sizes, giveAt, give, giveGroup, giveShared, meetLimit, ready, readyNet, opposite, legsFirst, turnAt, allowed, turnOf, takeTurn, turn, pass}
 use Rattle.rules.proofs.Tables.{positive}
 use Rattle.rules.proofs.Shrinks.{cut-shrinks}
 use Rattle.rules.proofs.Turns.{each-ends, units-some, Holder, opposite-holder}
@@ -62,25 +63,17 @@ total b a level g = sumN (slot (sizes (b .entries) (entryAt b a) level g)) 32
 abbrev unitsAt : ℕ → State → ℕ
 unitsAt a b = entryAt b a .units
 
-module _ {quotas : ℕ → List ℕ → List ℕ} (d : Divides quotas) (a level g : ℕ) (b : State) where
+module _ {divide : Division} (d : Divides divide) (a level g : ℕ) (b : State) where
   abbrev quoted : List ℕ
-  quoted = quotas (unitsAt a b) (sizes (b .entries) (entryAt b a) level g)
+  quoted = divide (unitsAt a b) (sizes (b .entries) (entryAt b a) level g)
 
-  give-takes : unitsAt a (give a level quoted b .state) ≤ unitsAt a b - min (unitsAt a b) (total b a level g)
-  unfolding give
-  give-takes = omega (arith, gives a level quoted b 32, d .sum (unitsAt a b) (sizes (b .entries) (entryAt b a) level g))
+  group-takes : unitsAt a (giveGroup divide a level g b .state) ≤ unitsAt a b - min (unitsAt a b) (total b a level g)
+  unfolding giveGroup give
+  group-takes = omega (arith, gives a level quoted b 32, d .sum (unitsAt a b) (sizes (b .entries) (entryAt b a) level g))
 
-  give-none : total b a level g ≡ 0 → give a level quoted b .state ≡ b
-  unfolding give
-  give-none e = gives-none a level quoted b 32 (omega (arith, d .sum (unitsAt a b) (sizes (b .entries) (entryAt b a) level g)))
-
-inTurn-takes : (a level g : ℕ) (b : State) → unitsAt a (giveInTurn a level g b .state) ≤ unitsAt a b - min (unitsAt a b) (total b a level g)
-unfolding giveInTurn
-inTurn-takes = give-takes inTurn-divides
-
-group-takes : (a level g : ℕ) (b : State) → unitsAt a (giveGroup a level g b .state) ≤ unitsAt a b - min (unitsAt a b) (total b a level g)
-unfolding giveGroup
-group-takes = give-takes share-divides
+  group-none : total b a level g ≡ 0 → giveGroup divide a level g b .state ≡ b
+  unfolding giveGroup give
+  group-none e = gives-none a level quoted b 32 (omega (arith, d .sum (unitsAt a b) (sizes (b .entries) (entryAt b a) level g)))
 
 -- the holder's group holds some
 group-of : (f : Entry) → (groupOf f ≡ 0) ⊎ ((groupOf f ≡ 1) ⊎ (groupOf f ≡ 2))
@@ -109,56 +102,51 @@ module _ (a x : ℕ) (b : State) (some : 0 < unitsAt a b) (h : Holder (b .entrie
   abbrev Stays : State → Type 0
   Stays c = Falls c ⊎ (c ≡ b)
 
-  give-stays : {quotas : ℕ → List ℕ → List ℕ} (d : Divides quotas) (g : ℕ) → Stays (give a x (quotas (unitsAt a b) (sizes (b .entries) (entryAt b a) x g)) b .state)
-  give-stays d g = ⊎-elim (λ (l : 0 < total b a x g). inl (omega (arith, give-takes d a x g b))) (λ (l : total b a x g ≤ 0). inr (give-none d a x g b (omega arith))) (lt-or-le 0 (total b a x g))
+  group-stays : {divide : Division} → Divides divide → (g : ℕ) → Stays (giveGroup divide a x g b .state)
+  group-stays d g = ⊎-elim (λ (l : 0 < total b a x g). inl (omega (arith, group-takes d a x g b))) (λ (l : total b a x g ≤ 0). inr (group-none d a x g b (omega arith))) (lt-or-le 0 (total b a x g))
 
-  inTurn-stays : (g : ℕ) → Stays (giveInTurn a x g b .state)
-  unfolding giveInTurn
-  inTurn-stays = give-stays inTurn-divides
+  group-next : {divide : Division} → Divides divide → (g : ℕ) (c : State) → Stays c → Stays (giveGroup divide a x g c .state)
+  group-next d g c s = ⊎-elim (λ l. inl (omega (arith, group-takes d a x g c))) (λ e. rw e (group-stays d g)) s
 
-  group-stays : (g : ℕ) → Stays (giveGroup a x g b .state)
-  unfolding giveGroup
-  group-stays = give-stays share-divides
+  group-falls : {divide : Division} → Divides divide → (g : ℕ) → within g holder ≡ true → Falls (giveGroup divide a x g b .state)
+  group-falls d g w = omega (arith, group-takes d a x g b, holds g w)
 
-  group-next : (g : ℕ) (c : State) → Stays c → Stays (giveGroup a x g c .state)
-  group-next g c s = ⊎-elim (λ l. inl (omega (arith, group-takes a x g c))) (λ e. rw e (group-stays g)) s
+  group-on : {divide : Division} → Divides divide → (g : ℕ) (c : State) → Stays c → within g holder ≡ true → Falls (giveGroup divide a x g c .state)
+  group-on d g c s w = ⊎-elim (λ l. omega (arith, group-takes d a x g c)) (λ e. rw e (group-falls d g w)) s
 
-  group-on : (g : ℕ) (c : State) → Stays c → (c ≡ b → Falls (giveGroup a x g b .state)) → Falls (giveGroup a x g c .state)
-  group-on g c s f = ⊎-elim (λ l. omega (arith, group-takes a x g c)) (λ e. rw e (f e)) s
-
-  numbered-falls : Falls (giveInTurn a x 3 b .state)
+  numbered-falls : Falls (giveGroup inTurn a x 3 b .state)
   unfolding within
-  numbered-falls = omega (arith, inTurn-takes a x 3 b, holds 3 (pick-true _ _ _ refl))
+  numbered-falls = group-falls inTurn-divides 3 (pick-true _ _ _ refl)
 
-  abbrev one : State
-  one = giveInTurn a x 0 b .state
+  module _ {divide : Division} (d : Divides divide) where
+    abbrev one : State
+    one = giveGroup inTurn a x 0 b .state
 
-  abbrev two : State
-  two = giveGroup a x 1 one .state
+    abbrev two : State
+    two = giveGroup divide a x 1 one .state
 
-  first : groupOf holder ≡ 0 → Falls (giveGroup a x 2 two .state)
-  unfolding within
-  first e = omega (arith, inTurn-takes a x 0 b, holds 0 (pick-false _ _ _ refl ∙ eq-eqb _ _ e), group-takes a x 1 one, group-takes a x 2 two)
+    first : groupOf holder ≡ 0 → Falls (giveGroup share a x 2 two .state)
+    unfolding within
+    first e = omega (arith, group-falls inTurn-divides 0 (pick-false _ _ _ refl ∙ eq-eqb _ _ e), group-takes d a x 1 one, group-takes share-divides a x 2 two)
 
-  second : groupOf holder ≡ 1 → Falls (giveGroup a x 2 two .state)
-  unfolding within
-  second e =
-      let f : Falls two = group-on 1 one (inTurn-stays 0) (λ _. omega (arith, group-takes a x 1 b, holds 1 (pick-false _ _ _ refl ∙ eq-eqb _ _ e))) in
-      omega (arith, group-takes a x 2 two)
+    second : groupOf holder ≡ 1 → Falls (giveGroup share a x 2 two .state)
+    unfolding within
+    second e = omega (arith, group-on d 1 one (group-stays inTurn-divides 0) (pick-false _ _ _ refl ∙ eq-eqb _ _ e), group-takes share-divides a x 2 two)
 
-  third : groupOf holder ≡ 2 → Falls (giveGroup a x 2 two .state)
-  unfolding within
-  third e = group-on 2 two (group-next 1 one (inTurn-stays 0)) (λ _. omega (arith, group-takes a x 2 b, holds 2 (pick-false _ _ _ refl ∙ eq-eqb _ _ e)))
+    third : groupOf holder ≡ 2 → Falls (giveGroup share a x 2 two .state)
+    unfolding within
+    third e = group-on share-divides 2 two (group-next d 1 one (group-stays inTurn-divides 0)) (pick-false _ _ _ refl ∙ eq-eqb _ _ e)
 
-  shared-falls : Falls (giveShared a x b .state)
-  unfolding giveShared and-then
-  shared-falls = ⊎-elim first (⊎-elim second third) (group-of holder)
+    shared-falls : Falls (giveShared divide a x b .state)
+    unfolding giveShared and-then
+    shared-falls = ⊎-elim first (⊎-elim second third) (group-of holder)
 
 -- A TURN at the opposite limit, and one by the legs
 limit-falls : (way : Allocation) (a : ℕ) (b : State) → 0 < unitsAt a b → (opposite way a b ≡ 0 → ⊥) → unitsAt a (meetLimit way a (opposite way a b) b .state) < unitsAt a b
 unfolding opposite meetLimit
 limit-falls LegsOnly a b some x = absurd (x refl)
-limit-falls Shared a b some x = shared-falls a _ b some (opposite-holder (b .entries) (entryAt b a) x)
+limit-falls Shared a b some x = shared-falls a _ b some (opposite-holder (b .entries) (entryAt b a) x) share-divides
+limit-falls ForStarter a b some x = shared-falls a _ b some (opposite-holder (b .entries) (entryAt b a) x) share-divides
 limit-falls Numbered a b some x = numbered-falls a _ b some (opposite-holder (b .entries) (entryAt b a) x)
 
 is-ready : (legs : Bool) (a : ℕ) (b : State) → (readyNet legs a b ≡ 0 → ⊥) → ready a b ≡ true

@@ -17,9 +17,9 @@ use Rattle.rules.specs.Fills.{cut, cutLeg, wholeFill, legTrade}
 use Rattle.rules.specs.National.{boundsAt, mayMeet}
 use Rattle.rules.specs.Auctions.{bestSlot, crossed, lowerOf, mayMatch, matchOnce, matchAll}
 use Rattle.rules.specs.Events.{bestOrder, tradeOnce, tradeAll}
-use Rattle.rules.proofs.Tables.{positive}
+use Rattle.rules.proofs.Tables.{positive, sum-less}
 use Rattle.rules.proofs.Shrinks.{Shrinks, shrinks-refl, cut-shrinks, cutLeg-shrinks, whole-shrinks, trade-shrinks, then-shrinks}
-use Rattle.rules.proofs.Turns.{each-ends, sum-less}
+use Rattle.rules.proofs.Turns.{each-ends}
 use Rattle.rules.proofs.Firsts.{Resting, Meeting, best-rests, best-meets, best-any, best-order-any}
 use Rattle.rules.proofs.Ends.{cut-takes, whole-takes}
 use Rattle.rules.proofs.Gives.{cutLeg-at}

@@ -19,13 +19,13 @@ use Rattle.rules.specs.State.{noEntry, entryAt, withEntries, noOrder, or
 use Rattle.rules.specs.Moves.{Moved, still, and-then, each}
 use Rattle.rules.specs.Sides.{other, meets}
 use Rattle.rules.specs.Fills.{cutEntry, cut, wholeFill, cutOrder, cutLeg}
-use Rattle.rules.specs.Quotas.{inTurn, share}
+use Rattle.rules.specs.Quotas.{Division}
 use Rattle.rules.specs.Nets.{netOf}
 use Rattle.rules.specs.National.{nationalNet, boundsOf, boundsAt, mayMeet}
 use Rattle.rules.specs.Passes.{opposes, within, holding, sizeAt, sizes, giveAt, give}
 use Rattle.rules.proofs.Tables.{positive}
 use Rattle.rules.proofs.Shrinks.{Shrinks, shrinks-refl, shrinks-trans, whole-shrinks, set-own}
-use Rattle.rules.proofs.Quotas.{Divides, inTurn-divides, share-divides}
+use Rattle.rules.proofs.Quotas.{Divides}
 
 -- CUTS
 pub cut-none : (e : Entry) → cutEntry e 0 ≡ e
@@ -162,23 +162,16 @@ pub sizes-at : (es : List Entry) (e : Entry) (level g i : ℕ) → i < 32 → sl
 unfolding sizes
 sizes-at es e level g i h = table-slot (sizeAt es e level g) 0 32 i h
 
--- by number and shared alike the quotas are so
-module _ (b : State) (a level g : ℕ) (m : Lawful b a level) where
-  quoted : {quotas : ℕ → List ℕ → List ℕ} → Divides quotas → Quoted b a level g (quotas (entryAt b a .units) (sizes (b .entries) (entryAt b a) level g))
-  quoted d =
-      let r : ℕ = entryAt b a .units in
-      let xs : List ℕ = sizes (b .entries) (entryAt b a) level g in
-      record {
-        within = λ i l. rw (sizes-at (b .entries) (entryAt b a) level g i l) at (d .under r xs i);
-        sum = omega (arith, d .sum r xs);
-        lawful = m;
-      }
-
-  pub inTurn-quoted : Quoted b a level g (inTurn (entryAt b a .units) (sizes (b .entries) (entryAt b a) level g))
-  inTurn-quoted = quoted inTurn-divides
-
-  pub share-quoted : Quoted b a level g (share (entryAt b a .units) (sizes (b .entries) (entryAt b a) level g))
-  share-quoted = quoted share-divides
+-- whichever way what remains is divided, the quotas are so
+pub group-quoted : {divide : Division} → Divides divide → (b : State) (a level g : ℕ) → Lawful b a level → Quoted b a level g (divide (entryAt b a .units) (sizes (b .entries) (entryAt b a) level g))
+group-quoted d b a level g m =
+    let r : ℕ = entryAt b a .units in
+    let xs : List ℕ = sizes (b .entries) (entryAt b a) level g in
+    record {
+      within = λ i l. rw (sizes-at (b .entries) (entryAt b a) level g i l) at (d .under r xs i);
+      sum = omega (arith, d .sum r xs);
+      lawful = m;
+    }
 
 -- the entries after the fills of the first k slots
 pub record Given (b : State) (a : ℕ) (qs : List ℕ) (k : ℕ) (c : State) : Type 0 where

@@ -14,26 +14,25 @@ use Rattle.base.specs.Walks.{sumN, slot, walk, sum-one, table-slot, lt-or-le, b
 use Rattle.rules.specs.declared.Entry.{Entry}
 use Rattle.rules.specs.declared.State.{State}
 use Rattle.rules.specs.declared.Allocation.{Allocation}
-use Rattle.rules.specs.declared.Allocation.the-variants.{Shared, Numbered}
+use Rattle.rules.specs.declared.Allocation.the-variants.{Shared, ForStarter, Numbered}
 use Rattle.rules.specs.declared.Turn.{Turn}
 use Rattle.rules.specs.declared.Turn.the-variants.{Stop, ByLegs, AtLimit}
 use Rattle.rules.specs.State.{noEntry, entryAt, withOrders}
 use Rattle.rules.specs.Moves.{and-then, each}
 use Rattle.rules.specs.Sides.{other, meets, better, bestPrice}
-use Rattle.rules.specs.Quotas.{inTurnAt, inTurn, share}
+use Rattle.rules.specs.Quotas.{Division, inTurnAt, inTurn, share}
 use Rattle.rules.specs.Fills.{takeLegs, legFill}
 use Rattle.rules.specs.National.{boundsAt}
-use Rattle.rules.specs.Passes.{opposes, limitWith, limitStep, bestOpposite, groupOf, within, holding, sizes, giveInTurn, giveGroup, giveShared, meetLimit, readyNet, opposite, turnAt, allowed, turnOf, takeTurn, turn, pass}
+use Rattle.rules.specs.Passes.{opposes, limitWith, limitStep, bestOpposite, groupOf, within, holding, sizes, giveGroup, giveShared, meetLimit, readyNet, opposite, turnAt, allowed, turnOf, takeTurn, turn, pass}
 use Rattle.rules.specs.Valid.{Sound}
 use Rattle.rules.specs.Sentences.{Customer, SweepOrMaker, Dealer, Beside, BetterLimit, AheadShared, better-limit, customer-before-maker, customer-before-dealer, maker-before-dealer, customers-by-number, AheadNumbered, NonePassed, got, SharedFairly}
-use Rattle.rules.proofs.Turns.{sum-less}
 use Rattle.rules.proofs.Shrinks.{SameEntry, Shrinks, shrinks-refl, shrinks-trans}
 use Rattle.rules.proofs.Sharing.{share-fair, share-earlier}
 use Rattle.rules.proofs.Quotas.{Divides, inTurn-divides, share-divides}
-use Rattle.rules.proofs.Gives.{Lawful, lawful-shrinks, cut-other, opposed, opposed-apart, holder, sizes-at, Quoted, inTurn-quoted, share-quoted, Given}
+use Rattle.rules.proofs.Gives.{Lawful, lawful-shrinks, cut-other, opposed, opposed-apart, holder, sizes-at, Quoted, group-quoted, Given}
 use Rattle.rules.proofs.Firsts.{live-slot, by-number, better-turn, better-past, better-alike}
-use Rattle.rules.proofs.Tables.{positive}
-use Rattle.rules.proofs.Control.{sum-part, opposes-is, turn-kept, each-kept, shrinks-kept, inTurn-given, group-given}
+use Rattle.rules.proofs.Tables.{positive, sum-equal}
+use Rattle.rules.proofs.Control.{sum-part, opposes-is, turn-kept, each-kept, shrinks-kept, group-given}
 
 -- two entries at one limit, of one strategy and side
 record Together (e f : Entry) : Type 0 where
@@ -62,11 +61,6 @@ dealer-group e (c, s) =
     pick-false _ _ _ (ne-eqb (e .life) 4 s) ∙ pick-false _ _ _ (ne-eqb (e .class) 3 (λ z. omega arith)) ∙ pick-false _ _ _ (ne-eqb (e .class) 1 (λ z. omega arith))
 
 -- ONE GROUP'S FILLS
--- where equal sums have terms that are no larger, the terms are equal
-sum-equal : (f g : ℕ → ℕ) (n i : ℕ) → i < n → ((j : ℕ) → f j ≤ g j) → sumN f n ≡ sumN g n → f i ≡ g i
-sum-equal f g n i l le e =
-    ⊎-elim (λ (h : f i < g i). absurd (omega (arith, sum-less f g n i l le h))) (λ (h : g i ≤ f i). omega (arith, le i)) (lt-or-le (f i) (g i))
-
 -- an entry holds all its units against one that it opposes, in its group
 holds-all : (e f : Entry) (level g : ℕ) → opposes e f ≡ true → f .level ≡ level → within g f ≡ true → holding e level g f ≡ f .units
 unfolding holding
@@ -86,14 +80,21 @@ holding-in e f level g =
     let none : P 0 = λ h. absurd (omega arith) in
     pick-all P _ (pick-all P _ (pick-by P (within g f) (λ w _. w) (λ _. none)) none) none
 
-module _ {quotas : ℕ → List ℕ → List ℕ} (d : Divides quotas) (b : State) (rows : length (b .entries) ≡ 32) (a level g : ℕ) (m : Lawful b a level) (c : State)
-    (q : Quoted b a level g (quotas (entryAt b a .units) (sizes (b .entries) (entryAt b a) level g)))
-    (v : Given b a (quotas (entryAt b a .units) (sizes (b .entries) (entryAt b a) level g)) 32 c) where
+module _ {divide : Division} (d : Divides divide) (a level g : ℕ) (b : State) (rows : length (b .entries) ≡ 32) (m : Lawful b a level) where
   abbrev held : List ℕ
   held = sizes (b .entries) (entryAt b a) level g
 
   abbrev quoted : List ℕ
-  quoted = quotas (entryAt b a .units) held
+  quoted = divide (entryAt b a .units) held
+
+  abbrev c : State
+  c = giveGroup divide a level g b .state
+
+  q : Quoted b a level g quoted
+  q = group-quoted d b a level g m
+
+  v : Given b a quoted 32 c
+  v = group-given d a level g b m
 
   -- one that has traded is of the group, at the limit
   met : (j : ℕ) → (j ≡ a → ⊥) → entryAt c j .units < entryAt b j .units → Met b a level g j
@@ -126,26 +127,17 @@ record Step (b : State) (a level g : ℕ) (c : State) : Type 0 where
   met : (j : ℕ) → (j ≡ a → ⊥) → entryAt c j .units < entryAt b j .units → Met b a level g j
   emptied : (i : ℕ) → 0 < entryAt c a .units → opposes (entryAt b a) (entryAt b i) ≡ true → entryAt b i .level ≡ level → within g (entryAt b i) ≡ true → entryAt c i .units ≡ 0
 
+group-step : {divide : Division} → Divides divide → (a level g : ℕ) (b : State) → length (b .entries) ≡ 32 → Lawful b a level → Step b a level g (giveGroup divide a level g b .state)
+group-step d a level g b rows m = record { shrinks = group-given d a level g b m .shrinks; met = met d a level g b rows m; emptied = emptied d a level g b rows m }
+
 module _ (a level g : ℕ) (b : State) (rows : length (b .entries) ≡ 32) (m : Lawful b a level) where
-  turn-step : Step b a level g (giveInTurn a level g b .state)
-  turn-step =
-      let v = inTurn-given a level g b m in
-      let q = inTurn-quoted b a level g m in
-      record { shrinks = v .shrinks; met = met inTurn-divides b rows a level g m _ q v; emptied = emptied inTurn-divides b rows a level g m _ q v }
-
-  group-step : Step b a level g (giveGroup a level g b .state)
-  group-step =
-      let v = group-given a level g b m in
-      let q = share-quoted b a level g m in
-      record { shrinks = v .shrinks; met = met share-divides b rows a level g m _ q v; emptied = emptied share-divides b rows a level g m _ q v }
-
   -- by number: where one has traded, those of the group in the slots before it have nothing left
   in-order : (i j : ℕ) → i < j → (j ≡ a → ⊥) → opposes (entryAt b a) (entryAt b i) ≡ true → entryAt b i .level ≡ level → within g (entryAt b i) ≡ true →
-      entryAt (giveInTurn a level g b .state) j .units < entryAt b j .units → entryAt (giveInTurn a level g b .state) i .units ≡ 0
+      entryAt (giveGroup inTurn a level g b .state) j .units < entryAt b j .units → entryAt (giveGroup inTurn a level g b .state) i .units ≡ 0
   unfolding inTurn inTurnAt
   in-order i j h n o l w fell =
-      let c : State = giveInTurn a level g b .state in
-      let v = inTurn-given a level g b m in
+      let c : State = giveGroup inTurn a level g b .state in
+      let v = group-given inTurn-divides a level g b m in
       let r : ℕ = entryAt b a .units in
       let xs : List ℕ = sizes (b .entries) (entryAt b a) level g in
       let low : j < 32 = live-slot b rows j (omega arith) in
@@ -197,27 +189,27 @@ beside-same s i j t = record {
   limit = s .entry j .level ∙ t .limit ∙ sym (s .entry i .level);
 }
 
-module _ (a level : ℕ) (b : State) (rows : length (b .entries) ≡ 32) (m : Lawful b a level) where
+module _ {second : Division} (d : Divides second) (a level : ℕ) (b : State) (rows : length (b .entries) ≡ 32) (m : Lawful b a level) where
   abbrev one : State
-  one = giveInTurn a level 0 b .state
+  one = giveGroup inTurn a level 0 b .state
 
   abbrev two : State
-  two = giveGroup a level 1 one .state
+  two = giveGroup second a level 1 one .state
 
   abbrev three : State
-  three = giveGroup a level 2 two .state
+  three = giveGroup share a level 2 two .state
 
   step-one : Step b a level 0 one
-  step-one = turn-step a level 0 b rows m
+  step-one = group-step inTurn-divides a level 0 b rows m
 
   step-two : Step one a level 1 two
-  step-two = group-step a level 1 one (step-one .shrinks .entryRows ∙ rows) (lawful-shrinks (step-one .shrinks) m)
+  step-two = group-step d a level 1 one (step-one .shrinks .entryRows ∙ rows) (lawful-shrinks (step-one .shrinks) m)
 
   from-two : Shrinks b two
   from-two = shrinks-trans (step-one .shrinks) (step-two .shrinks)
 
   step-three : Step two a level 2 three
-  step-three = group-step a level 2 two (from-two .entryRows ∙ rows) (lawful-shrinks from-two m)
+  step-three = group-step share-divides a level 2 two (from-two .entryRows ∙ rows) (lawful-shrinks from-two m)
 
   shared-shrinks : Shrinks b three
   shared-shrinks = shrinks-trans from-two (step-three .shrinks)
@@ -375,23 +367,23 @@ best-met a b r i j t h o l =
     (λ (u : entryAt b i .units ≤ 0). omega arith)
     (lt-or-le 0 (entryAt b i .units))
 
-module _ (a : ℕ) (b : State) (r : Ready b) (m : Lawful b a (bestOpposite (b .entries) (entryAt b a))) where
+module _ {second : Division} (d : Divides second) (a : ℕ) (b : State) (r : Ready b) (m : Lawful b a (bestOpposite (b .entries) (entryAt b a))) where
   abbrev level : ℕ
   level = bestOpposite (b .entries) (entryAt b a)
 
-  shared-better : (i j : ℕ) → (j ≡ a → ⊥) → Beside (entryAt b i) (entryAt b j) → BetterLimit (entryAt b i) (entryAt b j) → entryAt (three a level b (r .rows) m) j .units < entryAt b j .units → entryAt b i .units ≡ 0
+  shared-better : (i j : ℕ) → (j ≡ a → ⊥) → Beside (entryAt b i) (entryAt b j) → BetterLimit (entryAt b i) (entryAt b j) → entryAt (three d a level b (r .rows) m) j .units < entryAt b j .units → entryAt b i .units ≡ 0
   shared-better i j n t h fell =
-      let c1 = one a level b (r .rows) m in
-      let c2 = two a level b (r .rows) m in
-      let s1 = step-one a level b (r .rows) m in
-      let s2 = step-two a level b (r .rows) m in
-      let s12 = from-two a level b (r .rows) m in
+      let c1 = one d a level b (r .rows) m in
+      let c2 = two d a level b (r .rows) m in
+      let s1 = step-one d a level b (r .rows) m in
+      let s2 = step-two d a level b (r .rows) m in
+      let s12 = from-two d a level b (r .rows) m in
       ⊎-elim
       (λ (l : entryAt c1 j .units < entryAt b j .units). let p = s1 .met j n l in best-met a b r i j t h (p .opposed) (p .limit))
       (λ (k : entryAt b j .units ≤ entryAt c1 j .units). ⊎-elim
       (λ (l : entryAt c2 j .units < entryAt c1 j .units). let p = s2 .met j n l in best-met a b r i j t h (was (s1 .shrinks) (p .opposed)) (sym (s1 .shrinks .entry j .level) ∙ p .limit))
       (λ (l : entryAt c1 j .units ≤ entryAt c2 j .units).
-      let p = step-three a level b (r .rows) m .met j n (omega arith) in
+      let p = step-three d a level b (r .rows) m .met j n (omega arith) in
       best-met a b r i j t h (was s12 (p .opposed)) (sym (s12 .entry j .level) ∙ p .limit))
       (lt-or-le (entryAt c2 j .units) (entryAt c1 j .units)))
       (lt-or-le (entryAt c1 j .units) (entryAt b j .units))
@@ -402,26 +394,30 @@ module _ (a : ℕ) (b : State) (r : Ready b) (m : Lawful b a (bestOpposite (b .e
           opposes-is (entryAt b a) (entryAt b j) (omega (arith, p .live, s .entry j .units)) (sym (s .entry j .strategy) ∙ p .strategy ∙ s .entry a .strategy)
           (sym (s .entry j .side) ∙ p .side ∙ ap other (s .entry a .side))
 
-  shared-none : NonePassed AheadShared a b (giveShared a level b .state)
+  shared-none : NonePassed AheadShared a b (giveShared second a level b .state)
   unfolding giveShared and-then
-  shared-none i j n t (better-limit h) fell = omega (arith, shared-better i j n t h fell, shared-shrinks a level b (r .rows) m .entry i .units)
-  shared-none i j n t (customer-before-maker l c s) fell = earlier a level b (r .rows) m i j n (together t l) (omega (arith, customer-group (entryAt b i) c, maker-group (entryAt b j) s)) fell
-  shared-none i j n t (customer-before-dealer l c s) fell = earlier a level b (r .rows) m i j n (together t l) (omega (arith, customer-group (entryAt b i) c, dealer-group (entryAt b j) s)) fell
-  shared-none i j n t (maker-before-dealer l c s) fell = earlier a level b (r .rows) m i j n (together t l) (omega (arith, maker-group (entryAt b i) c, dealer-group (entryAt b j) s)) fell
+  shared-none i j n t (better-limit h) fell = omega (arith, shared-better i j n t h fell, shared-shrinks d a level b (r .rows) m .entry i .units)
+  shared-none i j n t (customer-before-maker l c s) fell = earlier d a level b (r .rows) m i j n (together t l) (omega (arith, customer-group (entryAt b i) c, maker-group (entryAt b j) s)) fell
+  shared-none i j n t (customer-before-dealer l c s) fell = earlier d a level b (r .rows) m i j n (together t l) (omega (arith, customer-group (entryAt b i) c, dealer-group (entryAt b j) s)) fell
+  shared-none i j n t (maker-before-dealer l c s) fell = earlier d a level b (r .rows) m i j n (together t l) (omega (arith, maker-group (entryAt b i) c, dealer-group (entryAt b j) s)) fell
   shared-none i j n t (customers-by-number l c s h) fell =
-      smaller a level b (r .rows) m i j n (together t l) (customer-group (entryAt b i) c) (customer-group (entryAt b j) s) (λ p q. r .rising i j p q h) fell
+      smaller d a level b (r .rows) m i j n (together t l) (customer-group (entryAt b i) c) (customer-group (entryAt b j) s) (λ p q. r .rising i j p q h) fell
 
-  numbered-none : NonePassed AheadNumbered a b (giveInTurn a level 3 b .state)
+module _ (a : ℕ) (b : State) (r : Ready b) (m : Lawful b a (bestOpposite (b .entries) (entryAt b a))) where
+  abbrev best : ℕ
+  best = bestOpposite (b .entries) (entryAt b a)
+
+  numbered-none : NonePassed AheadNumbered a b (giveGroup inTurn a best 3 b .state)
   unfolding within
   numbered-none i j n t w fell =
-      let s : Step b a level 3 (giveInTurn a level 3 b .state) = turn-step a level 3 b (r .rows) m in
+      let s : Step b a best 3 (giveGroup inTurn a best 3 b .state) = group-step inTurn-divides a best 3 b (r .rows) m in
       let q = s .met j n fell in
       ⊎-elim
       (λ h. omega (arith, best-met a b r i j t h (q .opposed) (q .limit), s .shrinks .entry i .units))
       (λ h. ⊎-elim
       (λ (p : 0 < entryAt b i .units).
       let g : Together (entryAt b i) (entryAt b j) = together t (h .0) in
-      in-order a level 3 b (r .rows) m i j (r .rising i j p (omega arith) (h .1)) n (also-opposes a i j (shrinks-refl b) (q .opposed) g p) (sym (h .0) ∙ q .limit) (pick-true _ _ _ refl) fell)
+      in-order a best 3 b (r .rows) m i j (r .rising i j p (omega arith) (h .1)) n (also-opposes a i j (shrinks-refl b) (q .opposed) g p) (sym (h .0) ∙ q .limit) (pick-true _ _ _ refl) fell)
       (λ (p : entryAt b i .units ≤ 0). omega (arith, s .shrinks .entry i .units))
       (lt-or-le 0 (entryAt b i .units)))
       w
@@ -520,10 +516,14 @@ module _ (A : Entry → Entry → Type 0) (static : Static A) (a : ℕ) where
 sound-ready : {b : State} → Sound b → Ready b
 sound-ready v = record { rows = v .entryRows; rising = by-number v; limits = λ i l. v .live i l .level }
 
--- nobody is passed by in a shared pass, nor in a numbered one
+-- nobody is passed by in a shared pass, an auction's starter's or another's, nor in a numbered one
 pub shared-pass : (legs : Bool) (a : ℕ) (b : State) → Sound b → NonePassed AheadShared a b (pass Shared legs a b .state)
 unfolding pass meetLimit opposite
-shared-pass legs a b v = turns-none AheadShared shared-static a Shared (λ c. shared-none a c) legs b (v .orderRows) (sound-ready v) (entryAt b a .units)
+shared-pass legs a b v = turns-none AheadShared shared-static a Shared (λ c. shared-none share-divides a c) legs b (v .orderRows) (sound-ready v) (entryAt b a .units)
+
+pub starter-pass : (legs : Bool) (a : ℕ) (b : State) → Sound b → NonePassed AheadShared a b (pass ForStarter legs a b .state)
+unfolding pass meetLimit opposite
+starter-pass legs a b v = turns-none AheadShared shared-static a ForStarter (λ c. shared-none share-divides a c) legs b (v .orderRows) (sound-ready v) (entryAt b a .units)
 
 pub numbered-pass : (legs : Bool) (a : ℕ) (b : State) → Sound b → NonePassed AheadNumbered a b (pass Numbered legs a b .state)
 unfolding pass meetLimit opposite
@@ -533,15 +533,15 @@ numbered-pass legs a b v = turns-none AheadNumbered numbered-static a Numbered (
 together-turn : {e f : Entry} → Together e f → Together f e
 together-turn t = record { strategy = sym (t .strategy); side = sym (t .side); limit = sym (t .limit) }
 
-module _ (a level g : ℕ) (b : State) (rows : length (b .entries) ≡ 32) (m : Lawful b a level) where
+module _ {divide : Division} (d : Divides divide) (a level g : ℕ) (b : State) (rows : length (b .entries) ≡ 32) (m : Lawful b a level) where
   abbrev after : State
-  after = giveGroup a level g b .state
+  after = giveGroup divide a level g b .state
 
   abbrev sized : List ℕ
   sized = sizes (b .entries) (entryAt b a) level g
 
   abbrev given-out : List ℕ
-  given-out = share (entryAt b a .units) sized
+  given-out = divide (entryAt b a .units) sized
 
   size-slot : (i : ℕ) → i < 32 → slot sized i ≡ holding (entryAt b a) level g (entryAt b i)
   size-slot i l = sizes-at (b .entries) (entryAt b a) level g i l
@@ -555,9 +555,9 @@ module _ (a level g : ℕ) (b : State) (rows : length (b .entries) ≡ 32) (m : 
   -- what a holder got is its quota
   group-got : (i : ℕ) → i < 32 → (i ≡ a → ⊥) → got b after i ≡ slot given-out i
   group-got i l n =
-      let v = group-given a level g b m in
+      let v = group-given d a level g b m in
       let e : entryAt after i .units ≡ entryAt b i .units - slot given-out i = ap (λ (x : Entry). x .units) (v .done i l n) in
-      omega (arith, share-divides .under (entryAt b a .units) sized i, size-most i l)
+      omega (arith, d .under (entryAt b a .units) sized i, size-most i l)
 
   -- who stands beside a holder of the group holds all its units too
   beside-size : (i j : ℕ) → i < 32 → j < 32 → Together (entryAt b i) (entryAt b j) → within g (entryAt b j) ≡ true → 0 < entryAt b j .units → 0 < slot sized i → slot sized j ≡ entryAt b j .units
@@ -584,19 +584,34 @@ module _ (a level g : ℕ) (b : State) (rows : length (b .entries) ≡ 32) (m : 
         (lt-or-le 0 (slot sized i))
 
     none-got : (k : ℕ) → k < 32 → (k ≡ a → ⊥) → slot sized k ≡ 0 → got b after k ≡ 0
-    none-got k l n z = omega (arith, group-got k l n, share-divides .under (entryAt b a .units) sized k)
+    none-got k l n z = omega (arith, group-got k l n, d .under (entryAt b a .units) sized k)
 
-    group-fair : got b after i * entryAt b j .units < got b after j * entryAt b i .units + entryAt b i .units + entryAt b j .units
-    group-fair = ⊎-elim
-        (λ e. rw (group-got i si ni, group-got j sj nj, sym (e .0), sym (e .1)) (share-fair (entryAt b a .units) sized i j si sj (omega (arith, e .0)) (omega (arith, e .1))))
-        (λ e. rw (none-got i si ni (e .0), none-got j sj nj (e .1)) (omega arith))
-        both-hold
+-- a group that is shared
+module _ (a level g : ℕ) (b : State) (rows : length (b .entries) ≡ 32) (m : Lawful b a level) (i j : ℕ) (ni : i ≡ a → ⊥) (nj : j ≡ a → ⊥) (t : Together (entryAt b i) (entryAt b j))
+    (wi : within g (entryAt b i) ≡ true) (wj : within g (entryAt b j) ≡ true) (li : 0 < entryAt b i .units) (lj : 0 < entryAt b j .units) where
+  abbrev shared : State
+  shared = giveGroup share a level g b .state
 
-    group-earlier : i < j → entryAt b i .units ≡ entryAt b j .units → got b after j ≤ got b after i
-    group-earlier l q = ⊎-elim
-        (λ e. rw (group-got i si ni, group-got j sj nj) (share-earlier (entryAt b a .units) sized i j l sj (e .0 ∙ q ∙ sym (e .1))))
-        (λ e. omega (arith, none-got j sj nj (e .1)))
-        both-hold
+  abbrev held-by : List ℕ
+  held-by = sizes (b .entries) (entryAt b a) level g
+
+  hi : i < 32
+  hi = live-slot b rows i li
+
+  hj : j < 32
+  hj = live-slot b rows j lj
+
+  group-fair : got b shared i * entryAt b j .units < got b shared j * entryAt b i .units + entryAt b i .units + entryAt b j .units
+  group-fair = ⊎-elim
+      (λ e. rw (group-got share-divides a level g b rows m i hi ni, group-got share-divides a level g b rows m j hj nj, sym (e .0), sym (e .1)) (share-fair (entryAt b a .units) held-by i j hi hj (omega (arith, e .0)) (omega (arith, e .1))))
+      (λ e. rw (none-got share-divides a level g b rows m i j ni nj t wi wj li lj i hi ni (e .0), none-got share-divides a level g b rows m i j ni nj t wi wj li lj j hj nj (e .1)) (omega arith))
+      (both-hold share-divides a level g b rows m i j ni nj t wi wj li lj)
+
+  group-earlier : i < j → entryAt b i .units ≡ entryAt b j .units → got b shared j ≤ got b shared i
+  group-earlier l q = ⊎-elim
+      (λ e. rw (group-got share-divides a level g b rows m i hi ni, group-got share-divides a level g b rows m j hj nj) (share-earlier (entryAt b a .units) held-by i j l hj (e .0 ∙ q ∙ sym (e .1))))
+      (λ e. omega (arith, none-got share-divides a level g b rows m i j ni nj t wi wj li lj j hj nj (e .1)))
+      (both-hold share-divides a level g b rows m i j ni nj t wi wj li lj)
 
 -- a group's fills leave the others
 step-leaves : {x y : State} (a level g j : ℕ) → g < 3 → Step x a level g y → (j ≡ a → ⊥) → (groupOf (entryAt x j) ≡ g → ⊥) → entryAt y j .units ≡ entryAt x j .units
@@ -605,27 +620,33 @@ step-leaves {x} {y} a level g j low s n d = ⊎-elim
     (λ (l : entryAt x j .units ≤ entryAt y j .units). omega (arith, s .shrinks .entry j .units))
     (lt-or-le (entryAt y j .units) (entryAt x j .units))
 
-module _ (a level : ℕ) (b : State) (rows : length (b .entries) ≡ 32) (m : Lawful b a level) where
+module _ {second : Division} (d : Divides second) (a level : ℕ) (b : State) (rows : length (b .entries) ≡ 32) (m : Lawful b a level) where
   abbrev c1 : State
-  c1 = one a level b rows m
+  c1 = one d a level b rows m
 
   abbrev c2 : State
-  c2 = two a level b rows m
+  c2 = two d a level b rows m
 
   abbrev c3 : State
-  c3 = three a level b rows m
+  c3 = three d a level b rows m
 
   s1 : Step b a level 0 c1
-  s1 = step-one a level b rows m
+  s1 = step-one d a level b rows m
 
   s2 : Step c1 a level 1 c2
-  s2 = step-two a level b rows m
+  s2 = step-two d a level b rows m
 
   s3 : Step c2 a level 2 c3
-  s3 = step-three a level b rows m
+  s3 = step-three d a level b rows m
 
   s12 : Shrinks b c2
-  s12 = from-two a level b rows m
+  s12 = from-two d a level b rows m
+
+  m1 : Lawful c1 a level
+  m1 = lawful-shrinks (s1 .shrinks) m
+
+  m2 : Lawful c2 a level
+  m2 = lawful-shrinks s12 m
 
   module _ (j : ℕ) (n : j ≡ a → ⊥) where
     group-one : groupOf (entryAt b j) ≡ 1 → (entryAt c1 j .units ≡ entryAt b j .units) × (entryAt c3 j .units ≡ entryAt c2 j .units)
@@ -640,60 +661,73 @@ module _ (a level : ℕ) (b : State) (rows : length (b .entries) ≡ 32) (m : La
         let y = step-leaves a level 1 j (omega arith) s2 n (λ z. omega (arith, group-same (s1 .shrinks .entry j))) in
         omega arith
 
-  module _ (i j : ℕ) (ni : i ≡ a → ⊥) (nj : j ≡ a → ⊥) (t : Together (entryAt b i) (entryAt b j)) (li : 0 < entryAt b i .units) (lj : 0 < entryAt b j .units) where
-    in-one : (k : ℕ) → groupOf (entryAt b k) ≡ 1 → within 1 (entryAt c1 k) ≡ true
-    in-one k g = group-in (entryAt c1 k) 1 (omega arith) (group-same (s1 .shrinks .entry k) ∙ g)
+  in-one : (k : ℕ) → groupOf (entryAt b k) ≡ 1 → within 1 (entryAt c1 k) ≡ true
+  in-one k g = group-in (entryAt c1 k) 1 (omega arith) (group-same (s1 .shrinks .entry k) ∙ g)
 
-    in-two : (k : ℕ) → groupOf (entryAt b k) ≡ 2 → within 2 (entryAt c2 k) ≡ true
-    in-two k g = group-in (entryAt c2 k) 2 (omega arith) (group-same (s12 .entry k) ∙ g)
+  in-two : (k : ℕ) → groupOf (entryAt b k) ≡ 2 → within 2 (entryAt c2 k) ≡ true
+  in-two k g = group-in (entryAt c2 k) 2 (omega arith) (group-same (s12 .entry k) ∙ g)
 
-    m1 : Lawful c1 a level
-    m1 = lawful-shrinks (s1 .shrinks) m
-
-    m2 : Lawful c2 a level
-    m2 = lawful-shrinks s12 m
-
-    fair-one : groupOf (entryAt b i) ≡ 1 → groupOf (entryAt b j) ≡ 1 → got b c3 i * entryAt b j .units < got b c3 j * entryAt b i .units + entryAt b i .units + entryAt b j .units
-    fair-one gi gj =
-        let ui = group-one i ni gi in
-        let uj = group-one j nj gj in
-        rw (sym (ui .0), sym (uj .0), ui .1, uj .1)
-        (group-fair a level 1 c1 (s1 .shrinks .entryRows ∙ rows) m1 i j ni nj (beside-same (s1 .shrinks) i j t) (in-one i gi) (in-one j gj) (omega (arith, ui .0)) (omega (arith, uj .0)))
-
-    fair-two : groupOf (entryAt b i) ≡ 2 → groupOf (entryAt b j) ≡ 2 → got b c3 i * entryAt b j .units < got b c3 j * entryAt b i .units + entryAt b i .units + entryAt b j .units
-    fair-two gi gj =
+  -- the third group
+  module _ (i j : ℕ) (ni : i ≡ a → ⊥) (nj : j ≡ a → ⊥) (t : Together (entryAt b i) (entryAt b j)) (li : 0 < entryAt b i .units) (lj : 0 < entryAt b j .units)
+      (gi : groupOf (entryAt b i) ≡ 2) (gj : groupOf (entryAt b j) ≡ 2) where
+    fair-two : got b c3 i * entryAt b j .units < got b c3 j * entryAt b i .units + entryAt b i .units + entryAt b j .units
+    fair-two =
         let ui = group-two i ni gi in
         let uj = group-two j nj gj in
         rw (sym ui, sym uj)
         (group-fair a level 2 c2 (s12 .entryRows ∙ rows) m2 i j ni nj (beside-same s12 i j t) (in-two i gi) (in-two j gj) (omega arith) (omega arith))
 
-    earlier-one : groupOf (entryAt b i) ≡ 1 → groupOf (entryAt b j) ≡ 1 → i < j → entryAt b i .units ≡ entryAt b j .units → got b c3 j ≤ got b c3 i
-    earlier-one gi gj l q =
-        let ui = group-one i ni gi in
-        let uj = group-one j nj gj in
-        let h = group-earlier a level 1 c1 (s1 .shrinks .entryRows ∙ rows) m1 i j ni nj (beside-same (s1 .shrinks) i j t) (in-one i gi) (in-one j gj) (omega (arith, ui .0)) (omega (arith, uj .0)) l (omega (arith, ui .0, uj .0)) in
-        omega (arith, ui .0, uj .0, ui .1, uj .1)
-
-    earlier-two : groupOf (entryAt b i) ≡ 2 → groupOf (entryAt b j) ≡ 2 → i < j → entryAt b i .units ≡ entryAt b j .units → got b c3 j ≤ got b c3 i
-    earlier-two gi gj l q =
+    earlier-two : i < j → entryAt b i .units ≡ entryAt b j .units → got b c3 j ≤ got b c3 i
+    earlier-two l q =
         let ui = group-two i ni gi in
         let uj = group-two j nj gj in
         let h = group-earlier a level 2 c2 (s12 .entryRows ∙ rows) m2 i j ni nj (beside-same s12 i j t) (in-two i gi) (in-two j gj) (omega arith) (omega arith) l (omega arith) in
         omega (arith, ui, uj)
 
+-- the second group, where it is shared
+module _ (a level : ℕ) (b : State) (rows : length (b .entries) ≡ 32) (m : Lawful b a level) (i j : ℕ) (ni : i ≡ a → ⊥) (nj : j ≡ a → ⊥) (t : Together (entryAt b i) (entryAt b j))
+    (li : 0 < entryAt b i .units) (lj : 0 < entryAt b j .units) (gi : groupOf (entryAt b i) ≡ 1) (gj : groupOf (entryAt b j) ≡ 1) where
+  abbrev before : State
+  before = c1 share-divides a level b rows m
+
+  abbrev end : State
+  end = c3 share-divides a level b rows m
+
+  customers : Step b a level 0 before
+  customers = s1 share-divides a level b rows m
+
+  ui : (entryAt before i .units ≡ entryAt b i .units) × (entryAt end i .units ≡ entryAt (c2 share-divides a level b rows m) i .units)
+  ui = group-one share-divides a level b rows m i ni gi
+
+  uj : (entryAt before j .units ≡ entryAt b j .units) × (entryAt end j .units ≡ entryAt (c2 share-divides a level b rows m) j .units)
+  uj = group-one share-divides a level b rows m j nj gj
+
+  fair-one : got b end i * entryAt b j .units < got b end j * entryAt b i .units + entryAt b i .units + entryAt b j .units
+  fair-one =
+      rw (sym (ui .0), sym (uj .0), ui .1, uj .1)
+      (group-fair a level 1 before (customers .shrinks .entryRows ∙ rows) (m1 share-divides a level b rows m) i j ni nj (beside-same (customers .shrinks) i j t)
+      (in-one share-divides a level b rows m i gi) (in-one share-divides a level b rows m j gj) (omega (arith, ui .0)) (omega (arith, uj .0)))
+
+  earlier-one : i < j → entryAt b i .units ≡ entryAt b j .units → got b end j ≤ got b end i
+  earlier-one l q =
+      let h =
+      group-earlier a level 1 before (customers .shrinks .entryRows ∙ rows) (m1 share-divides a level b rows m) i j ni nj (beside-same (customers .shrinks) i j t)
+      (in-one share-divides a level b rows m i gi) (in-one share-divides a level b rows m j gj) (omega (arith, ui .0)) (omega (arith, uj .0)) l (omega (arith, ui .0, uj .0)) in
+      omega (arith, ui .0, uj .0, ui .1, uj .1)
+
 -- at one limit the second and the third group are shared
-pub shared-fairly : (a level : ℕ) (b : State) → Sound b → Lawful b a level → SharedFairly a b (giveShared a level b .state)
+pub shared-fairly : (a level : ℕ) (b : State) → Sound b → Lawful b a level → SharedFairly a b (giveShared share a level b .state)
 unfolding giveShared and-then
 shared-fairly a level b v m = record {
   bySize = λ i j ni nj t l g li lj. ⊎-elim
       (λ h. fair-one a level b (v .entryRows) m i j ni nj (together t l) li lj (maker-group (entryAt b i) (h .0)) (maker-group (entryAt b j) (h .1)))
-      (λ h. fair-two a level b (v .entryRows) m i j ni nj (together t l) li lj (dealer-group (entryAt b i) (h .0)) (dealer-group (entryAt b j) (h .1)))
+      (λ h. fair-two share-divides a level b (v .entryRows) m i j ni nj (together t l) li lj (dealer-group (entryAt b i) (h .0)) (dealer-group (entryAt b j) (h .1)))
       g;
   byNumber = λ i j ni nj t l g li q n.
       let lj : 0 < entryAt b j .units = omega arith in
       let o : i < j = by-number v i j li lj n in
       ⊎-elim
       (λ h. earlier-one a level b (v .entryRows) m i j ni nj (together t l) li lj (maker-group (entryAt b i) (h .0)) (maker-group (entryAt b j) (h .1)) o q)
-      (λ h. earlier-two a level b (v .entryRows) m i j ni nj (together t l) li lj (dealer-group (entryAt b i) (h .0)) (dealer-group (entryAt b j) (h .1)) o q)
+      (λ h. earlier-two share-divides a level b (v .entryRows) m i j ni nj (together t l) li lj (dealer-group (entryAt b i) (h .0)) (dealer-group (entryAt b j) (h .1)) o q)
       g;
 }

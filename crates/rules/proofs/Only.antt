@@ -3,28 +3,28 @@ use mathlib.Core.Path.{_≡_, refl, sym, _∙_, ap}
 use mathlib.Core.Bool.{Bool, true}
 use mathlib.Core.Logic.{⊎-elim}
 use mathlib.Core.List.{List}
-use Prim.Native.Nat.{ℕ, zero, suc, _+_, _-_, _/_, _≤_, _<_}
-use native.Mathlib.Nat.{mul-zero, zero-div}
+use Prim.Native.Nat.{ℕ, zero, suc, _-_, _≤_, _<_}
 use native.Mathlib.Omega.{arith}
 use borrow.Author.Tests.{eqb-true, ltb-true}
-use lib.Dec.{eqb, ltb, leb}
+use lib.Dec.{eqb, ltb}
 use lib.ListN.{length, getD, List·getD-eq-default}
-use Rattle.base.specs.Pick.{pick, pick-by, pick-all, pick-yes, pick-no}
-use Rattle.base.specs.Walks.{slot, sumN, walk, table-slot, first-holds, lt-or-le}
+use Rattle.base.specs.Pick.{pick-by, pick-all, pick-yes, pick-no}
+use Rattle.base.specs.Walks.{slot, walk, table-slot, first-holds, lt-or-le}
 use Rattle.rules.specs.declared.Entry.{Entry}
 use Rattle.rules.specs.declared.State.{State}
 use Rattle.rules.specs.declared.Allocation.{Allocation}
-use Rattle.rules.specs.declared.Allocation.the-variants.{LegsOnly, Shared, Numbered}
+use Rattle.rules.specs.declared.Allocation.the-variants.{LegsOnly, Shared, ForStarter, Numbered}
 use Rattle.rules.specs.declared.Turn.{Turn}
 use Rattle.rules.specs.declared.Turn.the-variants.{Stop, ByLegs, AtLimit}
 use Rattle.rules.specs.State.{noEntry, entryAt, strategyAt, withEntries, withOrders}
 use Rattle.rules.specs.Moves.{Moved, and-then, each}
-use Rattle.rules.specs.Quotas.{inTurnAt, inTurn, portion, portionAt, oneOf, sharedAt, share}
+use Rattle.rules.specs.Quotas.{Division, inTurn, share}
 use Rattle.rules.specs.Fills.{cut, cutLeg, wholeFill, takeLegs, legFill, legTrade, cancelEntry, cancelOrder}
-use Rattle.rules.specs.Passes.{opposes, holding, sizeAt, sizes, giveAt, give, giveInTurn, giveGroup, giveShared, meetLimit, turnOf, takeTurn, turn, pass}
+use Rattle.rules.specs.Passes.{opposes, holding, sizeAt, sizes, giveAt, give, giveGroup, giveShared, meetLimit, turnOf, takeTurn, turn, pass}
 use Rattle.rules.specs.Auctions.{liveIn, isNumber, starterSlot, lapses, cancelLapsed, starterPass, later, laterPass, dayOrder, legPass, ahead, bestStep, bestSlot, crossed, matchOnce, matchAll}
 use Rattle.rules.specs.Events.{tradeOnce, tradeAll, cancelOrderOf}
 use Rattle.rules.proofs.Tables.{positive}
+use Rattle.rules.proofs.Quotas.{Divides, inTurn-divides, share-divides}
 use Rattle.rules.proofs.Shrinks.{Shrinks, shrinks-refl, shrinks-trans, set-by, cut-shrinks, cutLeg-shrinks, legs-shrinks, trade-shrinks}
 
 pub record Only (k : ℕ) (b c : State) : Type 0 where
@@ -81,25 +81,6 @@ module _ (k : ℕ) where
     strategies = cut-only b a _ e .strategies;
   }
 
-  -- a quota above 0 is of a size above 0
-  turn-some : (r : ℕ) (xs : List ℕ) (i : ℕ) → i < 32 → 0 < slot (inTurn r xs) i → 0 < slot xs i
-  unfolding inTurn inTurnAt
-  turn-some r xs i h l = omega (arith, rw (table-slot (inTurnAt r xs) 0 32 i h) at l)
-
-  shared-some : (r total n x : ℕ) → 0 < portion r total x + oneOf n x → 0 < x
-  unfolding portion oneOf pick
-  shared-some r total n zero h = absurd (omega (arith, ap (λ (y : ℕ). y / total) (mul-zero r), zero-div total))
-  shared-some r total n (suc x) h = omega arith
-
-  share-some : (r : ℕ) (xs : List ℕ) (i : ℕ) → i < 32 → 0 < slot (share r xs) i → 0 < slot xs i
-  unfolding share sharedAt
-  share-some r xs i h =
-      let total : ℕ = sumN (slot xs) 32 in
-      let left : ℕ = r - sumN (portionAt r total xs) 32 in
-      pick-by (λ (qs : List ℕ). 0 < slot qs i → 0 < slot xs i) (leb total r)
-      (λ _ l. l)
-      (λ _ l. shared-some _ _ _ (slot xs i) (rw (table-slot (sharedAt r total left xs) 0 32 i h) at l))
-
   -- a size above 0 is of an entry that opposes, so of the strategy
   size-some : (es : List Entry) (e : Entry) (level g i : ℕ) → i < 32 → 0 < slot (sizes es e level g) i → getD es i noEntry .strategy ≡ e .strategy
   unfolding sizes holding opposes
@@ -115,31 +96,29 @@ module _ (k : ℕ) where
       only-each (giveAt a level qs) b 32
       (λ i l c s. whole-only c a i level (slot qs i) (s .entry a .strategy ∙ e) (λ p. s .entry i .strategy ∙ f i l p))
 
-  giveInTurn-only : (a level g : ℕ) (b : State) → entryAt b a .strategy ≡ k → Only k b (giveInTurn a level g b .state)
-  unfolding giveInTurn
-  giveInTurn-only a level g b e =
-      give-only b a level _ e (λ i l p. size-some (b .entries) (entryAt b a) level g i l (turn-some _ _ i l p) ∙ e)
-
-  giveGroup-only : (a level g : ℕ) (b : State) → entryAt b a .strategy ≡ k → Only k b (giveGroup a level g b .state)
+  giveGroup-only : {divide : Division} → Divides divide → (a level g : ℕ) (b : State) → entryAt b a .strategy ≡ k → Only k b (giveGroup divide a level g b .state)
   unfolding giveGroup
-  giveGroup-only a level g b e =
-      give-only b a level _ e (λ i l p. size-some (b .entries) (entryAt b a) level g i l (share-some _ _ i l p) ∙ e)
+  giveGroup-only d a level g b e =
+      let xs : List ℕ = sizes (b .entries) (entryAt b a) level g in
+      give-only b a level _ e (λ i l p. size-some (b .entries) (entryAt b a) level g i l (omega (arith, d .under (entryAt b a .units) xs i)) ∙ e)
 
-  giveShared-only : (a level : ℕ) (b : State) → entryAt b a .strategy ≡ k → Only k b (giveShared a level b .state)
+  giveShared-only : {second : Division} → Divides second → (a level : ℕ) (b : State) → entryAt b a .strategy ≡ k → Only k b (giveShared second a level b .state)
   unfolding giveShared
-  giveShared-only a level b e =
-      let x = giveInTurn-only a level 0 b e in
-      let f : entryAt (giveInTurn a level 0 b .state) a .strategy ≡ k = x .shrinks .entry a .strategy ∙ e in
-      let y = giveGroup-only a level 1 (giveInTurn a level 0 b .state) f in
-      only-then (giveInTurn a level 0 b) _ x
-      (only-then (giveGroup a level 1 (giveInTurn a level 0 b .state)) (giveGroup a level 2) y
-      (giveGroup-only a level 2 _ (y .shrinks .entry a .strategy ∙ f)))
+  giveShared-only {second} d a level b e =
+      let c : State = giveGroup inTurn a level 0 b .state in
+      let x = giveGroup-only inTurn-divides a level 0 b e in
+      let f : entryAt c a .strategy ≡ k = x .shrinks .entry a .strategy ∙ e in
+      let y = giveGroup-only d a level 1 c f in
+      only-then (giveGroup inTurn a level 0 b) _ x
+      (only-then (giveGroup second a level 1 c) (giveGroup share a level 2) y
+      (giveGroup-only share-divides a level 2 _ (y .shrinks .entry a .strategy ∙ f)))
 
   meetLimit-only : (way : Allocation) (a level : ℕ) (b : State) → entryAt b a .strategy ≡ k → Only k b (meetLimit way a level b .state)
   unfolding meetLimit
   meetLimit-only LegsOnly a level b e = only-refl k b
-  meetLimit-only Shared a level b e = giveShared-only a level b e
-  meetLimit-only Numbered a level b e = giveInTurn-only a level 3 b e
+  meetLimit-only Shared a level b e = giveShared-only share-divides a level b e
+  meetLimit-only ForStarter a level b e = giveShared-only share-divides a level b e
+  meetLimit-only Numbered a level b e = giveGroup-only inTurn-divides a level 3 b e
 
   take-only : (way : Allocation) (a : ℕ) (t : Turn) (b : State) → length (b .orders) ≡ 32 → entryAt b a .strategy ≡ k → Only k b (takeTurn way a t b .state)
   unfolding takeTurn
@@ -187,8 +166,8 @@ module _ (k : ℕ) where
   unfolding starterPass
   starterPass-only b m n =
       ⊎-elim
-      (λ (l : starterSlot b k < 32). pass-only Shared _ (starterSlot b k) b n (live-in _ (starter-in b l) .1))
-      (λ (l : 32 ≤ starterSlot b k). pass-none Shared _ (starterSlot b k) b (ap (λ (e : Entry). e .units) (List·getD-eq-default (b .entries) noEntry {n = starterSlot b k} (omega arith))))
+      (λ (l : starterSlot b k < 32). pass-only ForStarter _ (starterSlot b k) b n (live-in _ (starter-in b l) .1))
+      (λ (l : 32 ≤ starterSlot b k). pass-none ForStarter _ (starterSlot b k) b (ap (λ (e : Entry). e .units) (List·getD-eq-default (b .entries) noEntry {n = starterSlot b k} (omega arith))))
       (lt-or-le (starterSlot b k) 32)
 
   pub laterPass-only : (n i : ℕ) (b : State) → length (b .orders) ≡ 32 → Only k b (laterPass k n i b .state)

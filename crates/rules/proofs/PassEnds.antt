@@ -10,7 +10,7 @@ use Rattle.base.specs.Pick.{pick-by}
 use Rattle.rules.specs.declared.Entry.{Entry}
 use Rattle.rules.specs.declared.State.{State}
 use Rattle.rules.specs.declared.Allocation.{Allocation}
-use Rattle.rules.specs.declared.Allocation.the-variants.{Shared, Numbered}
+use Rattle.rules.specs.declared.Allocation.the-variants.{Shared, ForStarter, Numbered}
 use Rattle.rules.specs.State.{entryAt}
 use Rattle.rules.specs.Sides.{other, meets, better}
 use Rattle.rules.specs.Passes.{opposes, bestOpposite, readyNet, opposite, pass}
@@ -67,6 +67,10 @@ module _ (legs : Bool) (a : ℕ) (b : State) (v : Sound b) where
   pub shared-had : HadTurn b (pass Shared legs a b .state) a legs
   unfolding opposite
   shared-had = pass-had Shared refl
+
+  pub for-starter-had : HadTurn b (pass ForStarter legs a b .state) a legs
+  unfolding opposite
+  for-starter-had = pass-had ForStarter refl
 
   pub numbered-had : HadTurn b (pass Numbered legs a b .state) a legs
   unfolding opposite

@@ -15,19 +15,19 @@ use Rattle.rules.specs.declared.Entry.{Entry}
 use Rattle.rules.specs.declared.LegOrder.{LegOrder}
 use Rattle.rules.specs.declared.State.{State}
 use Rattle.rules.specs.declared.Allocation.{Allocation}
-use Rattle.rules.specs.declared.Allocation.the-variants.{LegsOnly, Shared, Numbered}
+use Rattle.rules.specs.declared.Allocation.the-variants.{LegsOnly, Shared, ForStarter, Numbered}
 use Rattle.rules.specs.declared.Turn.{Turn}
 use Rattle.rules.specs.declared.Turn.the-variants.{Stop, ByLegs, AtLimit}
 use Rattle.rules.specs.State.{entryAt, strategyOf}
 use Rattle.rules.specs.Moves.{Moved, still, and-then, each}
 use Rattle.rules.specs.Nets.{prices, unitsOf}
-use Rattle.rules.specs.Quotas.{inTurnAt, inTurn, share}
+use Rattle.rules.specs.Quotas.{Division, inTurnAt, inTurn}
 use Rattle.rules.specs.Fills.{legFill}
-use Rattle.rules.specs.Passes.{holding, sizes, giveAt, give, giveInTurn, giveGroup, giveShared, meetLimit, turnOf, takeTurn, turn, pass}
+use Rattle.rules.specs.Passes.{holding, sizes, giveAt, give, giveGroup, giveShared, meetLimit, turnOf, takeTurn, turn, pass}
 use Rattle.rules.proofs.Shrinks.{SameEntry, SameStrategy, Shrinks, shrinks-refl, shrinks-trans, legs-shrinks}
-use Rattle.rules.proofs.Quotas.{sum-table, share-all}
-use Rattle.rules.proofs.Gives.{Lawful, lawful-shrinks, whole-none, opposed, Quoted, quoted-holder, inTurn-quoted, share-quoted, sizes-at, Given, given-each}
-use Rattle.rules.proofs.Control.{given-proper, inTurn-given, group-given, group-left, Legged, Fits, turn-fits}
+use Rattle.rules.proofs.Quotas.{sum-table, Divides, divides-all, inTurn-divides, share-divides}
+use Rattle.rules.proofs.Gives.{Lawful, lawful-shrinks, whole-none, opposed, Quoted, quoted-holder, group-quoted, sizes-at, Given, given-each}
+use Rattle.rules.proofs.Control.{given-proper, group-given, group-left, Legged, Fits, turn-fits}
 use Rattle.rules.proofs.Turns.{units-most}
 use Rattle.rules.proofs.Load.{load, Pays, Six, six-shrinks, pays-nothing, pays-more, pays-both, whole-most, whole-ends}
 use Rattle.rules.proofs.LegLoad.{readyFor, Spends, legs-spends}
@@ -106,12 +106,12 @@ inTurn-ends r xs k l =
     rw (table-slot (inTurnAt r xs) 0 32 k l, sum-table (inTurnAt r xs) 32 k (omega arith) ∙ inTurn-before r xs k)
     (λ some. ⊎-elim (λ (m : r - sumN (slot xs) k < slot xs k). inr (omega arith)) (λ (m : slot xs k ≤ r - sumN (slot xs) k). inl (omega arith)) (lt-or-le (r - sumN (slot xs) k) (slot xs k)))
 
-pub inTurn-pays : (a level g : ℕ) (b : State) → Six b → Lawful b a level → Pays 0 b (giveInTurn a level g b)
-unfolding giveInTurn
+pub inTurn-pays : (a level g : ℕ) (b : State) → Six b → Lawful b a level → Pays 0 b (giveGroup inTurn a level g b)
+unfolding giveGroup
 inTurn-pays a level g b six m =
     let r : ℕ = entryAt b a .units in
     let xs : List ℕ = sizes (b .entries) (entryAt b a) level g in
-    let h = inTurn-quoted b a level g m in
+    let h = group-quoted inTurn-divides b a level g m in
     give-ends b six a level g (inTurn r xs) h
     (λ k l some. ⊎-elim
     (λ (e : slot xs k ≤ slot (inTurn r xs) k).
@@ -122,15 +122,23 @@ inTurn-pays a level g b six m =
 
 -- SHARED
 -- what a pass of each way needs besides: where it is shared, 14 for each live entry of the strategy
+abbrev pub EnoughShared : ℕ → ℕ → State → Type 0
+EnoughShared a M b = 14 * sumN (heldAt b (entryAt b a .strategy)) 32 ≤ M
+
 abbrev pub Enough : Allocation → ℕ → ℕ → State → Type 0
 Enough LegsOnly a M b = Unit {0}
-Enough Shared a M b = 14 * sumN (heldAt b (entryAt b a .strategy)) 32 ≤ M
+Enough Shared a M b = EnoughShared a M b
+Enough ForStarter a M b = EnoughShared a M b
 Enough Numbered a M b = Unit {0}
+
+shared-shrinks : (a M : ℕ) {b c : State} → Shrinks b c → EnoughShared a M b → EnoughShared a M c
+shared-shrinks a M {b} {c} h e = rw (h .entry a .strategy) (omega (arith, held-shrinks (entryAt b a .strategy) h))
 
 enough-shrinks : (way : Allocation) (a M : ℕ) {b c : State} → Shrinks b c → Enough way a M b → Enough way a M c
 enough-shrinks LegsOnly a M h e = tt
 enough-shrinks Numbered a M h e = tt
-enough-shrinks Shared a M {b} {c} h e = rw (h .entry a .strategy) (omega (arith, held-shrinks (entryAt b a .strategy) h))
+enough-shrinks Shared a M h e = shared-shrinks a M h e
+enough-shrinks ForStarter a M h e = shared-shrinks a M h e
 
 -- the quotas are for live entries of the strategy, and no more than the units
 quota-held : (b : State) (a level g : ℕ) (qs : List ℕ) → Quoted b a level g qs → (k : ℕ) → k < 32 → 14 * min (slot qs k) 1 ≤ 14 * heldAt b (entryAt b a .strategy) k
@@ -200,17 +208,17 @@ module _ (side : ℕ) (s : Strategy) (a M : ℕ) where
     spent = omega (arith, ap (λ (os : List LegOrder). readyFor os side s) o, going-none (entryAt (m .state) a .units) M z);
   }
 
-  inTurn-turned : (level g : ℕ) (b : State) → Six b → Lawful b a level → Turned side s a M b (giveInTurn a level g b)
-  inTurn-turned level g b six m = turned-pays (inTurn-pays a level g b six m) (inTurn-given a level g b m .orders)
+  inTurn-turned : (level g : ℕ) (b : State) → Six b → Lawful b a level → Turned side s a M b (giveGroup inTurn a level g b)
+  inTurn-turned level g b six m = turned-pays (inTurn-pays a level g b six m) (group-given inTurn-divides a level g b m .orders)
 
   -- a group that holds more than remains: what remains is given out, so the active entry ends
-  less-turned : (level g : ℕ) (b : State) → Six b → (m : Lawful b a level) → Enough Shared a M b
-      → entryAt b a .units < sumN (slot (sizes (b .entries) (entryAt b a) level g)) 32 → Turned side s a M b (giveGroup a level g b)
+  less-turned : {divide : Division} → Divides divide → (level g : ℕ) (b : State) → Six b → (m : Lawful b a level) → EnoughShared a M b
+      → entryAt b a .units < sumN (slot (sizes (b .entries) (entryAt b a) level g)) 32 → Turned side s a M b (giveGroup divide a level g b)
   unfolding giveGroup
-  less-turned level g b six m enough less =
+  less-turned {divide} d level g b six m enough less =
       turned-ends (sumN fee 32) (give-most b six a level g qs quoted)
-      (unfold giveGroup in group-given a level g b m .orders)
-      (unfold giveGroup in omega (arith, group-left a level g b m))
+      (unfold giveGroup in group-given d a level g b m .orders)
+      (unfold giveGroup in omega (arith, group-left d a level g b m))
       (⊎-elim
       (λ (live : 0 < r). omega (arith, enough, going-some r M live, sum-times 14 (heldAt b (entryAt b a .strategy)) 32, sum-mono fee (λ (i : ℕ). 14 * heldAt b (entryAt b a .strategy) i) 32 (quota-held b a level g qs quoted)))
       (λ (none : r ≤ 0). omega (arith, quoted .sum, sum-times 14 (slot qs) 32, sum-mono fee (λ (i : ℕ). 14 * slot qs i) 32 (λ i l. omega arith)))
@@ -220,41 +228,42 @@ module _ (side : ℕ) (s : Strategy) (a M : ℕ) where
       r = entryAt b a .units
 
       qs : List ℕ
-      qs = share (entryAt b a .units) (sizes (b .entries) (entryAt b a) level g)
+      qs = divide (entryAt b a .units) (sizes (b .entries) (entryAt b a) level g)
 
       quoted : Quoted b a level g qs
-      quoted = share-quoted b a level g m
+      quoted = group-quoted d b a level g m
 
       fee : ℕ → ℕ
       fee k = 14 * min (slot qs k) 1
 
   -- one that does not: each of its holders ends
-  all-turned : (level g : ℕ) (b : State) → Six b → (m : Lawful b a level)
-      → sumN (slot (sizes (b .entries) (entryAt b a) level g)) 32 ≤ entryAt b a .units → Turned side s a M b (giveGroup a level g b)
+  all-turned : {divide : Division} → Divides divide → (level g : ℕ) (b : State) → Six b → (m : Lawful b a level)
+      → sumN (slot (sizes (b .entries) (entryAt b a) level g)) 32 ≤ entryAt b a .units → Turned side s a M b (giveGroup divide a level g b)
   unfolding giveGroup
-  all-turned level g b six m all =
+  all-turned d level g b six m all =
       turned-pays
-      (give-ends b six a level g _ (share-quoted b a level g m)
-      (λ k l. rw (share-all (entryAt b a .units) (sizes (b .entries) (entryAt b a) level g) all, sizes-at (b .entries) (entryAt b a) level g k l)
+      (give-ends b six a level g _ (group-quoted d b a level g m)
+      (λ k l. rw (divides-all d (entryAt b a .units) (sizes (b .entries) (entryAt b a) level g) all k l, sizes-at (b .entries) (entryAt b a) level g k l)
       (λ some. inl (holding-all (entryAt b a) level g (entryAt b k) some))))
-      (unfold giveGroup in group-given a level g b m .orders)
+      (unfold giveGroup in group-given d a level g b m .orders)
 
-  group-turned : (level g : ℕ) (b : State) → Six b → Lawful b a level → Enough Shared a M b → Turned side s a M b (giveGroup a level g b)
-  group-turned level g b six m enough =
-      ⊎-elim (λ less. less-turned level g b six m enough less) (λ all. all-turned level g b six m all)
+  group-turned : {divide : Division} → Divides divide → (level g : ℕ) (b : State) → Six b → Lawful b a level → EnoughShared a M b → Turned side s a M b (giveGroup divide a level g b)
+  group-turned d level g b six m enough =
+      ⊎-elim (λ less. less-turned d level g b six m enough less) (λ all. all-turned d level g b six m all)
       (lt-or-le (entryAt b a .units) (sumN (slot (sizes (b .entries) (entryAt b a) level g)) 32))
 
-  shared-turned : (level : ℕ) (b : State) → Six b → Lawful b a level → Enough Shared a M b → Turned side s a M b (giveShared a level b)
+  shared-turned : {second : Division} → Divides second → (level : ℕ) (b : State) → Six b → Lawful b a level → EnoughShared a M b → Turned side s a M b (giveShared second a level b)
   unfolding giveShared
-  shared-turned level b six m e =
+  shared-turned d level b six m e =
       turned-then (inTurn-turned level 0 b six m)
-      (λ c h. turned-then (group-turned level 1 c (six-shrinks h six) (lawful-shrinks h m) (enough-shrinks Shared a M h e))
-      (λ d k. let h₂ : Shrinks b d = shrinks-trans h k in group-turned level 2 d (six-shrinks h₂ six) (lawful-shrinks h₂ m) (enough-shrinks Shared a M h₂ e)))
+      (λ x h. turned-then (group-turned d level 1 x (six-shrinks h six) (lawful-shrinks h m) (shared-shrinks a M h e))
+      (λ y k. let h₂ : Shrinks b y = shrinks-trans h k in group-turned share-divides level 2 y (six-shrinks h₂ six) (lawful-shrinks h₂ m) (shared-shrinks a M h₂ e)))
 
   limit-turned : (way : Allocation) (level : ℕ) (b : State) → Six b → Lawful b a level → Enough way a M b → Turned side s a M b (meetLimit way a level b)
   unfolding meetLimit
   limit-turned LegsOnly level b six m e = turned-nothing b
-  limit-turned Shared level b six m e = shared-turned level b six m e
+  limit-turned Shared level b six m e = shared-turned share-divides level b six m e
+  limit-turned ForStarter level b six m e = shared-turned share-divides level b six m e
   limit-turned Numbered level b six m e = inTurn-turned level 3 b six m
 
 -- PASSES

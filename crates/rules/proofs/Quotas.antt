@@ -10,8 +10,8 @@ use lib.Dec.{eqb, leb}
 use lib.ListN.{List·getD-eq-default}
 use Rattle.base.specs.Pick.{pick, pick-by, pick-both, pick-true, pick-false}
 use Rattle.base.specs.Walks.{sumN, slot, table, table-slot, length-table, lt-or-le}
-use Rattle.rules.specs.Quotas.{inTurnAt, inTurn, portion, portionAt, oneOf, holderAt, sharedAt, share}
-use Rattle.rules.proofs.Tables.{positive}
+use Rattle.rules.specs.Quotas.{Division, inTurnAt, inTurn, portion, portionAt, oneOf, holderAt, sharedAt, share}
+use Rattle.rules.proofs.Tables.{positive, sum-equal}
 
 -- a table of quotas: its sum, and a bound of each
 pub sum-table : (f : ℕ → ℕ) (n k : ℕ) → k ≤ n → sumN (slot (table f n)) k ≡ sumN f k
@@ -137,10 +137,14 @@ share-under r xs i =
     (λ e. omega arith)
     (λ e. table-under _ xs (λ j. shared-under r t _ (slot xs j) (leb-false t r e)) i)
 
--- a way to divide r over sizes: no quota above its size, and all of r or of the sizes
-pub record Divides (quotas : ℕ → List ℕ → List ℕ) : Type 0 where
-  pub under : (r : ℕ) (xs : List ℕ) (i : ℕ) → slot (quotas r xs) i ≤ slot xs i
-  pub sum : (r : ℕ) (xs : List ℕ) → sumN (slot (quotas r xs)) 32 ≡ min r (sumN (slot xs) 32)
+-- a division that gives out what it should: no quota above its size, and all of r or of the sizes
+pub record Divides (divide : Division) : Type 0 where
+  pub under : (r : ℕ) (xs : List ℕ) (i : ℕ) → slot (divide r xs) i ≤ slot xs i
+  pub sum : (r : ℕ) (xs : List ℕ) → sumN (slot (divide r xs)) 32 ≡ min r (sumN (slot xs) 32)
+
+-- where what remains is enough for all, each gets its size
+pub divides-all : {divide : Division} → Divides divide → (r : ℕ) (xs : List ℕ) → sumN (slot xs) 32 ≤ r → (i : ℕ) → i < 32 → slot (divide r xs) i ≡ slot xs i
+divides-all {divide} d r xs h i l = sum-equal (slot (divide r xs)) (slot xs) 32 i l (d .under r xs) (d .sum r xs ∙ omega arith)
 
 pub inTurn-divides : Divides inTurn
 inTurn-divides = record { under = inTurn-under; sum = inTurn-sum }

@@ -10,7 +10,7 @@ use lib.Dec.{eqb}
 use lib.ListN.{length, getD, take, replicate, length-append, length-take, List·getD-append, List·getD-eq-default}
 use lib.Seq.{getD-take, getD-append-seam}
 use Rattle.base.specs.Pick.{pick, pick-all, pick-by}
-use Rattle.base.specs.Walks.{sumN, sum-zero, sum-first, clash, lt-or-le, joinN}
+use Rattle.base.specs.Walks.{sumN, sum-zero, sum-mono, sum-first, clash, lt-or-le, below, joinN}
 use Rattle.base.specs.All.{All, all-nil, all-cons, Sorted, sort-nil, sort-cons, all-at, all-append, all-replicate, sorted-append}
 use Rattle.rules.specs.Events.{keep, behind}
 
@@ -240,3 +240,19 @@ module _ {A : Type 0} (test : A → Bool) (none : A) (quantity : A → ℕ) (emp
       let z : (y : A) → S y none = λ y k m. absurd (omega arith) in
       sorted-any {R = S} none z
       (behind-sorted test none x l {R = S} z (keep-all test none (all-of (λ (y : A). S y x) none l (λ i k m. h i k))) (sorted-of S none l s))
+
+-- SUMS
+-- no term more, and one term less
+pub sum-less : (f g : ℕ → ℕ) (k i : ℕ) → i < k → ((j : ℕ) → f j ≤ g j) → f i < g i → sumN f k < sumN g k
+unfolding sumN
+sum-less f g zero i h le lt = absurd (omega arith)
+sum-less f g (suc k) i h le lt =
+    ⊎-elim
+    (λ e. let l : f k < g k = rw e at lt in omega (arith, sum-mono f g k (λ j _. le j)))
+    (λ l. omega (arith, sum-less f g k i l le lt, le k))
+    (below h)
+
+-- where equal sums have terms that are no larger, the terms are equal
+pub sum-equal : (f g : ℕ → ℕ) (n i : ℕ) → i < n → ((j : ℕ) → f j ≤ g j) → sumN f n ≡ sumN g n → f i ≡ g i
+sum-equal f g n i l le e =
+    ⊎-elim (λ (h : f i < g i). absurd (omega (arith, sum-less f g n i l le h))) (λ (h : g i ≤ f i). omega (arith, le i)) (lt-or-le (f i) (g i))

@@ -17,7 +17,7 @@ use Rattle.rules.specs.declared.LegOrder.{LegOrder}
 use Rattle.rules.specs.declared.Bounds.{Bounds}
 use Rattle.rules.specs.declared.State.{State}
 use Rattle.rules.specs.declared.Allocation.{Allocation}
-use Rattle.rules.specs.declared.Allocation.the-variants.{Shared, Numbered}
+use Rattle.rules.specs.declared.Allocation.the-variants.{Shared, ForStarter, Numbered}
 use Rattle.rules.specs.declared.Turn.{Turn}
 use Rattle.rules.specs.declared.Turn.the-variants.{Stop, ByLegs, AtLimit}
 use Rattle.rules.specs.State.{noOrder, entryAt, strategyOf}
@@ -101,11 +101,16 @@ pub turn-allowed : (way : Allocation) (legs : Bool) (a i : ℕ) (b : State) →
 unfolding turnOf
 turn-allowed way legs a i b = record { same = same-or-barred _ _ _ (choice way legs a b); free = not-barred _ _ _ (choice way legs a b); level = turn-level way legs a i b }
 
--- .. and the choice of a shared or numbered pass is between the best opposite limit, whatever the range, and the legs
+-- .. and the choice of a shared pass, an auction's starter's or another's, or of a numbered one is between the best opposite limit, whatever the range, and the legs
 pub shared-allowed : (legs : Bool) (a i : ℕ) (b : State) →
     AllowedSentence (boundsAt b (entryAt b a .strategy)) (entryAt b a .side) (readyNet legs a b) (turnAt (entryAt b a) (bestOpposite (b .entries) (entryAt b a)) (readyNet legs a b)) (turnOf Shared legs a b) (turn Shared legs a i b)
 unfolding opposite
 shared-allowed legs a i b = turn-allowed Shared legs a i b
+
+pub starter-allowed : (legs : Bool) (a i : ℕ) (b : State) →
+    AllowedSentence (boundsAt b (entryAt b a .strategy)) (entryAt b a .side) (readyNet legs a b) (turnAt (entryAt b a) (bestOpposite (b .entries) (entryAt b a)) (readyNet legs a b)) (turnOf ForStarter legs a b) (turn ForStarter legs a i b)
+unfolding opposite
+starter-allowed legs a i b = turn-allowed ForStarter legs a i b
 
 pub numbered-allowed : (legs : Bool) (a i : ℕ) (b : State) →
     AllowedSentence (boundsAt b (entryAt b a .strategy)) (entryAt b a .side) (readyNet legs a b) (turnAt (entryAt b a) (bestOpposite (b .entries) (entryAt b a)) (readyNet legs a b)) (turnOf Numbered legs a b) (turn Numbered legs a i b)

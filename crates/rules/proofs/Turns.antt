@@ -10,7 +10,7 @@ use borrow.Author.Tests.{eqb-false}
 use lib.Dec.{eqb}
 use lib.ListN.{getD}
 use Rattle.base.specs.Pick.{pick, pick-by}
-use Rattle.base.specs.Walks.{sumN, walk, below}
+use Rattle.base.specs.Walks.{walk}
 use Rattle.rules.specs.declared.Strategy.{Strategy}
 use Rattle.rules.specs.declared.Entry.{Entry}
 use Rattle.rules.specs.declared.LegOrder.{LegOrder}
@@ -59,19 +59,6 @@ module _ (turn : ℕ → State → Moved) (stops : State → Bool) (left : State
       by : (t : Bool) → stops (each turn n b .state) ≡ t → left (each turn n b .state) + n ≤ left b → t ≡ true
       by true e l = refl
       by false e l = absurd (omega (arith, falls n (each turn n b .state) e))
-
--- sums: no term more, and one term less
-pub sum-less : (f g : ℕ → ℕ) (k i : ℕ) → i < k → ((j : ℕ) → f j ≤ g j) → f i < g i → sumN f k < sumN g k
-unfolding sumN
-sum-less f g zero i h le lt = absurd (omega arith)
-sum-less f g (suc k) i h le lt = ⊎-elim (λ e. last e) (λ l. let s = sum-less f g k i l le lt in omega (arith, le k)) (below h)
-  where
-    all : (n : ℕ) → sumN f n ≤ sumN g n
-    all zero = omega arith
-    all (suc n) = let s = all n in omega (arith, le n)
-
-    last : i ≡ k → sumN f k + f k < sumN g k + g k
-    last e = let l : f k < g k = rw e at lt in omega (arith, all k)
 
 -- the units that the legs give are some where one is there and some are wanted
 pub units-some : (os : List LegOrder) (side : ℕ) (s : Strategy) (ps : List ℕ) (most : ℕ) → 0 < most → 0 < unitsOf os side s ps 1 → 0 < unitsOf os side s ps most

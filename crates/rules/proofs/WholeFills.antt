@@ -12,13 +12,14 @@ use Rattle.rules.specs.declared.Strategy.{Strategy}
 use Rattle.rules.specs.declared.Entry.{Entry}
 use Rattle.rules.specs.declared.State.{State}
 use Rattle.rules.specs.declared.Allocation.{Allocation}
-use Rattle.rules.specs.declared.Allocation.the-variants.{LegsOnly, Shared, Numbered}
+use Rattle.rules.specs.declared.Allocation.the-variants.{LegsOnly, Shared, ForStarter, Numbered}
 use Rattle.rules.specs.declared.Turn.{Turn}
 use Rattle.rules.specs.State.{entryAt}
 use Rattle.rules.specs.Moves.{Moved, still, and-then, each}
 use Rattle.rules.specs.Records.{kindNumber}
 use Rattle.rules.specs.Fills.{legRecordAt, partyRecords, noPrices, wholeFill}
-use Rattle.rules.specs.Passes.{giveAt, give, giveInTurn, giveGroup, giveShared, meetLimit, readyNet, opposite, legsFirst, turnAt, allowed, turnOf, takeTurn, turn, pass}
+use Rattle.rules.specs.Quotas.{Division, inTurn, share}
+use Rattle.rules.specs.Passes.{giveAt, give, giveGroup, giveShared, meetLimit, readyNet, opposite, legsFirst, turnAt, allowed, turnOf, takeTurn, turn, pass}
 use Rattle.rules.specs.National.{boundsAt}
 use Rattle.rules.specs.Auctions.{matchOnce, matchAll}
 use Rattle.rules.specs.Sentences.{Unpriced, WithoutLegs}
@@ -60,12 +61,17 @@ give-without : (a level : ℕ) (qs : List ℕ) (b : State) → WithoutLegs b (gi
 unfolding give
 give-without a level qs b = each-without (giveAt a level qs) (λ i c. whole-without c a i level (slot qs i)) 32 b
 
+shared-without : (second : Division) (a level : ℕ) (b : State) → WithoutLegs b (giveShared second a level b)
+unfolding giveShared giveGroup
+shared-without second a level b =
+    then-without b (giveGroup inTurn a level 0 b) _ (give-without a level _ b)
+    (then-without _ (giveGroup second a level 1 (giveGroup inTurn a level 0 b .state)) (giveGroup share a level 2) (give-without a level _ _) (give-without a level _ _))
+
 pub limit-without : (way : Allocation) (a level : ℕ) (b : State) → WithoutLegs b (meetLimit way a level b)
-unfolding meetLimit giveShared giveInTurn giveGroup
+unfolding meetLimit giveGroup
 limit-without LegsOnly a level b = still-without b
-limit-without Shared a level b =
-    then-without b (giveInTurn a level 0 b) _ (give-without a level _ b)
-    (then-without _ (giveGroup a level 1 (giveInTurn a level 0 b .state)) (giveGroup a level 2) (give-without a level _ _) (give-without a level _ _))
+limit-without Shared a level b = shared-without share a level b
+limit-without ForStarter a level b = shared-without share a level b
 limit-without Numbered a level b = give-without a level _ b
 
 -- A TURN FOR WHICH THE LEGS ARE BARRED is none by the legs

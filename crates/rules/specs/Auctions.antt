@@ -11,7 +11,7 @@ use Rattle.rules.specs.declared.Strategy.{Strategy}
 use Rattle.rules.specs.declared.Entry.{Entry}
 use Rattle.rules.specs.declared.State.{State}
 use Rattle.rules.specs.declared.Kind.the-variants.{AuctionBegun, AuctionEnded}
-use Rattle.rules.specs.declared.Allocation.the-variants.{LegsOnly, Shared, Numbered}
+use Rattle.rules.specs.declared.Allocation.the-variants.{LegsOnly, ForStarter, Numbered}
 use Rattle.rules.specs.State.{entryAt, strategyAt, withStrategies}
 use Rattle.rules.specs.Moves.{Moved, still, and-then, each}
 use Rattle.rules.specs.Sides.{other, better}
@@ -80,7 +80,7 @@ endUnfilled k b = and-then (each (cancelLapsed k) tableRows b) (close k)
 
 -- "The starter gets a shared pass, legs barred if any opposite .. was accepted meanwhile."
 unfoldable pub starterPass : ℕ → State → Moved
-starterPass k b = pass Shared (not (strategyAt b k .answered)) (starterSlot b k) b
+starterPass k b = pass ForStarter (not (strategyAt b k .answered)) (starterSlot b k) b
 
 -- "each other entry accepted meanwhile": e of strategy k came after number n
 unfoldable pub later : ℕ → ℕ → Entry → Bool

@@ -69,7 +69,7 @@ unfolding
     Fills.partyRecords Fills.cut Fills.cutLeg Fills.wholeFill Fills.legQuotas Fills.orderRow Fills.cutOrders
     Fills.cutByLegs Fills.takeLegs Fills.legFill Fills.legTrade Fills.cancelEntry Fills.cancelOrder
     Passes.opposes Passes.limitWith Passes.bestOpposite Passes.groupOf Passes.within Passes.holding Passes.sizes
-    Passes.give Passes.giveInTurn Passes.giveGroup Passes.giveShared Passes.meetLimit Passes.ready Passes.readyNet
+    Passes.give Passes.giveGroup Passes.giveShared Passes.meetLimit Passes.ready Passes.readyNet
     Passes.opposite Passes.legsFirst Passes.turnAt Passes.allowed Passes.turnOf Passes.takeTurn Passes.pass
     Auctions.liveIn Auctions.putAuction Auctions.begin Auctions.close Auctions.starterSlot Auctions.answer
     Auctions.lapses Auctions.cancelLapsed Auctions.endUnfilled Auctions.starterPass Auctions.later

@@ -11,14 +11,14 @@ use Rattle.rules.specs.declared.Strategy.{Strategy}
 use Rattle.rules.specs.declared.Entry.{Entry}
 use Rattle.rules.specs.declared.State.{State}
 use Rattle.rules.specs.declared.Allocation.{Allocation}
-use Rattle.rules.specs.declared.Allocation.the-variants.{LegsOnly, Shared, Numbered}
+use Rattle.rules.specs.declared.Allocation.the-variants.{LegsOnly, Shared, ForStarter, Numbered}
 use Rattle.rules.specs.declared.Bounds.{Bounds}
 use Rattle.rules.specs.declared.Turn.{Turn}
 use Rattle.rules.specs.declared.Turn.the-variants.{Stop, ByLegs, AtLimit}
 use Rattle.rules.specs.State.{noEntry, entryAt, strategyOf}
 use Rattle.rules.specs.Moves.{Moved, still, and-then, each}
 use Rattle.rules.specs.Sides.{other, meets, better, bestPrice}
-use Rattle.rules.specs.Quotas.{inTurn, share}
+use Rattle.rules.specs.Quotas.{Division, inTurn, share}
 use Rattle.rules.specs.Nets.{prices, netOf, unitsOf}
 use Rattle.rules.specs.National.{boundsAt, mayTake, mayMeet}
 use Rattle.rules.specs.Fills.{wholeFill, legFill}
@@ -67,23 +67,21 @@ giveAt a level qs i b = wholeFill b a i level (slot qs i)
 unfoldable pub give : ℕ → ℕ → List ℕ → State → Moved
 give a level qs b = each (giveAt a level qs) tableRows b
 
--- a group by number
-unfoldable pub giveInTurn : ℕ → ℕ → ℕ → State → Moved
-giveInTurn a level g b = give a level (inTurn (entryAt b a .units) (sizes (b .entries) (entryAt b a) level g)) b
+-- a group, over which what remains is divided in that way
+unfoldable pub giveGroup : Division → ℕ → ℕ → ℕ → State → Moved
+giveGroup divide a level g b = give a level (divide (entryAt b a .units) (sizes (b .entries) (entryAt b a) level g)) b
 
--- a group that is shared where it is larger than what remains
-unfoldable pub giveGroup : ℕ → ℕ → ℕ → State → Moved
-giveGroup a level g b = give a level (share (entryAt b a .units) (sizes (b .entries) (entryAt b a) level g)) b
-
--- "In a shared pass one limit's holders go in groups"
-unfoldable pub giveShared : ℕ → ℕ → State → Moved
-giveShared a level b = and-then (giveInTurn a level 0 b) (λ c. and-then (giveGroup a level 1 c) (giveGroup a level 2))
+-- "In a shared pass one limit's holders go in groups: customers by number; then sweeps and market makers; then broker-dealers": the second group
+-- divided in that way
+unfoldable pub giveShared : Division → ℕ → ℕ → State → Moved
+giveShared second a level b = and-then (giveGroup inTurn a level 0 b) (λ c. and-then (giveGroup second a level 1 c) (giveGroup share a level 2))
 
 -- "Whole: fill at the opposite limit."
 unfoldable pub meetLimit : Allocation → ℕ → ℕ → State → Moved
 meetLimit LegsOnly a level b = still b
-meetLimit Shared a level b = giveShared a level b
-meetLimit Numbered a level b = giveInTurn a level 3 b
+meetLimit Shared a level b = giveShared share a level b
+meetLimit ForStarter a level b = giveShared share a level b
+meetLimit Numbered a level b = giveGroup inTurn a level 3 b
 
 -- "The legs are ready when each best price holds at least the ratio in contracts": one unit is there
 unfoldable pub ready : ℕ → State → Bool
@@ -103,6 +101,7 @@ readyNet legs a b =
 unfoldable pub opposite : Allocation → ℕ → State → ℕ
 opposite LegsOnly a b = 0
 opposite Shared a b = bestOpposite (b .entries) (entryAt b a)
+opposite ForStarter a b = bestOpposite (b .entries) (entryAt b a)
 opposite Numbered a b = bestOpposite (b .entries) (entryAt b a)
 
 -- "the leg net .. if the legs are ready and it is strictly better for the active order or no opposite limit stands"

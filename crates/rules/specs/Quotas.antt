@@ -6,12 +6,16 @@ use Rattle.base.specs.Pick.{pick}
 use Rattle.base.specs.Walks.{sumN, slot, table}
 use Rattle.rules.specs.Sizes.{tableRows}
 
+-- a way to divide what remains over sizes: the quotas
+abbrev pub Division : Type 0
+Division = ℕ → List ℕ → List ℕ
+
 -- "by number": each slot gets what it holds, or what those before it left of r
 unfoldable pub inTurnAt : ℕ → List ℕ → ℕ → ℕ
 inTurnAt r xs i = min (r - sumN (slot xs) i) (slot xs i)
 
 -- .. for each of the 32
-unfoldable pub inTurn : ℕ → List ℕ → List ℕ
+unfoldable pub inTurn : Division
 inTurn r xs = table (inTurnAt r xs) tableRows
 
 -- "remaining × size / group total, rounded down"
@@ -35,7 +39,7 @@ unfoldable pub sharedAt : ℕ → ℕ → ℕ → List ℕ → ℕ → ℕ
 sharedAt r total n xs i = portionAt r total xs i + oneOf (n - sumN (holderAt xs) i) (slot xs i)
 
 -- "The second or third group, when larger than what remains, is shared"; else each has its size
-unfoldable pub share : ℕ → List ℕ → List ℕ
+unfoldable pub share : Division
 share r xs =
     let total : ℕ = sumN (slot xs) tableRows in
     pick (leb total r) xs (table (sharedAt r total (r - sumN (portionAt r total xs) tableRows) xs) tableRows)

@@ -118,10 +118,11 @@ pub struct Record {
     pub level: u32,
 }
 
-// How a pass meets the holders of a limit: not at all, shared by groups, or by number alone.
+// How a pass meets the holders of a limit: not at all, shared by groups, so for an auction's starter, or by number alone.
 pub enum Allocation {
     LegsOnly,
     Shared,
+    ForStarter,
     Numbered,
 }
 

@@ -1,4 +1,5 @@
 use borrow.Author.Needs.{needs}
+use Rattle.rules.specs.Quotas.{share}
 use Rattle.records.specs.Done.{in-room, in-done}
 use Rattle.fills.specs.Gives.{group-is, entries-fit}
 use Rattle.ranges.specs.Fit.{fit-entry}
@@ -22,13 +23,13 @@ share-requires c κs = let k = c .before .before in
 
 give-requires : tie.Need-give-requires
 give-requires c κs = let k = c .before .before .before .before in
-    (k .pre .0, in-room (group-is _ _ _ (rw (c .before .before .sizes .ensures) at (c .before .share .ensures))) (k .pre .1))
+    (k .pre .0, in-room (group-is share _ _ _ (rw (c .before .before .sizes .ensures) at (c .before .share .ensures))) (k .pre .1))
 
 same-length : tie.Need-same-length
 same-length c = search needs
 
 returns : tie.Need-returns
-returns c = in-done (group-is _ _ _ (rw (c .before .before .before .before .sizes .ensures) at (c .before .before .before .share .ensures))) (c .before .give .ensures)
+returns c = in-done (group-is share _ _ _ (rw (c .before .before .before .before .sizes .ensures) at (c .before .before .before .share .ensures))) (c .before .give .ensures)
 
 pub give-group-spec : {M : Type 1} → statement M
 give-group-spec =

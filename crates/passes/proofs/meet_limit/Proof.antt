@@ -25,9 +25,16 @@ give-shared-requires c κs = let k = c .before .before .before in (k .pre .0, in
 enum-told-3 : tie.Need-enum-told-3
 enum-told-3 c = search needs
 
+give-shared-requires-2 : tie.Need-give-shared-requires-2
+unfolding meetLimit
+give-shared-requires-2 c κs = let k = c .before .before .before in (k .pre .0, in-room (λ b _. by-way k (c .before .enum-told3 .given .1) b) (k .pre .1))
+
+enum-told-4 : tie.Need-enum-told-4
+enum-told-4 c = search needs
+
 give-in-turn-requires : tie.Need-give-in-turn-requires
 unfolding meetLimit
-give-in-turn-requires c κs = let k = c .before .before .before in (k .pre .0, in-room (λ b _. by-way k (c .before .enum-told3 .given .1) b) (k .pre .1))
+give-in-turn-requires c κs = let k = c .before .before .before in (k .pre .0, in-room (λ b _. by-way k (c .before .enum-told4 .given .1) b) (k .pre .1))
 
 returns : tie.Need-returns
 unfolding meetLimit
@@ -45,7 +52,14 @@ same-length-2 c = search needs
 
 returns-3 : tie.Need-returns-3
 unfolding meetLimit
-returns-3 c = in-done (λ b _. by-way (c .before .before .before .before .before) (c .before .before .before .enum-told3 .given .1) b) (c .before .give-in-turn .ensures)
+returns-3 c = in-done (λ b _. by-way (c .before .before .before .before .before) (c .before .before .before .enum-told3 .given .1) b) (c .before .give-shared2 .ensures)
+
+same-length-3 : tie.Need-same-length-3
+same-length-3 c = search needs
+
+returns-4 : tie.Need-returns-4
+unfolding meetLimit
+returns-4 c = in-done (λ b _. by-way (c .before .before .before .before .before) (c .before .before .before .enum-told4 .given .1) b) (c .before .give-in-turn .ensures)
 
 pub meet-limit-spec : {M : Type 1} → statement M
 meet-limit-spec =
@@ -55,9 +69,13 @@ meet-limit-spec =
     enum-told-2
     give-shared-requires
     enum-told-3
+    give-shared-requires-2
+    enum-told-4
     give-in-turn-requires
     returns
     same-length
     returns-2
     same-length-2
-    returns-3)
+    returns-3
+    same-length-3
+    returns-4)

@@ -24,6 +24,12 @@ enum-told-3 c = search needs
 best-opposite-requires-2 : tie.Need-best-opposite-requires-2
 best-opposite-requires-2 c κs = search needs
 
+enum-told-4 : tie.Need-enum-told-4
+enum-told-4 c = search needs
+
+best-opposite-requires-3 : tie.Need-best-opposite-requires-3
+best-opposite-requires-3 c κs = search needs
+
 returns : tie.Need-returns
 unfolding oppositeIn
 returns c = by-way (c .before .before) (c .enum-told .given .1)
@@ -36,6 +42,10 @@ returns-3 : tie.Need-returns-3
 unfolding oppositeIn
 returns-3 c = c .best-opposite2 .ensures ∙ by-way (c .before .before .before) (c .before .enum-told3 .given .1)
 
+returns-4 : tie.Need-returns-4
+unfolding oppositeIn
+returns-4 c = c .best-opposite3 .ensures ∙ by-way (c .before .before .before) (c .before .enum-told4 .given .1)
+
 pub opposite-spec : {M : Type 1} → statement M
 opposite-spec =
     tie.close
@@ -45,6 +55,9 @@ opposite-spec =
     best-opposite-requires
     enum-told-3
     best-opposite-requires-2
+    enum-told-4
+    best-opposite-requires-3
     returns
     returns-2
-    returns-3)
+    returns-3
+    returns-4)
