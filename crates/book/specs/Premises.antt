@@ -21,16 +21,19 @@ use Rattle.events.specs.declared.DayEnd.{DayEnd as GivenDayEnd}
 use Rattle.events.specs.declared.LegOrder.{LegOrder as GivenLegOrder}
 use Rattle.events.specs.declared.National.{National as GivenNational}
 use Rattle.events.specs.declared.Range.{Range as GivenRange}
+use Rattle.events.specs.declared.Specialist.{Specialist as GivenSpecialist}
 use Rattle.rules.specs.declared.Strategy.{Strategy}
 use Rattle.rules.specs.declared.Entry.{Entry}
 use Rattle.rules.specs.declared.LegOrder.{LegOrder}
 use Rattle.rules.specs.declared.Quote.{Quote}
+use Rattle.rules.specs.declared.Specialist.{Specialist}
 use Rattle.rules.specs.declared.State.{State}
 use Rattle.rules.specs.Moves.{still}
 use Rattle.rules.specs.Strategies.{sameAt, held, numberOf, added, define}
 use Rattle.rules.specs.Events.{freeSlot, freeOrderSlot, onOrder, onSweep, onLegOrder, cancelNumber, onSeries, onClock, onDayEnd}
 use Rattle.rules.specs.National.{onNational, onRange}
-use Rattle.rules.specs.Given.{strategyGiven, orderGiven, sweepGiven, legOrderGiven, quoteGiven}
+use Rattle.rules.specs.Specialists.{onSpecialist}
+use Rattle.rules.specs.Given.{strategyGiven, orderGiven, sweepGiven, legOrderGiven, specialistGiven, quoteGiven}
 use Rattle.rules.specs.Refusals.{firstCause, causes, illFormed, strategiesFull}
 use Rattle.rules.specs.Step.{valueOf, accept}
 use Rattle.rules.specs.Fits.{FitOrderGiven, FitSweepGiven, FitLegOrderGiven}
@@ -147,6 +150,14 @@ module _ (b : State) where
   pub range-value : (e : GivenRange) → 0 ≡ valueOf b (E.Range e)
   unfolding valueOf
   range-value e = refl
+
+  pub specialist-accepts : (e : GivenSpecialist) {p : Specialist} {c : State} → p ≡ specialistGiven e → c ≡ onSpecialist (e .strategy) p b → accept b (E.Specialist e) ≡ still c
+  unfolding accept
+  specialist-accepts e g h = rw (h, g)
+
+  pub specialist-value : (e : GivenSpecialist) → 0 ≡ valueOf b (E.Specialist e)
+  unfolding valueOf
+  specialist-value e = refl
 
 -- a series, a day's end and an execution range are never refused
 pub series-none : (b : State) (e : GivenSeries) → 0 ≡ firstCause (causes b (E.Series e))

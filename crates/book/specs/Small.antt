@@ -164,6 +164,7 @@ starts b (E.Clock e) v f c = ranged-sound (sound-clock b (e .time) (v .sound) f)
 starts b (E.DayEnd e) v f c = ranged-sound (v .sound)
 starts b (E.National e) v f c = tt
 starts b (E.Range e) v f c = tt
+starts b (E.Specialist e) v f c = tt
 
 pub accept-small : (b : State) (e : Event) → Valid b → FitEvent e → firstCause (causes b e) ≡ 0 → All Small (accept b e .records)
 accept-small b e v f c = accept-told small-kept b e (starts b e v f c)

@@ -24,6 +24,7 @@ use given::ill_formed;
 use given::leg_order_given;
 use given::order_given;
 use given::quote_given;
+use given::specialist_given;
 use given::strategy_given;
 use given::sweep_given;
 use leg_orders::on_leg_order;
@@ -34,6 +35,7 @@ use refusals::clock_refusal;
 use refusals::leg_order_refusal;
 use refusals::national_refusal;
 use refusals::order_refusal;
+use refusals::specialist_refusal;
 use refusals::sweep_refusal;
 use rules::Answer;
 use rules::Depth;
@@ -42,6 +44,7 @@ use rules::OrderEntry;
 use rules::Shut;
 use rules::State;
 use series::on_series;
+use specialists::set_specialist;
 use strategies::add;
 use strategies::number_of;
 use sweeps::on_sweep;
@@ -267,6 +270,21 @@ impl Book {
         admit(c, 0, 0)
     }
 
+    // Kind 11: the specialist of a strategy.
+    fn specialist(self, e: events::Specialist, space: &mut [i32]) -> Taken
+        requires { ⌜ Valid (self .state) × ((1 ≤ e .member) × (e .member ≤ 65535) × (e .strategy < strategySlots) × (e .percentage ≤ 100)) × (recordSpace ≤ length (now space)) ⌝ }
+        ensures { λ x. ⌜ Took (self .state) (E.Specialist e) (now (space .entry)) (now (space .exit)) x ⌝ }
+    {
+        let b = self.state;
+        let r = specialist_refusal(b, e);
+        if r != 0 {
+            return refuse(b, r);
+        }
+        let p = specialist_given(e);
+        let c = set_specialist(b, e.strategy as u8, p);
+        admit(c, 0, 0)
+    }
+
     // A frame of any bytes, with a record space of any length: the answer, the book, and the records in the space. A refused
     // event hands back the book that came, and leaves the space.
     pub fn step(self, frame: &[u8], space: &mut [i32]) -> Taken
@@ -294,6 +312,7 @@ impl Book {
                 Event::DayEnd(e) => self.day_end(e, space),
                 Event::National(e) => self.national(e, space),
                 Event::Range(e) => self.range(e, space),
+                Event::Specialist(e) => self.specialist(e, space),
             },
         }
     }

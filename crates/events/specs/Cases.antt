@@ -30,6 +30,7 @@ event-row (E.Clock e) = refl
 event-row (E.DayEnd e) = refl
 event-row (E.National e) = refl
 event-row (E.Range e) = refl
+event-row (E.Specialist e) = refl
 
 pub length-row-of : (e : Event) → length (rowOf e) ≡ 19
 length-row-of (E.Strategy e) = refl
@@ -42,6 +43,7 @@ length-row-of (E.Clock e) = refl
 length-row-of (E.DayEnd e) = refl
 length-row-of (E.National e) = refl
 length-row-of (E.Range e) = refl
+length-row-of (E.Specialist e) = refl
 
 pub kind-code : (e : Event) → kindOf (codeOf (kindIn e)) ≡ kindIn e
 unfolding kindOf pick
@@ -55,6 +57,7 @@ kind-code (E.Clock e) = refl
 kind-code (E.DayEnd e) = refl
 kind-code (E.National e) = refl
 kind-code (E.Range e) = refl
+kind-code (E.Specialist e) = refl
 
 pub code-lt : (k : Kind) → codeOf k < 256 ^ 2
 code-lt K.Strategy = omega arith
@@ -67,6 +70,7 @@ code-lt K.Clock = omega arith
 code-lt K.DayEnd = omega arith
 code-lt K.National = omega arith
 code-lt K.Range = omega arith
+code-lt K.Specialist = omega arith
 code-lt K.Unknown = omega arith
 
 abbrev pub kindRead : Reading → Kind
@@ -88,6 +92,7 @@ kind-back K.Clock v = refl
 kind-back K.DayEnd v = refl
 kind-back K.National v = refl
 kind-back K.Range v = refl
+kind-back K.Specialist v = refl
 kind-back K.Unknown v = refl
 
 pub answer-event : (k : Kind) (v : List ℕ) (n : ℕ) → 4 ≤ lengthOf k n → readingNumber (eventOf k v) ≡ 0
@@ -102,6 +107,7 @@ answer-event K.Clock v n h = refl
 answer-event K.DayEnd v n h = refl
 answer-event K.National v n h = refl
 answer-event K.Range v n h = refl
+answer-event K.Specialist v n h = refl
 answer-event K.Unknown v n h = absurd (omega arith)
 
 -- a known kind gives an event
@@ -117,6 +123,7 @@ event-is K.Clock v n h = (_, refl)
 event-is K.DayEnd v n h = (_, refl)
 event-is K.National v n h = (_, refl)
 event-is K.Range v n h = (_, refl)
+event-is K.Specialist v n h = (_, refl)
 event-is K.Unknown v n h = absurd (omega arith)
 
 unknown-zero : (n : ℕ) → lengthOf K.Unknown n ≡ 0
@@ -137,7 +144,8 @@ code-kind x n =
     (λ _. pick-by P (eqb x 8) (λ t _. sym (eqb-true x 8 t))
     (λ _. pick-by P (eqb x 9) (λ t _. sym (eqb-true x 9 t))
     (λ _. pick-by P (eqb x 10) (λ t _. sym (eqb-true x 10 t))
-    (λ _. no))))))))))
+    (λ _. pick-by P (eqb x 11) (λ t _. sym (eqb-true x 11 t))
+    (λ _. no)))))))))))
   where
     no : 4 ≤ lengthOf K.Unknown n → codeOf K.Unknown ≡ x
     no h = absurd (omega (arith, h, unknown-zero n))

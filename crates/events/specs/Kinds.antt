@@ -18,10 +18,12 @@ kindOf n =
     (pick (eqb n 7) K.Clock
     (pick (eqb n 8) K.DayEnd
     (pick (eqb n 9) K.National
-    (pick (eqb n 10) K.Range K.Unknown)))))))))
+    (pick (eqb n 10) K.Range
+    (pick (eqb n 11) K.Specialist K.Unknown))))))))))
 
 -- "1 strategy", "2 complex order", "3 sweep", "4 leg order", "5 cancel", "6 series", "7 clock", "8 day end",
--- "Kind 9 carries series, national bid (4) and offer (4)", "Kind 10 carries the range in cents (2)"
+-- "Kind 9 carries series, national bid (4) and offer (4)", "Kind 10 carries the range in cents (2)",
+-- "Kind 11 names a member (2) and a strategy (1)"
 abbrev pub codeOf : Kind → ℕ
 codeOf K.Strategy = 1
 codeOf K.Order = 2
@@ -33,6 +35,7 @@ codeOf K.Clock = 7
 codeOf K.DayEnd = 8
 codeOf K.National = 9
 codeOf K.Range = 10
+codeOf K.Specialist = 11
 codeOf K.Unknown = 0
 
 -- "Length 16", and so on for each kind; a strategy's without its legs; 0, which no frame of 4 bytes has, for an unknown kind
@@ -47,6 +50,7 @@ fixedOf K.Clock = 8
 fixedOf K.DayEnd = 6
 fixedOf K.National = 13
 fixedOf K.Range = 6
+fixedOf K.Specialist = 8
 fixedOf K.Unknown = 0
 
 -- "Length 5 + 3 × count for every count byte", n being the first field; the fixed length for the other kinds
@@ -64,4 +68,5 @@ fixed-le K.Clock = omega arith
 fixed-le K.DayEnd = omega arith
 fixed-le K.National = omega arith
 fixed-le K.Range = omega arith
+fixed-le K.Specialist = omega arith
 fixed-le K.Unknown = omega arith

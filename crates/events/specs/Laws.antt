@@ -46,6 +46,7 @@ sound-table K.Clock = refl
 sound-table K.DayEnd = refl
 sound-table K.National = refl
 sound-table K.Range = refl
+sound-table K.Specialist = refl
 sound-table K.Unknown = refl
 
 thinb : List Field → Bool
@@ -134,6 +135,7 @@ offset-fits K.Clock n h = omega arith
 offset-fits K.DayEnd n h = omega arith
 offset-fits K.National n h = omega arith
 offset-fits K.Range n h = omega arith
+offset-fits K.Specialist n h = omega arith
 offset-fits K.Unknown n h = omega arith
 
 -- the fields fill the frame, where a strategy's count is at most six
@@ -164,6 +166,7 @@ exact K.Clock n s h = record { whole = refl; short = omega arith }
 exact K.DayEnd n s h = record { whole = refl; short = omega arith }
 exact K.National n s h = record { whole = refl; short = omega arith }
 exact K.Range n s h = record { whole = refl; short = omega arith }
+exact K.Specialist n s h = record { whole = refl; short = omega arith }
 exact K.Unknown n s h = absurd (omega arith)
 
 pub four-le : (e : Event) (n : ℕ) → 4 ≤ lengthOf (kindIn e) n
@@ -178,6 +181,7 @@ four-le (E.Clock e) n = omega arith
 four-le (E.DayEnd e) n = omega arith
 four-le (E.National e) n = omega arith
 four-le (E.Range e) n = omega arith
+four-le (E.Specialist e) n = omega arith
 
 -- only a strategy's frame looks at the count
 pub field-same : (k : Kind) (a b : ℕ) → (k ≡ K.Strategy → a ≡ b) → layoutOf k a ≡ layoutOf k b
@@ -192,6 +196,7 @@ field-same K.Clock a b h = refl
 field-same K.DayEnd a b h = refl
 field-same K.National a b h = refl
 field-same K.Range a b h = refl
+field-same K.Specialist a b h = refl
 field-same K.Unknown a b h = refl
 
 pub length-same : (k : Kind) (a b : ℕ) → (k ≡ K.Strategy → a ≡ b) → lengthOf k a ≡ lengthOf k b
@@ -206,6 +211,7 @@ length-same K.Clock a b h = refl
 length-same K.DayEnd a b h = refl
 length-same K.National a b h = refl
 length-same K.Range a b h = refl
+length-same K.Specialist a b h = refl
 length-same K.Unknown a b h = refl
 
 -- the fields as the code passes them
@@ -296,4 +302,5 @@ fixed-fields K.Clock s u n i = present-all _ 4 15 refl i
 fixed-fields K.DayEnd s u n i = present-all _ 2 17 refl i
 fixed-fields K.National s u n i = present-all _ 9 10 refl i
 fixed-fields K.Range s u n i = present-all _ 2 17 refl i
+fixed-fields K.Specialist s u n i = present-all _ 4 15 refl i
 fixed-fields K.Unknown s u n i = absurd (u refl)

@@ -27,6 +27,7 @@ kindIn (E.Clock e) = K.Clock
 kindIn (E.DayEnd e) = K.DayEnd
 kindIn (E.National e) = K.National
 kindIn (E.Range e) = K.Range
+kindIn (E.Specialist e) = K.Specialist
 
 -- the three numbers of a leg: "series (1) 0–31, side (1), ratio (1) 1–12"
 abbrev legRow : Leg → List ℕ → List ℕ
@@ -44,6 +45,7 @@ rowOf (E.Clock e) = e .time ∷ replicate 18 0
 rowOf (E.DayEnd e) = e .timer ∷ replicate 18 0
 rowOf (E.National e) = e .series ∷ e .bid ∷ e .offer ∷ replicate 16 0
 rowOf (E.Range e) = e .range ∷ replicate 18 0
+rowOf (E.Specialist e) = e .member ∷ e .strategy ∷ e .percentage ∷ replicate 16 0
 
 -- the leg whose numbers begin at place i
 abbrev pub legFrom : List ℕ → ℕ → Leg
@@ -61,6 +63,7 @@ eventOf K.Clock v = R.Event (E.Clock (record { time = getD v 0 0 }))
 eventOf K.DayEnd v = R.Event (E.DayEnd (record { timer = getD v 0 0 }))
 eventOf K.National v = R.Event (E.National (record { series = getD v 0 0; bid = getD v 1 0; offer = getD v 2 0 }))
 eventOf K.Range v = R.Event (E.Range (record { range = getD v 0 0 }))
+eventOf K.Specialist v = R.Event (E.Specialist (record { member = getD v 0 0; strategy = getD v 1 0; percentage = getD v 2 0 }))
 eventOf K.Unknown v = R.Refused 2
 
 -- the fields of an event's frame

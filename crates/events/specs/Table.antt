@@ -84,6 +84,10 @@ nationalPrice = (4, 0, 99999, 0)
 abbrev pub range : Field
 range = (2, 0, 9999, 0)
 
+-- "a percentage (1) 0–100"
+abbrev pub percentage : Field
+percentage = (1, 0, 100, 0)
+
 -- "per leg series (1) 0–31, side (1), ratio (1) 1–12"
 abbrev pub leg : List Field → List Field
 leg fs = series ∷ side ∷ ratio ∷ fs
@@ -110,6 +114,8 @@ fieldsOf K.DayEnd = timer ∷ replicate 18 none
 fieldsOf K.National = series ∷ nationalPrice ∷ nationalPrice ∷ replicate 16 none
 -- "Kind 10 carries the range in cents (2), 0–9,999; length 6"
 fieldsOf K.Range = range ∷ replicate 18 none
+-- "Kind 11 names a member (2) and a strategy (1), both as in kind 2, and a percentage (1) 0–100; length 8."
+fieldsOf K.Specialist = member ∷ strategy ∷ percentage ∷ replicate 16 none
 fieldsOf K.Unknown = replicate 19 none
 
 -- the fields of a frame of a kind whose first field is n: of its table those that the bytes past the fourth can hold, one byte each at least.

@@ -18,7 +18,8 @@ pub fn kind_of(n: u32) -> Kind
         8 => Kind::DayEnd,
         9 => Kind::National,
         10 => Kind::Range,
-        0 | 11..=u32::MAX => Kind::Unknown,
+        11 => Kind::Specialist,
+        0 | 12..=u32::MAX => Kind::Unknown,
     }
 }
 
@@ -36,6 +37,7 @@ pub fn code_of(kind: Kind) -> u32
         Kind::DayEnd => 8,
         Kind::National => 9,
         Kind::Range => 10,
+        Kind::Specialist => 11,
         Kind::Unknown => 0,
     }
 }
@@ -55,6 +57,7 @@ fn fixed_length(kind: Kind) -> usize
         Kind::DayEnd => 6,
         Kind::National => 13,
         Kind::Range => 6,
+        Kind::Specialist => 8,
         Kind::Unknown => 0,
     }
 }

@@ -15,6 +15,7 @@ pub enum Kind {
     DayEnd,
     National,
     Range,
+    Specialist,
     Unknown,
 }
 
@@ -90,6 +91,13 @@ pub struct Range {
     pub range: u32,
 }
 
+// The specialist of a strategy, and the percentage of its portion.
+pub struct Specialist {
+    pub member: u32,
+    pub strategy: u32,
+    pub percentage: u32,
+}
+
 pub enum Event {
     Strategy(Strategy),
     Order(Order),
@@ -101,6 +109,7 @@ pub enum Event {
     DayEnd(DayEnd),
     National(National),
     Range(Range),
+    Specialist(Specialist),
 }
 
 // What reading answers: the event, or the refusal.

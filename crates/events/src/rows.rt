@@ -15,6 +15,7 @@ use super::Order;
 use super::Range;
 use super::Reading;
 use super::Series;
+use super::Specialist;
 use super::Strategy;
 use super::Sweep;
 use super::kinds::length_of;
@@ -35,6 +36,7 @@ pub fn kind_in(event: Event) -> Kind
         Event::DayEnd(_) => Kind::DayEnd,
         Event::National(_) => Kind::National,
         Event::Range(_) => Kind::Range,
+        Event::Specialist(_) => Kind::Specialist,
     }
 }
 
@@ -122,6 +124,12 @@ pub fn row_of(event: Event) -> [u32; 19]
             row[0] = e.range;
             row
         }
+        Event::Specialist(e) => {
+            row[0] = e.member;
+            row[1] = e.strategy;
+            row[2] = e.percentage;
+            row
+        }
     }
 }
 
@@ -140,6 +148,7 @@ pub fn event_of(kind: Kind, row: [u32; 19]) -> Reading
         Kind::DayEnd => day_end_event(row),
         Kind::National => national_event(row),
         Kind::Range => range_event(row),
+        Kind::Specialist => specialist_event(row),
         Kind::Unknown => Reading::Refused(2),
     }
 }
@@ -254,6 +263,16 @@ fn range_event(row: [u32; 19]) -> Reading
     ensures { λ r. ⌜ r ≡ eventOf Kind.Range row ⌝ }
 {
     Reading::Event(Event::Range(Range { range: row[0] }))
+}
+
+fn specialist_event(row: [u32; 19]) -> Reading
+    ensures { λ r. ⌜ r ≡ eventOf Kind.Specialist row ⌝ }
+{
+    Reading::Event(Event::Specialist(Specialist {
+        member: row[0],
+        strategy: row[1],
+        percentage: row[2],
+    }))
 }
 
 pub fn length_in(event: Event) -> usize

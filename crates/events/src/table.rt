@@ -48,6 +48,9 @@ pub const NATIONAL_PRICE: Field = Field(4, 0, 99999, 0);
 // The execution range in cents.
 pub const RANGE: Field = Field(2, 0, 9999, 0);
 
+// The percentage of a specialist's portion.
+pub const PERCENTAGE: Field = Field(1, 0, 100, 0);
+
 // The fields of a kind, and empty ones up to 19.
 pub fn fields_of(kind: Kind) -> [Field; 19]
     ensures { λ r. ⌜ r ≡ fieldsOf kind ⌝ }
@@ -63,6 +66,7 @@ pub fn fields_of(kind: Kind) -> [Field; 19]
         Kind::DayEnd => day_end_fields(),
         Kind::National => national_fields(),
         Kind::Range => range_fields(),
+        Kind::Specialist => specialist_fields(),
         Kind::Unknown => no_fields(),
     }
 }
@@ -180,6 +184,16 @@ fn range_fields() -> [Field; 19]
 {
     let mut f = [NONE; 19];
     f[0] = RANGE;
+    f
+}
+
+fn specialist_fields() -> [Field; 19]
+    ensures { λ r. ⌜ r ≡ fieldsOf Kind.Specialist ⌝ }
+{
+    let mut f = [NONE; 19];
+    f[0] = MEMBER;
+    f[1] = STRATEGY;
+    f[2] = PERCENTAGE;
     f
 }
 

@@ -11,12 +11,13 @@ use Rattle.rules.specs.declared.Entry.{Entry}
 use Rattle.rules.specs.declared.Strategy.{Strategy}
 use Rattle.rules.specs.declared.State.{State}
 use Rattle.rules.specs.State.{noEntry, noStrategy, entryAt, strategyOf, withEntries}
-use Rattle.rules.specs.Moves.{Moved, still, each}
-use Rattle.rules.specs.Quotas.{Division}
+use Rattle.rules.specs.Moves.{Moved, still, and-then, each}
+use Rattle.rules.specs.Quotas.{Division, share, shareBeside}
 use Rattle.rules.specs.Fills.{partyRecords, noPrices, cutEntry, cut}
 use Rattle.rules.specs.Valid.{FitEntry}
-use Rattle.rules.specs.Passes.{sizes, giveAt, give, giveGroup}
+use Rattle.rules.specs.Passes.{sizes, specialistSlot, besideSpecialist, giveAt, give, giveGroup, giveShared, giveForStarter}
 use Rattle.rules.proofs.Gives.{whole-none}
+use Rattle.rules.proofs.Portions.{beside-none}
 use Rattle.rules.proofs.Shrinks.{Shrinks, shrinks-refl, whole-shrinks, then-shrinks}
 use Rattle.records.specs.Space.{Appended, Room}
 use Rattle.records.specs.Done.{RoomIn, DoneIn, done-still, done-of, room-of, slots-none, slots-move, slots-stay, slots-room}
@@ -106,6 +107,21 @@ module _ {es : List Entry} {s : Strategy} {a level : ℕ} {qs : List ℕ} {sp sq
   pub give-all : 32 ≤ i → DoneIn (HasRows es s a) (give a level qs) sp sq n m (putEntries rows)
   unfolding give
   give-all l = let e : i ≡ 32 = omega (arith, g .most) in rw e at (g .done)
+
+-- past the table there is no specialist's sweep
+pub group-past : {es : List Entry} {s : Strategy} (a level g p : ℕ) (b : State) → HasRows es s a b → giveGroup share a level g b ≡ giveGroup (shareBeside 32 p) a level g b
+unfolding giveGroup
+group-past a level g p b h = rw (beside-none 32 p (entryAt b a .units) (sizes (b .entries) (entryAt b a) level g) (omega arith))
+
+pub shared-is : {es : List Entry} {s : Strategy} (a level p : ℕ) (b : State) → HasRows es s a b → giveShared share a level b ≡ giveShared (shareBeside 32 p) a level b
+unfolding giveShared giveGroup and-then
+shared-is a level p b h = rw (beside-none 32 p _ _ (omega arith))
+
+-- a starter's groups, by the slot that the code has found
+pub for-starter-is : {es : List Entry} {s : Strategy} (a level : ℕ) {k : ℕ} → k ≡ specialistSlot (s .specialist .member) es (getD es a noEntry) level → (b : State) → HasRows es s a b
+    → giveForStarter a level b ≡ giveShared (shareBeside k (s .specialist .percentage)) a level b
+unfolding giveForStarter besideSpecialist
+for-starter-is a level e b h = rw (e, h .strategy, h .entries)
 
 -- a group, by the quotas that the code has found
 pub group-is : {es : List Entry} {s : Strategy} (divide : Division) (a level g : ℕ) {qs : List ℕ} → qs ≡ divide (getD es a noEntry .units) (sizes es (getD es a noEntry) level g) → (b : State) → HasRows es s a b → giveGroup divide a level g b ≡ give a level qs b

@@ -5,14 +5,13 @@ ghost use Prim.Native.Nat.{_+_, _*_, _-_, _<_, _≤_};
 ghost use Rattle.base.specs.Walks.{joinN};
 ghost use Rattle.rules.specs.Sizes.{tableRows, zeroLevel};
 ghost use Rattle.rules.specs.Fills.{wholeRecord, legRecord, legRecordAt, partyRecords, noPrices, cutEntry, wholeFill, cancelRecord, cancelEntry};
-ghost use Rattle.rules.specs.Passes.{give, giveGroup, giveShared};
-ghost use Rattle.rules.specs.Quotas.{inTurn, share};
+ghost use Rattle.rules.specs.Passes.{give, giveGroup, giveShared, giveForStarter};
+ghost use Rattle.rules.specs.Quotas.{inTurn, share, shareBeside};
 ghost use Rattle.records.specs.Space.{Appended, Room};
 ghost use Rattle.records.specs.Done.{Done, RoomIn, DoneIn};
 ghost use Rattle.ranges.specs.Fit.{Fit};
 ghost use Rattle.fills.specs.Gives.{HasRows, putEntries};
 use quotas::in_turn;
-use quotas::share;
 use quotas::sizes;
 use records::After;
 use records::less;
@@ -25,6 +24,8 @@ use rules::State;
 use rules::Strategy;
 use rules::ZERO_LEVEL;
 use sides::leg_side;
+use specialists::share_beside;
+use specialists::specialist_slot;
 
 fn whole_record(e: Entry, q: u32, level: u32) -> Record
     ensures { λ r. ⌜ r ≡ wholeRecord e q level ⌝ }
@@ -216,27 +217,50 @@ pub fn give_in_turn(
     give(es, s, a, level, qs, space, n)
 }
 
-// The holders of group g, shared where they hold more than what remains.
+// The holders of group g, shared where they hold more than what remains, the specialist's sweep at slot k; past the table
+// it has none there.
 fn give_group(
     es: [Entry; State::ROWS],
     s: Strategy,
     a: usize,
     level: u32,
     g: u8,
+    k: usize,
     space: &mut [i32],
     n: usize,
 ) -> AfterFills
     requires { ⌜ a < tableRows ⌝ }
-    requires { ⌜ RoomIn (HasRows es s a) (giveGroup share a level g) (now space) n ⌝ }
-    ensures { λ t. ⌜ DoneIn (HasRows es s a) (giveGroup share a level g) (now (space .entry)) (now (space .exit)) n (t .count) (putEntries (t .rows)) ⌝ }
+    requires { ⌜ RoomIn (HasRows es s a) (giveGroup (shareBeside k (s .specialist .percentage)) a level g) (now space) n ⌝ }
+    ensures { λ t. ⌜ DoneIn (HasRows es s a) (giveGroup (shareBeside k (s .specialist .percentage)) a level g) (now (space .entry)) (now (space .exit)) n (t .count) (putEntries (t .rows)) ⌝ }
 {
     let e = es[a];
     let xs = sizes(es, e, level, g);
-    let qs = share(e.units, xs);
+    let qs = share_beside(k, s.specialist.percentage, e.units, xs);
     give(es, s, a, level, qs, space, n)
 }
 
-// Customers by number; then sweeps and market makers; then broker-dealers.
+// Customers by number; then sweeps and market makers, the specialist's sweep at slot k; then broker-dealers.
+fn give_groups(
+    es: [Entry; State::ROWS],
+    s: Strategy,
+    a: usize,
+    level: u32,
+    k: usize,
+    space: &mut [i32],
+    n: usize,
+) -> AfterFills
+    requires { ⌜ a < tableRows ⌝ }
+    requires { ⌜ RoomIn (HasRows es s a) (giveShared (shareBeside k (s .specialist .percentage)) a level) (now space) n ⌝ }
+    ensures { λ t. ⌜ DoneIn (HasRows es s a) (giveShared (shareBeside k (s .specialist .percentage)) a level) (now (space .entry)) (now (space .exit)) n (t .count) (putEntries (t .rows)) ⌝ }
+{
+    let x = give_in_turn(es, s, a, level, 0, space, n);
+    let fs = x.rows;
+    let y = give_group(fs, s, a, level, 1, k, space, x.count);
+    let gs = y.rows;
+    give_group(gs, s, a, level, 2, State::ROWS, space, y.count)
+}
+
+// The groups in any other shared pass than a starter's, which knows no specialist.
 pub fn give_shared(
     es: [Entry; State::ROWS],
     s: Strategy,
@@ -249,11 +273,25 @@ pub fn give_shared(
     requires { ⌜ RoomIn (HasRows es s a) (giveShared share a level) (now space) n ⌝ }
     ensures { λ t. ⌜ DoneIn (HasRows es s a) (giveShared share a level) (now (space .entry)) (now (space .exit)) n (t .count) (putEntries (t .rows)) ⌝ }
 {
-    let x = give_in_turn(es, s, a, level, 0, space, n);
-    let fs = x.rows;
-    let y = give_group(fs, s, a, level, 1, space, x.count);
-    let gs = y.rows;
-    give_group(gs, s, a, level, 2, space, y.count)
+    give_groups(es, s, a, level, State::ROWS, space, n)
+}
+
+// The groups in an auction's starter's pass.
+pub fn give_for_starter(
+    es: [Entry; State::ROWS],
+    s: Strategy,
+    a: usize,
+    level: u32,
+    space: &mut [i32],
+    n: usize,
+) -> AfterFills
+    requires { ⌜ a < tableRows ⌝ }
+    requires { ⌜ RoomIn (HasRows es s a) (giveForStarter a level) (now space) n ⌝ }
+    ensures { λ t. ⌜ DoneIn (HasRows es s a) (giveForStarter a level) (now (space .entry)) (now (space .exit)) n (t .count) (putEntries (t .rows)) ⌝ }
+{
+    let e = es[a];
+    let k = specialist_slot(s.specialist.member, es, e, level);
+    give_groups(es, s, a, level, k, space, n)
 }
 
 pub fn cancel_record(e: Entry) -> Record

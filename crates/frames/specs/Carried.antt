@@ -70,6 +70,7 @@ carriedBy K.Clock f = placedOf K.Clock 1 f
 carriedBy K.DayEnd f = placedOf K.DayEnd 1 f
 carriedBy K.National f = placedOf K.National 3 f
 carriedBy K.Range f = placedOf K.Range 1 f
+carriedBy K.Specialist f = placedOf K.Specialist 3 f
 carriedBy K.Unknown f = placedOf K.Unknown 0 f
 
 pub carried-by : (k : Kind) (f : List ℕ) → carriedBy k f ≡ carriedOf k f
@@ -84,4 +85,5 @@ carried-by K.Clock f = refl
 carried-by K.DayEnd f = refl
 carried-by K.National f = refl
 carried-by K.Range f = refl
+carried-by K.Specialist f = refl
 carried-by K.Unknown f = refl

@@ -41,6 +41,7 @@ row-back K.Clock n f = refl
 row-back K.DayEnd n f = refl
 row-back K.National n f = refl
 row-back K.Range n f = refl
+row-back K.Specialist n f = refl
 row-back K.Unknown n f = refl
 
 -- Reading what was written.

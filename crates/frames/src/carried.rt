@@ -19,6 +19,7 @@ use events::Order;
 use events::Range;
 use events::Reading;
 use events::Series;
+use events::Specialist;
 use events::Sweep;
 use events::rows::event_of;
 use events::table;
@@ -199,6 +200,23 @@ fn range_in(frame: &[u8]) -> Reading
     )
 }
 
+fn specialist_in(frame: &[u8]) -> Reading
+    requires { ⌜ 8 ≤ length (now frame) ⌝ }
+    ensures { λ r. ⌜ r ≡ carriedOf Kind.Specialist (now (frame .entry)) ⌝ }
+{
+    let member = test(frame, 4, table::MEMBER, true);
+    let strategy = test(frame, 6, table::STRATEGY, member.ok);
+    let percentage = test(frame, 7, table::PERCENTAGE, strategy.ok);
+    if_fits(
+        percentage.ok,
+        Reading::Event(Event::Specialist(Specialist {
+            member: member.value,
+            strategy: strategy.value,
+            percentage: percentage.value,
+        })),
+    )
+}
+
 // By the table of fields: a strategy, whose fields depend on its count. No frame has the length of an unknown kind.
 fn by_table(kind: Kind, frame: &[u8]) -> Reading
     requires { ⌜ Whole kind (now frame) ⌝ }
@@ -225,6 +243,7 @@ pub(crate) fn carried(kind: Kind, frame: &[u8]) -> Reading
         Kind::DayEnd => day_end_in(frame),
         Kind::National => national_in(frame),
         Kind::Range => range_in(frame),
+        Kind::Specialist => specialist_in(frame),
         Kind::Strategy | Kind::Unknown => by_table(kind, frame),
     }
 }

@@ -1,8 +1,8 @@
-// What the events of kinds 1 to 4 and 9 bring: the row that enters, the strategy defined, whether its definition is
-// ill-formed, and the national prices.
+// What the events of kinds 1 to 4, 9 and 11 bring: the row that enters, the strategy defined, whether its definition is
+// ill-formed, the national prices, and the specialist.
 ghost use mathlib.Core.Path.{_≡_};
 ghost use Prim.Native.Nat.{_<_};
-ghost use Rattle.rules.specs.Given.{legGiven, legsGiven, strategyGiven, sweepGiven, orderGiven, legOrderGiven, quoteGiven};
+ghost use Rattle.rules.specs.Given.{legGiven, legsGiven, strategyGiven, sweepGiven, orderGiven, legOrderGiven, specialistGiven, quoteGiven};
 ghost use Rattle.rules.specs.Fits.{FitGiven, FitSweepGiven, FitOrderGiven, FitLegOrderGiven};
 ghost use Rattle.rules.specs.Refusals.{illFormed};
 ghost use Rattle.rules.specs.Valid.{FitLeg};
@@ -10,6 +10,7 @@ use rules::Entry;
 use rules::Leg;
 use rules::LegOrder;
 use rules::Quote;
+use rules::Specialist;
 use rules::State;
 use rules::Strategy;
 use strategies::defined;
@@ -62,6 +63,17 @@ pub fn leg_order_given(b: State, e: events::LegOrder) -> LegOrder
         side: e.side as u8,
         contracts: e.contracts,
         price: e.price,
+    }
+}
+
+// A specialist as it is named.
+pub fn specialist_given(e: events::Specialist) -> Specialist
+    requires { ⌜ (e .member < 65536) × (e .percentage < 65536) ⌝ }
+    ensures { λ r. ⌜ r ≡ specialistGiven e ⌝ }
+{
+    Specialist {
+        member: e.member as u16,
+        percentage: e.percentage as u16,
     }
 }
 

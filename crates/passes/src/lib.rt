@@ -13,6 +13,7 @@ ghost use Rattle.fills.specs.Gives.{HasRows, putEntries};
 ghost use Rattle.passes.specs.Passes.{stopsAt, oppositeIn, legsFor, turnIn};
 use fills::AfterFills;
 use fills::cut_entry;
+use fills::give_for_starter;
 use fills::give_in_turn;
 use fills::give_shared;
 use legging::leg_fill;
@@ -146,7 +147,7 @@ fn meet_limit(
     match way {
         Allocation::LegsOnly => AfterFills { rows: es, count: n },
         Allocation::Shared => give_shared(es, s, a, level, space, n),
-        Allocation::ForStarter => give_shared(es, s, a, level, space, n),
+        Allocation::ForStarter => give_for_starter(es, s, a, level, space, n),
         Allocation::Numbered => give_in_turn(es, s, a, level, 3, space, n),
     }
 }

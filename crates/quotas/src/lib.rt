@@ -28,7 +28,7 @@ pub fn in_turn(r: u32, xs: [u32; State::ROWS]) -> [u32; State::ROWS]
     qs
 }
 
-fn total(xs: [u32; State::ROWS]) -> u32
+pub fn total(xs: [u32; State::ROWS]) -> u32
     requires { ⌜ AtMost 9999 xs ⌝ }
     ensures { λ t. ⌜ t ≡ sumN (slot xs) tableRows ⌝ }
 {
@@ -42,7 +42,7 @@ fn total(xs: [u32; State::ROWS]) -> u32
 }
 
 // A holder's portion of r, rounded down.
-fn portion(r: u32, total: u32, x: u32) -> u32
+pub fn portion(r: u32, total: u32, x: u32) -> u32
     requires { ⌜ (r ≤ 9999) × (x ≤ 9999) × (0 < total) ⌝ }
     ensures { λ q. ⌜ q ≡ portion r total x ⌝ }
 {
@@ -95,7 +95,7 @@ pub fn share(r: u32, xs: [u32; State::ROWS]) -> [u32; State::ROWS]
 }
 
 // Whether f stands opposite e: live, of its strategy, of the other side.
-fn opposes(e: Entry, f: Entry) -> bool
+pub fn opposes(e: Entry, f: Entry) -> bool
     ensures { λ r. ⌜ r ≡ opposes e f ⌝ }
 {
     if f.units == 0 {

@@ -298,6 +298,15 @@ pub fn clock_refusal(b: State, e: events::Clock) -> u32
     0
 }
 
+pub fn specialist_refusal(b: State, e: events::Specialist) -> u32
+    ensures { λ r. ⌜ r ≡ firstCause (causes b (E.Specialist e)) ⌝ }
+{
+    if undefined(b, e.strategy) {
+        return 4;
+    }
+    0
+}
+
 // Whether a national bid is above a national offer, and neither is missing.
 fn bid_above_offer(e: events::National) -> bool
     ensures { λ r. ⌜ r ≡ bidAboveOffer e ⌝ }

@@ -61,6 +61,7 @@ module _ (b : State) (k n t : ℕ) (a : Bool) where
     starter = λ j. put-by (λ (y : Strategy). y .starter ≤ 100_000) j (s .starter j) (λ _. hn);
     begun = λ j. put-by (λ (y : Strategy). y .begun ≤ 86_400_000) j (s .begun j) (λ _. ht);
     undefined = λ j h. put-by (λ (y : Strategy). y .starter ≡ 0) j (s .undefined j (omega (arith, put-defined))) (λ e. hk (omega (arith, put-defined)));
+    percentage = λ j. put-by (λ (y : Strategy). y .specialist .percentage ≤ 100) j (s .percentage j) (λ e. s .percentage k);
   }
 
 -- A state that an entry has just entered: sound, and settled but for it.

@@ -27,7 +27,7 @@ use Rattle.rules.specs.Records.{kindNumber}
 use Rattle.rules.specs.Nets.{prices, netOf, unitsOf}
 use Rattle.rules.specs.Fills.{legRecordAt, partyRecords, orderRow, orderRows, orderRecordsAt, takesAt, legQuotas, wholeFill, takeLegs, legFill, cancelEntry}
 use Rattle.rules.specs.Quotas.{Division, share}
-use Rattle.rules.specs.Passes.{giveAt, give, giveGroup, giveShared, meetLimit, opposite, turnOf, takeTurn, turn, pass}
+use Rattle.rules.specs.Passes.{giveAt, give, giveGroup, giveShared, giveForStarter, meetLimit, opposite, turnOf, takeTurn, turn, pass}
 use Rattle.rules.specs.Auctions.{starterSlot, cancelLapsed, close, endUnfilled, starterPass, later, laterPass}
 use Rattle.rules.specs.Valid.{Sound, Starter}
 use Rattle.rules.specs.Sentences.{Unpriced, UnpricedOf, WithoutLegs, LegsMeetNone, BarredHere, AheadNumbered, NonePassed, StarterSentence, LaterSentence}
@@ -171,10 +171,10 @@ module _ (K : Kind → Type 0) (whole : K WholeFill) (leg : K LegFill) (order : 
   shared-kinds second a level b = all-append (give-kinds a level _ b) (all-append (give-kinds a level _ _) (give-kinds a level _ _))
 
   limit-kinds : (way : Allocation) (a level : ℕ) (b : State) → All P (meetLimit way a level b .records)
-  unfolding meetLimit giveGroup
+  unfolding meetLimit giveForStarter giveGroup
   limit-kinds LegsOnly a level b = all-nil
   limit-kinds Shared a level b = shared-kinds share a level b
-  limit-kinds ForStarter a level b = shared-kinds share a level b
+  limit-kinds ForStarter a level b = shared-kinds _ a level b
   limit-kinds Numbered a level b = give-kinds a level _ b
 
   take-kinds : (way : Allocation) (a : ℕ) (t : Turn) (b : State) → All P (takeTurn way a t b .records)

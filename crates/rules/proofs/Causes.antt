@@ -2,10 +2,11 @@
 use mathlib.Core.Path.{_≡_, refl, sym, _∙_, ap}
 use mathlib.Core.Bool.{Bool, true, false, not}
 use mathlib.Core.Logic.{_⊎_, inl, inr, ⊎-elim}
-use Prim.Native.Nat.{ℕ, _<_}
+use mathlib.Core.List.{List}
+use Prim.Native.Nat.{ℕ, _<_, _≤_}
 use native.Mathlib.Omega.{arith}
-use borrow.Author.Tests.{eqb-true, eqb-false, eq-eqb, ne-eqb, lt-leb, leb-false, le-ltb, lt-ltb, ltb-true, ltb-false, not-true, not-false}
-use lib.Dec.{eqb, ltb}
+use borrow.Author.Tests.{eqb-true, eqb-false, eq-eqb, ne-eqb, lt-leb, leb-false, le-ltb, lt-ltb, ltb-true, ltb-false, not-true, not-false, le-leb, leb-true}
+use lib.Dec.{eqb, ltb, leb}
 use Rattle.base.specs.Pick.{pick, pick-true, pick-false, pick-by}
 use Rattle.base.specs.Sets.{has}
 use Rattle.base.specs.Walks.{sumN}
@@ -16,19 +17,26 @@ use Rattle.events.specs.declared.LegOrder.{LegOrder as GivenLegOrder}
 use Rattle.events.specs.declared.Clock.{Clock as GivenClock}
 use Rattle.events.specs.declared.National.{National as GivenNational}
 use Rattle.events.specs.declared.Range.{Range as GivenRange}
+use Rattle.events.specs.declared.Specialist.{Specialist as GivenSpecialist}
+use Rattle.events.specs.declared.Reading.{Reading}
+use Rattle.events.specs.declared.Reading.the-variants as R
 use Rattle.rules.specs.declared.State.{State}
 use Rattle.rules.specs.State.{entryAt, strategyAt}
 use Rattle.rules.specs.Auctions.{running}
 use Rattle.rules.specs.Events.{oldSweep}
 use Rattle.rules.specs.Given.{sweepGiven}
-use Rattle.rules.specs.Refusals.{firstCause, causes, isSweepAt, undefined, unanswerable, notOpen, replaces, removesNone, ordersFull, sweepsFull, legOrdersFull, noRoom, numbersOut, sweepNumbersOut, bidAboveOffer, bettersNothing}
+use Rattle.rules.specs.Refusals.{firstCause, causes, isSweepAt, undefined, unanswerable, notOpen, replaces, removesNone, ordersFull, sweepsFull, legOrdersFull, noRoom, numbersOut, sweepNumbersOut, bidAboveOffer, bettersNothing, refusal, tableOf, readCauses}
 use Rattle.rules.specs.Valid.{Valid}
 use Rattle.rules.specs.Fits.{FitSweepGiven}
-use Rattle.rules.specs.Sentences.{Runs, Any, SweepOf, OrderMay, SweepMay, LegOrderMay, ClockMay, NationalMay}
+use Rattle.rules.specs.Sentences.{Runs, Any, SweepOf, OrderMay, SweepMay, LegOrderMay, ClockMay, SpecialistMay, NationalMay}
+use Rattle.rules.specs.Sizes.{recordSpace}
+use Rattle.rules.specs.Step.{step}
 use Rattle.rules.proofs.Validity.{clear, then-no}
 use Rattle.rules.proofs.Clocks.{runs}
 use Rattle.rules.proofs.BetterNets.{bettered, betters-it}
 use Rattle.rules.proofs.Sweeps.{old-low, old-is}
+use Rattle.rules.proofs.Refusals.{answer-is}
+use Rattle.frames.specs.Frames.{readOf}
 
 pub runs-of : (b : State) (k : ℕ) → running b k ≡ true → Runs b k
 runs-of b k r = let n = eqb-false (strategyAt b k .starter) 0 (not-true _ r) in omega (arith, n)
@@ -79,6 +87,29 @@ module _ (b : State) (e : GivenClock) where
   pub clock-accepted : ClockMay b (e .time) → firstCause (causes b (E.Clock e)) ≡ 0
   unfolding causes firstCause
   clock-accepted m = pick-false _ _ _ (le-ltb _ _ m)
+
+-- A SPECIALIST
+module _ (b : State) (e : GivenSpecialist) where
+  pub specialist-may : firstCause (causes b (E.Specialist e)) ≡ 0 → SpecialistMay b e
+  unfolding causes undefined
+  specialist-may c = leb-false _ _ (clear 4 (undefined b (e .strategy)) _ (omega arith) c .0)
+
+  pub specialist-accepted : SpecialistMay b e → firstCause (causes b (E.Specialist e)) ≡ 0
+  unfolding causes firstCause undefined
+  specialist-accepted m = pick-false _ _ _ (lt-leb _ _ m)
+
+  -- of every frame that names one: "an undefined strategy gets 4", and no other does
+  module _ (frame : List ℕ) (space : ℕ) (p : readOf frame ≡ R.Event (E.Specialist e)) where
+    pub undefined-gets-four : recordSpace ≤ space → b .defined ≤ e .strategy → step b frame space .answer ≡ 4
+    unfolding refusal tableOf readCauses causes firstCause undefined
+    undefined-gets-four room u = answer-is b frame space ∙ ap (λ (r : Reading). refusal b r space) p ∙ pick-false _ _ _ (le-ltb _ _ room) ∙ pick-true _ _ _ (le-leb _ _ u)
+
+    pub four-is-undefined : step b frame space .answer ≡ 4 → b .defined ≤ e .strategy
+    unfolding refusal tableOf readCauses causes firstCause undefined
+    four-is-undefined a =
+        let z : refusal b (R.Event (E.Specialist e)) space ≡ 4 = sym (ap (λ (r : Reading). refusal b r space) p) ∙ sym (answer-is b frame space) ∙ a in
+        let P : ℕ → Type 0 = λ (n : ℕ). n ≡ 4 → b .defined ≤ e .strategy in
+        pick-by P (ltb space 15_360) (λ _ n. absurd (omega arith)) (λ _. pick-by P (leb (b .defined) (e .strategy)) (λ u _. leb-true _ _ u) (λ _ n. absurd (omega arith))) z
 
 -- NATIONAL PRICES
 module _ (b : State) (e : GivenNational) where

@@ -23,7 +23,7 @@ use Rattle.rules.specs.Records.{kindNumber}
 use Rattle.rules.specs.Sides.{meets, better}
 use Rattle.rules.specs.Fills.{legRecordAt, partyRecords, noPrices, wholeFill}
 use Rattle.rules.specs.Quotas.{Division, share}
-use Rattle.rules.specs.Passes.{legsFirst, turnAt, giveAt, give, giveGroup, giveShared, meetLimit}
+use Rattle.rules.specs.Passes.{legsFirst, turnAt, giveAt, give, giveGroup, giveShared, giveForStarter, meetLimit}
 use Rattle.rules.specs.Sentences.{TurnSentence, AtThatLimit}
 use Rattle.rules.proofs.Validity.{then-no}
 
@@ -119,8 +119,8 @@ unfolding giveShared giveGroup and-then
 shared-price second a level b = all-append (give-at a level _ b) (all-append (give-at a level _ _) (give-at a level _ _))
 
 pub limit-price : (way : Allocation) (a level : ℕ) (b : State) → All (AtThatLimit level) (meetLimit way a level b .records)
-unfolding meetLimit giveGroup
+unfolding meetLimit giveForStarter giveGroup
 limit-price LegsOnly a level b = all-nil
 limit-price Shared a level b = shared-price share a level b
-limit-price ForStarter a level b = shared-price share a level b
+limit-price ForStarter a level b = shared-price _ a level b
 limit-price Numbered a level b = give-at a level _ b

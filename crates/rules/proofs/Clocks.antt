@@ -2,7 +2,7 @@
 use mathlib.Core.Path.{_≡_, refl, sym, _∙_, ap}
 use mathlib.Core.Bool.{Bool, true, false, not}
 use mathlib.Core.Logic.{_⊎_, inl, inr, ⊎-elim}
-use mathlib.Core.List.{List, [], _∷_, List·Memᴰ, List·Memᴰ·head}
+use mathlib.Core.List.{List, [], _∷_, _++_, append-assoc, List·Memᴰ, List·Memᴰ·head}
 use Prim.Native.Nat.{ℕ, zero, suc, _+_, _≤_, _<_}
 use native.Mathlib.Omega.{arith}
 use borrow.Author.Tests.{eq-eqb, ne-eqb, leb-true, le-leb, lt-leb, lt-ltb, ltb-true, ltb-false, not-true}
@@ -29,7 +29,7 @@ use Rattle.rules.specs.Events.{onClock}
 use Rattle.rules.specs.Refusals.{causes}
 use Rattle.rules.specs.Step.{accept}
 use Rattle.rules.specs.Valid.{Starter, Valid}
-use Rattle.rules.specs.Sentences.{AcceptedEvent, Runs, IsKind, UnpricedOf, HadTurn, auctionEnded, ClockSentence, AuctionEnds}
+use Rattle.rules.specs.Sentences.{AcceptedEvent, Runs, IsKind, UnpricedOf, HadTurn, auctionEnded, ClockSentence, Part, AuctionEnds, OneSweep}
 use Rattle.rules.proofs.Tables.{positive, mem-left, mem-right}
 use Rattle.rules.proofs.Shrinks.{Shrinks, shrinks-trans, shrinks-refl, entry-same}
 use Rattle.rules.proofs.Control.{laterPass-kept, endUnfilled-kept, endAuction-kept, endDue-kept, shrinks-kept}
@@ -39,6 +39,8 @@ use Rattle.rules.proofs.Endings.{live-is, ended-at, ended-other, ended-
 use Rattle.rules.proofs.Validity.{clear, starter-found}
 use Rattle.rules.proofs.Firsts.{live-slot}
 use Rattle.rules.proofs.Cancels.{same-slot}
+use Rattle.rules.proofs.OneSweep.{one-less}
+use Rattle.rules.proofs.Specialists.{starter-portions}
 use Rattle.rules.proofs.PassEnds.{turn-within, for-starter-had, numbered-had}
 use Rattle.rules.proofs.Bars.{starter-sentence, unpriced-of, each-all, pass-kinds, each-of, other-pass, later-of, unfilled-of}
 
@@ -89,7 +91,6 @@ record Ended (b : State) (n : ℕ) (c : State) : Type 0 where
   ended : (j : ℕ) → j < n → due b j ≡ true → strategyAt c j .starter ≡ 0
   left : (j : ℕ) → j < n → due b j ≡ false → strategyAt c j ≡ strategyAt b j
   stays : (i : ℕ) → (n ≤ entryAt b i .strategy) ⊎ (due b (entryAt b i .strategy) ≡ false) → entryAt c i ≡ entryAt b i
-  wholly : (j : ℕ) → j < n → due b j ≡ true → AuctionEnds b j c
 
 -- whether an auction is due depends on its strategy, the clock and the timer
 due-same : (b c : State) (k : ℕ) → strategyAt c k ≡ strategyAt b k → c .clock ≡ b .clock → c .timer ≡ b .timer → due c k ≡ due b k
@@ -112,24 +113,11 @@ module _ (b c : State) (n : ℕ) (e : Ended b n c) where
         ended = λ j h d. ⊎-elim (λ q. rw q (end-none n c (e .valid) r)) (λ m. rw (o j (λ q. omega arith)) (e .ended j m d)) (below h);
         left = λ j h d. ⊎-elim (λ q. absurd (clash (sym same ∙ t) (rw q at d))) (λ m. o j (λ q. omega arith) ∙ e .left j m d) (below h);
         stays = λ i p. end-leaves n c (e .valid) r i (λ q. not-its i p (sym (e .shrinks .entry i .strategy) ∙ q)) ∙ e .stays i (⊎-elim (λ l. inl (omega arith)) (λ d. inr d) p);
-        wholly = λ j h d. ⊎-elim (λ q. its-end j q) (λ m. its-still j m r (e .wholly j m d)) (below h);
       }
     where
       not-its : (i : ℕ) → (suc n ≤ entryAt b i .strategy) ⊎ (due b (entryAt b i .strategy) ≡ false) → entryAt b i .strategy ≡ n → ⊥
       not-its i (inl l) q = omega arith
       not-its i (inr d) q = clash (sym same ∙ t) (rw q at d)
-
-      its-end : (j : ℕ) → j ≡ n → AuctionEnds b j (endAuction n c .state)
-      its-end j q = rw q (record { moment = c; since = e .shrinks; auction = e .ahead n (omega arith); found = λ i s. e .stays i (inl (omega arith)); leaves = λ i s. refl })
-
-      its-still : (j : ℕ) → j < n → running c n ≡ true → AuctionEnds b j c → AuctionEnds b j (endAuction n c .state)
-      its-still j m r w = record {
-        moment = w .moment;
-        since = w .since;
-        auction = w .auction;
-        found = w .found;
-        leaves = λ i s. end-leaves n c (e .valid) r i (λ q. omega (arith, e .shrinks .entry i .strategy)) ∙ w .leaves i s;
-      }
 
   next-not : due c n ≡ false → Ended b (suc n) c
   next-not t = record {
@@ -139,7 +127,6 @@ module _ (b c : State) (n : ℕ) (e : Ended b n c) where
     ended = λ j h d. ⊎-elim (λ q. absurd (clash (rw q at d) (sym same ∙ t))) (λ m. e .ended j m d) (below h);
     left = λ j h d. ⊎-elim (λ q. rw q (e .ahead n (omega arith))) (λ m. e .left j m d) (below h);
     stays = λ i p. e .stays i (⊎-elim (λ l. inl (omega arith)) (λ d. inr d) p);
-    wholly = λ j h d. ⊎-elim (λ q. absurd (clash (rw q at d) (sym same ∙ t))) (λ m. e .wholly j m d) (below h);
   }
 
   next : Ended b (suc n) (endDue n c .state)
@@ -148,7 +135,7 @@ module _ (b c : State) (n : ℕ) (e : Ended b n c) where
 
 all-ended : (b : State) → Valid b → (n : ℕ) → Ended b n (each endDue n b .state)
 unfolding each and-then
-all-ended b v zero = record { valid = v; shrinks = shrinks-refl b; ahead = λ j h. refl; ended = λ j h. absurd (omega arith); left = λ j h. absurd (omega arith); stays = λ i p. refl; wholly = λ j h. absurd (omega arith) }
+all-ended b v zero = record { valid = v; shrinks = shrinks-refl b; ahead = λ j h. refl; ended = λ j h. absurd (omega arith); left = λ j h. absurd (omega arith); stays = λ i p. refl }
 all-ended b v (suc n) = next b _ n (all-ended b v n)
 
 -- LEGS BARRED: the auction of strategy k was answered, and n is its starter
@@ -220,6 +207,10 @@ rest-shrinks f h b rows k (suc n) l =
     from zero = shrinks-refl b
     from (suc j) = shrinks-trans (from j) (h j _ (from j .orderRows ∙ rows))
 
+due-runs : (c : State) (n : ℕ) → due c n ≡ true → running c n ≡ true
+unfolding due
+due-runs c n t = pick-yes (running c n) t .0
+
 module _ (b : State) (v : Valid b) (k : ℕ) (low : k < 16) (r : running b k ≡ true) (d : due b k ≡ true) where
   abbrev now : State
   now = each endDue k b .state
@@ -257,6 +248,50 @@ module _ (b : State) (v : Valid b) (k : ℕ) (low : k < 16) (r : running b k ≡
   ends-here : endDue k now ≡ endAuction k now
   unfolding endDue
   ends-here = pick-true _ _ _ (due-same b now k row (so-far .shrinks .clock) (so-far .shrinks .timer) ∙ d)
+
+  -- what its end leaves of its entries stays so
+  leaves-it : (n : ℕ) → k < n → (i : ℕ) → entryAt b i .strategy ≡ k → entryAt (each endDue n b .state) i ≡ entryAt (endAuction k now .state) i
+  unfolding each and-then endDue
+  leaves-it zero l i s = absurd (omega arith)
+  leaves-it (suc n) l i s =
+      let c : State = each endDue n b .state in
+      let e : Ended b n c = all-ended b v n in
+      ⊎-elim
+      (λ (q : k ≡ n). rw (← q) (ap (λ (x : Moved). entryAt (x .state) i) ends-here))
+      (λ (m : k < n). pick-by (λ (x : Moved). entryAt (x .state) i ≡ entryAt c i) (due c n) (λ t. end-leaves n c (e .valid) (due-runs c n t) i (λ z. omega (arith, e .shrinks .entry i .strategy))) (λ _. refl) ∙ leaves-it n m i s)
+      (below l)
+
+  -- the records of its starter's pass
+  here : Part (starterPass k now .records) (each endDue k b .records ++ endDue k now .records)
+  unfolding endAuction and-then
+  here = rw ends-here (record { before = each endDue k b .records; behind = each (laterPass k number) 32 first .records ++ endUnfilled k second .records; whole = refl })
+
+  passed-it : (n : ℕ) → k < n → Part (starterPass k now .records) (each endDue n b .records)
+  unfolding each and-then
+  passed-it zero l = absurd (omega arith)
+  passed-it (suc n) l =
+      let c : State = each endDue n b .state in
+      ⊎-elim
+      (λ (q : k ≡ n). rw (← q) here)
+      (λ (m : k < n).
+      let p = passed-it n m in
+      record {
+        before = p .before;
+        behind = p .behind ++ endDue n c .records;
+        whole = ap (λ (rs : List Record). rs ++ endDue n c .records) (p .whole) ∙ append-assoc (p .before) _ _ ∙ ap (λ (rs : List Record). p .before ++ rs) (append-assoc (starterPass k now .records) (p .behind) _);
+      })
+      (below l)
+
+  its-end : AuctionEnds b k (each endDue 16 b)
+  its-end = record {
+    moment = now;
+    valid = so-far .valid;
+    since = so-far .shrinks;
+    auction = row;
+    found = λ i s. so-far .stays i (inl (omega arith));
+    leaves = leaves-it 16 low;
+    passed = passed-it 16 low;
+  }
 
   second-end : Shrinks second end
   unfolding endAuction and-then each
@@ -398,9 +433,9 @@ unfolding due
 none-due b k e = pick-false _ _ _ (runs-not b k e)
 
 -- THE SENTENCE
-pub clock-sentence : (b : State) (e : Clock) → AcceptedEvent b (E.Clock e) → ClockSentence b (e .time) (accept b (E.Clock e))
+pub clock-sentence : (b : State) (e : Clock) → AcceptedEvent b (E.Clock e) → OneSweep b → ClockSentence b (e .time) (accept b (E.Clock e))
 unfolding accept onClock causes withClock
-clock-sentence b e a =
+clock-sentence b e a one =
     let t : ℕ = e .time in
     let x = clear 11 (ltb t (b .clock)) _ (omega arith) (a .clear) in
     let v : Valid (withClock b t) = clock-set t b (ltb-false _ _ (x .0)) (a .fit) (a .valid) in
@@ -410,7 +445,10 @@ clock-sentence b e a =
       ends = λ k r h. d .ended k (low k r) (is-due (withClock b t) k r h);
       goesOn = λ k r h. d .left k (low k r) (not-due (withClock b t) k h);
       stays = λ i p. d .stays i (inr (⊎-elim (λ z. none-due (withClock b t) (entryAt b i .strategy) z) (λ h. not-due (withClock b t) (entryAt b i .strategy) h) p));
-      wholly = λ k r h. d .wholly k (low k r) (is-due (withClock b t) k r h);
+      wholly = λ k r h. its-end (withClock b t) v k (low k r) (runs b k r) (is-due (withClock b t) k r h);
+      portions = λ k r h i p.
+          let w = its-end (withClock b t) v k (low k r) (runs b k r) (is-due (withClock b t) k r h) in
+          starter-portions (w .moment) (w .valid .sound) (one-less (w .since) (one-clock one)) k i p;
       beginsNone = λ k z. ⊎-elim
           (λ (l : k < 16). rw (d .left k l (none-due (withClock b t) k z)) z)
           (λ (l : 16 ≤ k). rw (d .ahead k l) z)
@@ -426,5 +464,8 @@ clock-sentence b e a =
       barred = λ k r answered. due-of (withClock b t) v k (runs b k r) answered 16;
     }
   where
+    one-clock : OneSweep b → OneSweep (withClock b (e .time))
+    one-clock o = o
+
     starter-at : (k i : ℕ) → Starter b k i → Starter (withClock b (e .time)) k i
     starter-at k i p = record { slot = p .slot; live = p .live; strategy = p .strategy; number = p .number; class = p .class; life = p .life }

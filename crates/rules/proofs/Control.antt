@@ -23,16 +23,16 @@ use Rattle.rules.specs.State.{entryAt, orderAt, strategyAt, strategyOf, 
 use Rattle.rules.specs.Moves.{Moved, still, and-then, each}
 use Rattle.rules.specs.Sides.{other, meets}
 use Rattle.rules.specs.Nets.{stands, prices, netOf, unitsStep, unitsOf}
-use Rattle.rules.specs.Quotas.{Division, inTurn, share}
+use Rattle.rules.specs.Quotas.{Division, GivesOut, inTurn, share}
 use Rattle.rules.specs.National.{boundsAt, mayTake, mayMeet}
 use Rattle.rules.specs.Fills.{wholeFill, legFill, legTrade, cancelEntry, cancelOrder}
-use Rattle.rules.specs.Passes.{opposes, holding, sizes, giveAt, give, giveGroup, giveShared, meetLimit, ready, readyNet, opposite, legsFirst, turnAt, allowed, turnOf, takeTurn, turn, pass}
+use Rattle.rules.specs.Passes.{opposes, holding, sizes, giveAt, give, giveGroup, giveShared, giveForStarter, meetLimit, ready, readyNet, opposite, legsFirst, turnAt, allowed, turnOf, takeTurn, turn, pass}
 use Rattle.rules.specs.Auctions.{liveIn, begin, close, answer, cancelLapsed, endUnfilled, starterPass, laterPass, endAuction, endDue, endHolding, legPass, legPassesIn, legPasses, ahead, bestStep, bestSlot, crossed, matchOnce, matchAll, matchIn}
 use Rattle.rules.specs.Events.{enter, enterOrder, restOrCancel, waits, trades, arrive, onOrder, meetsOrder, aheadOrder, bestOrderStep, bestOrder, tradeOnce, tradeAll, ifRests, onLegOrder, cancelEntryOf, cancelOrderOf, cancelNumber, onClock, shut, reopen, closeRunning, lowestLive, cancelLowest}
 use Rattle.rules.proofs.Tables.{positive}
 use Rattle.rules.proofs.Shrinks.{Shrinks, shrinks-refl, then-shrinks, whole-shrinks, legs-shrinks, trade-shrinks, cancel-shrinks, cancelOrder-shrinks, begin-shrinks, close-shrinks, answer-shrinks}
-use Rattle.rules.proofs.Quotas.{Divides, inTurn-divides, share-divides}
-use Rattle.rules.proofs.Gives.{Lawful, lawful-shrinks, whole-none, opposed, opposed-apart, other-apart, Holder, Quoted, quoted-holder, group-quoted, Given, given, given-each}
+use Rattle.rules.proofs.Quotas.{inTurn-divides, share-divides}
+use Rattle.rules.proofs.Gives.{specialist-divides, Lawful, lawful-shrinks, whole-none, opposed, opposed-apart, other-apart, Holder, Quoted, quoted-holder, group-quoted, Given, given, given-each}
 
 -- A WHOLE FILL is proper: two that oppose each other, units that both have, a price that meets both limits.
 pub record Proper (b : State) (a h level q : ℕ) : Type 0 where
@@ -146,13 +146,13 @@ given-proper b a level g qs h k l some c v =
     }
 
 -- the state after a group's fills
-pub group-given : {divide : Division} → Divides divide → (a level g : ℕ) (b : State) → Lawful b a level
+pub group-given : {divide : Division} → GivesOut divide → (a level g : ℕ) (b : State) → Lawful b a level
     → Given b a (divide (entryAt b a .units) (sizes (b .entries) (entryAt b a) level g)) 32 (giveGroup divide a level g b .state)
 unfolding giveGroup
 group-given d a level g b m = given b a level g _ (group-quoted d b a level g m)
 
 -- what a group leaves of the active entry
-pub group-left : {divide : Division} → Divides divide → (a level g : ℕ) (b : State) → Lawful b a level
+pub group-left : {divide : Division} → GivesOut divide → (a level g : ℕ) (b : State) → Lawful b a level
     → entryAt (giveGroup divide a level g b .state) a .units ≡ entryAt b a .units - sumN (slot (sizes (b .entries) (entryAt b a) level g)) 32
 group-left d a level g b m =
     omega (arith, ap (λ (x : Entry). x .units) (group-given d a level g b m .active), d .sum (entryAt b a .units) (sizes (b .entries) (entryAt b a) level g))
@@ -364,11 +364,11 @@ module _ {K : State → Moved → Type 0} (κ : Kept K) where
   unfolding give
   give-kept a level g qs b h = giveEach-kept b a level g qs h 32 (omega arith)
 
-  pub giveGroup-kept : {divide : Division} → Divides divide → (a level g : ℕ) (b : State) → Lawful b a level → K b (giveGroup divide a level g b)
+  pub giveGroup-kept : {divide : Division} → GivesOut divide → (a level g : ℕ) (b : State) → Lawful b a level → K b (giveGroup divide a level g b)
   unfolding giveGroup
   giveGroup-kept d a level g b m = give-kept a level g _ b (group-quoted d b a level g m)
 
-  pub giveShared-kept : {second : Division} → Divides second → (a level : ℕ) (b : State) → Lawful b a level → K b (giveShared second a level b)
+  pub giveShared-kept : {second : Division} → GivesOut second → (a level : ℕ) (b : State) → Lawful b a level → K b (giveShared second a level b)
   unfolding giveShared
   giveShared-kept {second} d a level b m =
       let c : State = giveGroup inTurn a level 0 b .state in
@@ -379,10 +379,10 @@ module _ {K : State → Moved → Type 0} (κ : Kept K) where
       (κ .both c (giveGroup second a level 1 c) (giveGroup share a level 2) (giveGroup-kept d a level 1 c m₁) (giveGroup-kept share-divides a level 2 e m₂))
 
   pub meetLimit-kept : (way : Allocation) (a level : ℕ) (b : State) → Lawful b a level → K b (meetLimit way a level b)
-  unfolding meetLimit
+  unfolding meetLimit giveForStarter
   meetLimit-kept LegsOnly a level b m = κ .nothing b
   meetLimit-kept Shared a level b m = giveShared-kept share-divides a level b m
-  meetLimit-kept ForStarter a level b m = giveShared-kept share-divides a level b m
+  meetLimit-kept ForStarter a level b m = giveShared-kept (specialist-divides a level b) a level b m
   meetLimit-kept Numbered a level b m = giveGroup-kept inTurn-divides a level 3 b m
 
   -- passes

@@ -203,12 +203,25 @@ module _ (b : State) (t : Strategy) (v : Sound b) (room : held b t ≡ false →
       by true h = inl (is-held h)
       by false h = inr (new-number h, rw (is-new h))
 
+  its-unnamed : t .specialist .member ≡ 0 → (c ≡ b) ⊎ (strategyAt c n .specialist .member ≡ 0)
+  unfolding added withStrategies
+  its-unnamed u = by (held b t) refl
+    where
+      by : (x : Bool) → held b t ≡ x → (c ≡ b) ⊎ (strategyAt c n .specialist .member ≡ 0)
+      by true h = inl (is-held h)
+      by false h = inr (rw (is-new h, new-number h) (ap (λ (s : Strategy). s .specialist .member) (getD-set-same (b .strategies) (b .defined) t noStrategy (omega (arith, room h, v .strategyRows))) ∙ u))
+
   its-equal : (k : ℕ) → k < b .defined → ((p : ℕ) → p < 6 → legAt (strategyAt b k) p ≡ legAt (strategyAt c n) p) → (c ≡ b) × (n ≤ k)
   unfolding numberOf
   its-equal k l h =
       let e : sameAt b t k ≡ true = rows-same (strategyAt b k) t (λ p q. h p q ∙ its-rows p q) in
       let few : n ≤ k = ⊎-elim (λ (m : k < n). absurd (clash e (first-before (sameAt b t) (b .defined) k m))) (λ (m : n ≤ k). m) (lt-or-le k n) in
       (is-held (lt-ltb n (b .defined) (omega arith)), few)
+
+-- a new strategy has no specialist yet
+given-unnamed : (e : GivenStrategy) → strategyGiven e .specialist .member ≡ 0
+unfolding strategyGiven defined
+given-unnamed e = refl
 
 define-tables : (t : Strategy) (b : State) → (define t b .entries ≡ b .entries) × (define t b .orders ≡ b .orders)
 unfolding define added withStrategies
@@ -241,4 +254,5 @@ strategy-sentence b e a =
       others = its-others b t v room;
       entries = define-tables t b .0;
       orders = define-tables t b .1;
+      unnamed = its-unnamed b t v room (given-unnamed e);
     }

@@ -24,13 +24,13 @@ use Rattle.rules.specs.Nets.{prices, unitsOf}
 use Rattle.rules.specs.Fills.{cut, wholeFill, takeLegs, legFill}
 use Rattle.rules.specs.National.{boundsAt}
 use Rattle.rules.specs.Sentences.{BarredTurn, at-legs, at-limit, Barred}
-use Rattle.rules.specs.Quotas.{Division, inTurn, share}
-use Rattle.rules.specs.Passes.{opposes, groupOf, within, holding, sizeAt, sizes, giveAt, give, giveGroup, giveShared, meetLimit, ready, readyNet, opposite, legsFirst, turnAt, allowed, turnOf, takeTurn, turn, pass}
+use Rattle.rules.specs.Quotas.{Division, GivesOut, inTurn, share}
+use Rattle.rules.specs.Passes.{opposes, groupOf, within, holding, sizeAt, sizes, giveAt, give, giveGroup, giveShared, giveForStarter, meetLimit, ready, readyNet, opposite, legsFirst, turnAt, allowed, turnOf, takeTurn, turn, pass}
 use Rattle.rules.proofs.Tables.{positive}
 use Rattle.rules.proofs.Shrinks.{cut-shrinks}
 use Rattle.rules.proofs.Turns.{each-ends, units-some, Holder, opposite-holder}
-use Rattle.rules.proofs.Quotas.{Divides, inTurn-divides, share-divides}
-use Rattle.rules.proofs.Gives.{whole-none, cut-at}
+use Rattle.rules.proofs.Quotas.{inTurn-divides, share-divides}
+use Rattle.rules.proofs.Gives.{specialist-divides, whole-none, cut-at}
 use Rattle.rules.proofs.Firsts.{better-turn}
 
 -- CUTS
@@ -63,7 +63,7 @@ total b a level g = sumN (slot (sizes (b .entries) (entryAt b a) level g)) 32
 abbrev unitsAt : ℕ → State → ℕ
 unitsAt a b = entryAt b a .units
 
-module _ {divide : Division} (d : Divides divide) (a level g : ℕ) (b : State) where
+module _ {divide : Division} (d : GivesOut divide) (a level g : ℕ) (b : State) where
   abbrev quoted : List ℕ
   quoted = divide (unitsAt a b) (sizes (b .entries) (entryAt b a) level g)
 
@@ -102,23 +102,23 @@ module _ (a x : ℕ) (b : State) (some : 0 < unitsAt a b) (h : Holder (b .entrie
   abbrev Stays : State → Type 0
   Stays c = Falls c ⊎ (c ≡ b)
 
-  group-stays : {divide : Division} → Divides divide → (g : ℕ) → Stays (giveGroup divide a x g b .state)
+  group-stays : {divide : Division} → GivesOut divide → (g : ℕ) → Stays (giveGroup divide a x g b .state)
   group-stays d g = ⊎-elim (λ (l : 0 < total b a x g). inl (omega (arith, group-takes d a x g b))) (λ (l : total b a x g ≤ 0). inr (group-none d a x g b (omega arith))) (lt-or-le 0 (total b a x g))
 
-  group-next : {divide : Division} → Divides divide → (g : ℕ) (c : State) → Stays c → Stays (giveGroup divide a x g c .state)
+  group-next : {divide : Division} → GivesOut divide → (g : ℕ) (c : State) → Stays c → Stays (giveGroup divide a x g c .state)
   group-next d g c s = ⊎-elim (λ l. inl (omega (arith, group-takes d a x g c))) (λ e. rw e (group-stays d g)) s
 
-  group-falls : {divide : Division} → Divides divide → (g : ℕ) → within g holder ≡ true → Falls (giveGroup divide a x g b .state)
+  group-falls : {divide : Division} → GivesOut divide → (g : ℕ) → within g holder ≡ true → Falls (giveGroup divide a x g b .state)
   group-falls d g w = omega (arith, group-takes d a x g b, holds g w)
 
-  group-on : {divide : Division} → Divides divide → (g : ℕ) (c : State) → Stays c → within g holder ≡ true → Falls (giveGroup divide a x g c .state)
+  group-on : {divide : Division} → GivesOut divide → (g : ℕ) (c : State) → Stays c → within g holder ≡ true → Falls (giveGroup divide a x g c .state)
   group-on d g c s w = ⊎-elim (λ l. omega (arith, group-takes d a x g c)) (λ e. rw e (group-falls d g w)) s
 
   numbered-falls : Falls (giveGroup inTurn a x 3 b .state)
   unfolding within
   numbered-falls = group-falls inTurn-divides 3 (pick-true _ _ _ refl)
 
-  module _ {divide : Division} (d : Divides divide) where
+  module _ {divide : Division} (d : GivesOut divide) where
     abbrev one : State
     one = giveGroup inTurn a x 0 b .state
 
@@ -143,10 +143,10 @@ module _ (a x : ℕ) (b : State) (some : 0 < unitsAt a b) (h : Holder (b .entrie
 
 -- A TURN at the opposite limit, and one by the legs
 limit-falls : (way : Allocation) (a : ℕ) (b : State) → 0 < unitsAt a b → (opposite way a b ≡ 0 → ⊥) → unitsAt a (meetLimit way a (opposite way a b) b .state) < unitsAt a b
-unfolding opposite meetLimit
+unfolding opposite meetLimit giveForStarter
 limit-falls LegsOnly a b some x = absurd (x refl)
 limit-falls Shared a b some x = shared-falls a _ b some (opposite-holder (b .entries) (entryAt b a) x) share-divides
-limit-falls ForStarter a b some x = shared-falls a _ b some (opposite-holder (b .entries) (entryAt b a) x) share-divides
+limit-falls ForStarter a b some x = shared-falls a _ b some (opposite-holder (b .entries) (entryAt b a) x) (specialist-divides a _ b)
 limit-falls Numbered a b some x = numbered-falls a _ b some (opposite-holder (b .entries) (entryAt b a) x)
 
 is-ready : (legs : Bool) (a : ℕ) (b : State) → (readyNet legs a b ≡ 0 → ⊥) → ready a b ≡ true

@@ -22,7 +22,7 @@ use Rattle.rules.specs.declared.LegOrder.{LegOrder}
 use Rattle.rules.specs.declared.Quote.{Quote}
 use Rattle.rules.specs.declared.State.{State}
 use Rattle.rules.specs.Sizes.{seriesCount}
-use Rattle.rules.specs.State.{noLeg, noEntry, noOrder, noQuote, noStrategy, freeStrategy, fresh, entryAt, orderAt, strategyAt, withEntries, withOrders, withStrategies, withOpened, withClock, withLast, withNational, withRange}
+use Rattle.rules.specs.State.{noSpecialist, noLeg, noEntry, noOrder, noQuote, noStrategy, freeStrategy, fresh, entryAt, orderAt, strategyAt, withEntries, withOrders, withStrategies, withOpened, withClock, withLast, withNational, withRange}
 use Rattle.rules.specs.Strategies.{held, added, define}
 use Rattle.rules.specs.Events.{live, liveOrder, keep, enter, enterOrder, freeSlot}
 use Rattle.rules.specs.Refusals.{isOrder, isSweep, isLegOrder, isOrderAt, isSweepAt, isLegOrderAt}
@@ -98,7 +98,7 @@ unfolding sizeOf onesIn
 no-ones = refl
 
 -- a strategy with no leg in use and no auction
-fit-unused : (legs : List Leg) → All FitLeg legs → FitStrategy (record { legs = legs; count = 0; series = 0; starter = 0; begun = 0; answered = false })
+fit-unused : (legs : List Leg) → All FitLeg legs → FitStrategy (record { legs = legs; count = 0; series = 0; starter = 0; begun = 0; answered = false; specialist = noSpecialist })
 fit-unused legs a = record {
   count = omega arith;
   legs = a;
@@ -109,6 +109,7 @@ fit-unused legs a = record {
   series = omega arith;
   starter = omega arith;
   begun = omega arith;
+  percentage = omega arith;
 }
 
 pub fit-past : FitStrategy noStrategy
@@ -450,9 +451,9 @@ order-fits h f = record {
   price = omega (arith, h .price, f .price);
 }
 
--- a strategy whose auction alone has changed
-fit-strategy : {s t : Strategy} → SameStrategy s t → t .starter ≤ 100_000 → t .begun ≤ 86_400_000 → FitStrategy s → FitStrategy t
-fit-strategy {s} {t} h a u f = record {
+-- a strategy of which no more than the auction and the specialist have changed
+fit-strategy : {s t : Strategy} → SameStrategy s t → t .starter ≤ 100_000 → t .begun ≤ 86_400_000 → t .specialist .percentage ≤ 100 → FitStrategy s → FitStrategy t
+fit-strategy {s} {t} h a u p f = record {
   count = omega (arith, h .count, f .count);
   legs = rw (h .legs) (f .legs);
   used = λ i l. rw (h .legs) (f .used i (omega (arith, h .count)));
@@ -462,6 +463,7 @@ fit-strategy {s} {t} h a u f = record {
   series = rw (h .series) (f .series);
   starter = a;
   begun = u;
+  percentage = p;
 }
 
 -- what counts by the life of a live entry
@@ -479,11 +481,12 @@ pub sweep-le : {e f : Entry} → SameEntry e f → isSweep f ≤ isSweep e
 unfolding isSweep
 sweep-le = life-le (λ (n : ℕ). pick (eqb n 4) 1 0)
 
--- The auctions of a state: a starter's number and a beginning in range, none in a strategy that is not defined.
+-- The auctions of a state: a starter's number and a beginning in range, none in a strategy that is not defined; and the specialists' percentages.
 pub record Auctions (b : State) : Type 0 where
   pub starter : (k : ℕ) → strategyAt b k .starter ≤ 100_000
   pub begun : (k : ℕ) → strategyAt b k .begun ≤ 86_400_000
   pub undefined : (k : ℕ) → b .defined ≤ k → strategyAt b k .starter ≡ 0
+  pub percentage : (k : ℕ) → strategyAt b k .specialist .percentage ≤ 100
 
 pub fit-at : (b : State) → Sound b → (k : ℕ) → FitStrategy (strategyAt b k)
 fit-at b s k = all-at noStrategy fit-past (s .strategies) k
@@ -499,12 +502,13 @@ sound-auctions b s = record {
   starter = λ k. fit-at b s k .starter;
   begun = λ k. fit-at b s k .begun;
   undefined = λ k h. s .undefined k h .2;
+  percentage = λ k. fit-at b s k .percentage;
 }
 
 -- A move that only lessens quantities, and leaves auctions in range, leaves a sound state sound.
 pub sound-shrinks : {b c : State} → Shrinks b c → Auctions c → Sound b → Sound c
 sound-shrinks {b} {c} h a s = record {
-  strategies = all-of FitStrategy noStrategy (c .strategies) (λ k. fit-strategy (h .strategy k) (a .starter k) (a .begun k) (fit-at b s k));
+  strategies = all-of FitStrategy noStrategy (c .strategies) (λ k. fit-strategy (h .strategy k) (a .starter k) (a .begun k) (a .percentage k) (fit-at b s k));
   entries = all-of FitEntry noEntry (c .entries) (λ i. entry-fits (h .entry i) (fit-entry-at b s i));
   orders = all-of FitOrder noOrder (c .orders) (λ i. order-fits (h .order i) (fit-order-at b s i));
   strategyRows = h .strategyRows ∙ s .strategyRows;
@@ -550,4 +554,5 @@ auctions-same {b} {c} e d a = record {
   starter = λ k. rw e (a .starter k);
   begun = λ k. rw e (a .begun k);
   undefined = λ k h. rw e (a .undefined k (omega arith));
+  percentage = λ k. rw e (a .percentage k);
 }

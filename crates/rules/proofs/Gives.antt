@@ -19,13 +19,13 @@ use Rattle.rules.specs.State.{noEntry, entryAt, withEntries, noOrder, or
 use Rattle.rules.specs.Moves.{Moved, still, and-then, each}
 use Rattle.rules.specs.Sides.{other, meets}
 use Rattle.rules.specs.Fills.{cutEntry, cut, wholeFill, cutOrder, cutLeg}
-use Rattle.rules.specs.Quotas.{Division}
+use Rattle.rules.specs.Quotas.{Division, GivesOut}
 use Rattle.rules.specs.Nets.{netOf}
 use Rattle.rules.specs.National.{nationalNet, boundsOf, boundsAt, mayMeet}
-use Rattle.rules.specs.Passes.{opposes, within, holding, sizeAt, sizes, giveAt, give}
+use Rattle.rules.specs.Passes.{opposes, within, besideSpecialist, holding, sizeAt, sizes, giveAt, give}
 use Rattle.rules.proofs.Tables.{positive}
+use Rattle.rules.proofs.Portions.{beside-divides}
 use Rattle.rules.proofs.Shrinks.{Shrinks, shrinks-refl, shrinks-trans, whole-shrinks, set-own}
-use Rattle.rules.proofs.Quotas.{Divides}
 
 -- CUTS
 pub cut-none : (e : Entry) → cutEntry e 0 ≡ e
@@ -162,8 +162,13 @@ pub sizes-at : (es : List Entry) (e : Entry) (level g i : ℕ) → i < 32 → sl
 unfolding sizes
 sizes-at es e level g i h = table-slot (sizeAt es e level g) 0 32 i h
 
+-- the second group of a starter's pass
+pub specialist-divides : (a level : ℕ) (b : State) → GivesOut (besideSpecialist a level b)
+unfolding besideSpecialist
+specialist-divides a level b = beside-divides _ _
+
 -- whichever way what remains is divided, the quotas are so
-pub group-quoted : {divide : Division} → Divides divide → (b : State) (a level g : ℕ) → Lawful b a level → Quoted b a level g (divide (entryAt b a .units) (sizes (b .entries) (entryAt b a) level g))
+pub group-quoted : {divide : Division} → GivesOut divide → (b : State) (a level g : ℕ) → Lawful b a level → Quoted b a level g (divide (entryAt b a .units) (sizes (b .entries) (entryAt b a) level g))
 group-quoted d b a level g m =
     let r : ℕ = entryAt b a .units in
     let xs : List ℕ = sizes (b .entries) (entryAt b a) level g in

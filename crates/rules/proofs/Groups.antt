@@ -20,19 +20,20 @@ use Rattle.rules.specs.declared.Turn.the-variants.{Stop, ByLegs, AtLimit
 use Rattle.rules.specs.State.{noEntry, entryAt, withOrders}
 use Rattle.rules.specs.Moves.{and-then, each}
 use Rattle.rules.specs.Sides.{other, meets, better, bestPrice}
-use Rattle.rules.specs.Quotas.{Division, inTurnAt, inTurn, share}
+use Rattle.rules.specs.Quotas.{Division, GivesOut, inTurnAt, inTurn, share}
 use Rattle.rules.specs.Fills.{takeLegs, legFill}
 use Rattle.rules.specs.National.{boundsAt}
-use Rattle.rules.specs.Passes.{opposes, limitWith, limitStep, bestOpposite, groupOf, within, holding, sizes, giveGroup, giveShared, meetLimit, readyNet, opposite, turnAt, allowed, turnOf, takeTurn, turn, pass}
+use Rattle.rules.specs.Passes.{opposes, limitWith, limitStep, bestOpposite, groupOf, within, holding, sizes, giveGroup, giveShared, giveForStarter, meetLimit, readyNet, opposite, turnAt, allowed, turnOf, takeTurn, turn, pass}
 use Rattle.rules.specs.Valid.{Sound}
 use Rattle.rules.specs.Sentences.{Customer, SweepOrMaker, Dealer, Beside, BetterLimit, AheadShared, better-limit, customer-before-maker, customer-before-dealer, maker-before-dealer, customers-by-number, AheadNumbered, NonePassed, got, SharedFairly}
 use Rattle.rules.proofs.Shrinks.{SameEntry, Shrinks, shrinks-refl, shrinks-trans}
 use Rattle.rules.proofs.Sharing.{share-fair, share-earlier}
-use Rattle.rules.proofs.Quotas.{Divides, inTurn-divides, share-divides}
-use Rattle.rules.proofs.Gives.{Lawful, lawful-shrinks, cut-other, opposed, opposed-apart, holder, sizes-at, Quoted, group-quoted, Given}
+use Rattle.rules.proofs.Quotas.{inTurn-divides, share-divides}
+use Rattle.rules.proofs.Gives.{specialist-divides, Lawful, lawful-shrinks, cut-other, opposed, opposed-apart, other-apart, holder, sizes-at, Quoted, group-quoted, Given}
 use Rattle.rules.proofs.Firsts.{live-slot, by-number, better-turn, better-past, better-alike}
-use Rattle.rules.proofs.Tables.{positive, sum-equal}
-use Rattle.rules.proofs.Control.{sum-part, opposes-is, turn-kept, each-kept, shrinks-kept, group-given}
+use Rattle.rules.proofs.Tables.{positive, table-same, sum-equal}
+use Rattle.rules.proofs.Settled.{same-or}
+use Rattle.rules.proofs.Control.{sum-part, opposes-is, turn-kept, each-kept, shrinks-kept, group-given, group-left}
 
 -- two entries at one limit, of one strategy and side
 record Together (e f : Entry) : Type 0 where
@@ -49,7 +50,7 @@ unfolding groupOf
 customer-group e (c, s) =
     pick-false _ _ _ (ne-eqb (e .life) 4 s) ∙ pick-false _ _ _ (ne-eqb (e .class) 3 (λ z. omega arith)) ∙ pick-true _ _ _ (eq-eqb (e .class) 1 c)
 
-maker-group : (e : Entry) → SweepOrMaker e → groupOf e ≡ 1
+pub maker-group : (e : Entry) → SweepOrMaker e → groupOf e ≡ 1
 unfolding groupOf
 maker-group e h =
     let P : ℕ → Type 0 = λ (g : ℕ). g ≡ 1 in
@@ -62,7 +63,7 @@ dealer-group e (c, s) =
 
 -- ONE GROUP'S FILLS
 -- an entry holds all its units against one that it opposes, in its group
-holds-all : (e f : Entry) (level g : ℕ) → opposes e f ≡ true → f .level ≡ level → within g f ≡ true → holding e level g f ≡ f .units
+pub holds-all : (e f : Entry) (level g : ℕ) → opposes e f ≡ true → f .level ≡ level → within g f ≡ true → holding e level g f ≡ f .units
 unfolding holding
 holds-all e f level g o l w = pick-true _ _ _ o ∙ pick-true _ _ _ (eq-eqb _ _ l) ∙ pick-true _ _ _ w
 
@@ -73,14 +74,14 @@ record Met (b : State) (a level g j : ℕ) : Type 0 where
   group : within g (entryAt b j) ≡ true
   active : 0 < entryAt b a .units
 
-holding-in : (e f : Entry) (level g : ℕ) → 0 < holding e level g f → within g f ≡ true
+pub holding-in : (e f : Entry) (level g : ℕ) → 0 < holding e level g f → within g f ≡ true
 unfolding holding
 holding-in e f level g =
     let P : ℕ → Type 0 = λ (x : ℕ). 0 < x → within g f ≡ true in
     let none : P 0 = λ h. absurd (omega arith) in
     pick-all P _ (pick-all P _ (pick-by P (within g f) (λ w _. w) (λ _. none)) none) none
 
-module _ {divide : Division} (d : Divides divide) (a level g : ℕ) (b : State) (rows : length (b .entries) ≡ 32) (m : Lawful b a level) where
+module _ {divide : Division} (d : GivesOut divide) (a level g : ℕ) (b : State) (rows : length (b .entries) ≡ 32) (m : Lawful b a level) where
   abbrev held : List ℕ
   held = sizes (b .entries) (entryAt b a) level g
 
@@ -127,7 +128,7 @@ record Step (b : State) (a level g : ℕ) (c : State) : Type 0 where
   met : (j : ℕ) → (j ≡ a → ⊥) → entryAt c j .units < entryAt b j .units → Met b a level g j
   emptied : (i : ℕ) → 0 < entryAt c a .units → opposes (entryAt b a) (entryAt b i) ≡ true → entryAt b i .level ≡ level → within g (entryAt b i) ≡ true → entryAt c i .units ≡ 0
 
-group-step : {divide : Division} → Divides divide → (a level g : ℕ) (b : State) → length (b .entries) ≡ 32 → Lawful b a level → Step b a level g (giveGroup divide a level g b .state)
+group-step : {divide : Division} → GivesOut divide → (a level g : ℕ) (b : State) → length (b .entries) ≡ 32 → Lawful b a level → Step b a level g (giveGroup divide a level g b .state)
 group-step d a level g b rows m = record { shrinks = group-given d a level g b m .shrinks; met = met d a level g b rows m; emptied = emptied d a level g b rows m }
 
 module _ (a level g : ℕ) (b : State) (rows : length (b .entries) ≡ 32) (m : Lawful b a level) where
@@ -150,15 +151,15 @@ module _ (a level g : ℕ) (b : State) (rows : length (b .entries) ≡ 32) (m : 
       omega arith
 
 -- GROUPS AFTER ONE ANOTHER
-group-in : (e : Entry) (g : ℕ) → g < 3 → groupOf e ≡ g → within g e ≡ true
+pub group-in : (e : Entry) (g : ℕ) → g < 3 → groupOf e ≡ g → within g e ≡ true
 unfolding within
 group-in e g h q = pick-false _ _ _ (ne-eqb g 3 (λ z. omega arith)) ∙ eq-eqb _ _ q
 
-in-group : (e : Entry) (g : ℕ) → g < 3 → within g e ≡ true → groupOf e ≡ g
+pub in-group : (e : Entry) (g : ℕ) → g < 3 → within g e ≡ true → groupOf e ≡ g
 unfolding within
 in-group e g h w = eqb-true _ _ (sym (pick-false _ _ _ (ne-eqb g 3 (λ z. omega arith))) ∙ w)
 
-group-same : {e f : Entry} → SameEntry e f → groupOf f ≡ groupOf e
+pub group-same : {e f : Entry} → SameEntry e f → groupOf f ≡ groupOf e
 unfolding groupOf
 group-same h = rw (h .life, h .class)
 
@@ -189,7 +190,7 @@ beside-same s i j t = record {
   limit = s .entry j .level ∙ t .limit ∙ sym (s .entry i .level);
 }
 
-module _ {second : Division} (d : Divides second) (a level : ℕ) (b : State) (rows : length (b .entries) ≡ 32) (m : Lawful b a level) where
+module _ {second : Division} (d : GivesOut second) (a level : ℕ) (b : State) (rows : length (b .entries) ≡ 32) (m : Lawful b a level) where
   abbrev one : State
   one = giveGroup inTurn a level 0 b .state
 
@@ -367,7 +368,7 @@ best-met a b r i j t h o l =
     (λ (u : entryAt b i .units ≤ 0). omega arith)
     (lt-or-le 0 (entryAt b i .units))
 
-module _ {second : Division} (d : Divides second) (a : ℕ) (b : State) (r : Ready b) (m : Lawful b a (bestOpposite (b .entries) (entryAt b a))) where
+module _ {second : Division} (d : GivesOut second) (a : ℕ) (b : State) (r : Ready b) (m : Lawful b a (bestOpposite (b .entries) (entryAt b a))) where
   abbrev level : ℕ
   level = bestOpposite (b .entries) (entryAt b a)
 
@@ -518,22 +519,22 @@ sound-ready v = record { rows = v .entryRows; rising = by-number v; limits = λ 
 
 -- nobody is passed by in a shared pass, an auction's starter's or another's, nor in a numbered one
 pub shared-pass : (legs : Bool) (a : ℕ) (b : State) → Sound b → NonePassed AheadShared a b (pass Shared legs a b .state)
-unfolding pass meetLimit opposite
+unfolding pass meetLimit giveForStarter opposite
 shared-pass legs a b v = turns-none AheadShared shared-static a Shared (λ c. shared-none share-divides a c) legs b (v .orderRows) (sound-ready v) (entryAt b a .units)
 
 pub starter-pass : (legs : Bool) (a : ℕ) (b : State) → Sound b → NonePassed AheadShared a b (pass ForStarter legs a b .state)
-unfolding pass meetLimit opposite
-starter-pass legs a b v = turns-none AheadShared shared-static a ForStarter (λ c. shared-none share-divides a c) legs b (v .orderRows) (sound-ready v) (entryAt b a .units)
+unfolding pass meetLimit giveForStarter opposite
+starter-pass legs a b v = turns-none AheadShared shared-static a ForStarter (λ c. shared-none (specialist-divides a _ c) a c) legs b (v .orderRows) (sound-ready v) (entryAt b a .units)
 
 pub numbered-pass : (legs : Bool) (a : ℕ) (b : State) → Sound b → NonePassed AheadNumbered a b (pass Numbered legs a b .state)
-unfolding pass meetLimit opposite
+unfolding pass meetLimit giveForStarter opposite
 numbered-pass legs a b v = turns-none AheadNumbered numbered-static a Numbered (λ c. numbered-none a c) legs b (v .orderRows) (sound-ready v) (entryAt b a .units)
 
 -- SHARING within the second and the third group
 together-turn : {e f : Entry} → Together e f → Together f e
 together-turn t = record { strategy = sym (t .strategy); side = sym (t .side); limit = sym (t .limit) }
 
-module _ {divide : Division} (d : Divides divide) (a level g : ℕ) (b : State) (rows : length (b .entries) ≡ 32) (m : Lawful b a level) where
+module _ {divide : Division} (d : GivesOut divide) (a level g : ℕ) (b : State) (rows : length (b .entries) ≡ 32) (m : Lawful b a level) where
   abbrev after : State
   after = giveGroup divide a level g b .state
 
@@ -613,6 +614,21 @@ module _ (a level g : ℕ) (b : State) (rows : length (b .entries) ≡ 32) (m : 
       (λ e. omega (arith, none-got share-divides a level g b rows m i j ni nj t wi wj li lj j hj nj (e .1)))
       (both-hold share-divides a level g b rows m i j ni nj t wi wj li lj)
 
+-- what one holds: nothing against itself, nothing out of the second group, and the same where neither has changed
+pub holding-own : (e : Entry) (level g : ℕ) → holding e level g e ≡ 0
+unfolding holding
+holding-own e level g = pick-by (λ (x : ℕ). x ≡ 0) (opposes e e) (λ o. absurd (other-apart (e .side) (opposed e e o .side))) (λ _. refl)
+
+holding-out : (e : Entry) (level : ℕ) (f : Entry) → (groupOf f ≡ 1 → ⊥) → holding e level 1 f ≡ 0
+unfolding holding within
+holding-out e level f n =
+    let P : ℕ → Type 0 = λ (x : ℕ). x ≡ 0 in
+    pick-all P _ (pick-all P _ (pick-false _ _ _ (pick-false _ _ _ refl ∙ ne-eqb _ _ n)) refl) refl
+
+holding-same : {e e₁ f f₁ : Entry} → SameEntry e e₁ → SameEntry f f₁ → (level g : ℕ) → f₁ .units ≡ f .units → holding e₁ level g f₁ ≡ holding e level g f
+unfolding holding opposes within groupOf
+holding-same h k level g u = rw (h .strategy, h .side, k .strategy, k .side, k .level, k .life, k .class, u)
+
 -- a group's fills leave the others
 step-leaves : {x y : State} (a level g j : ℕ) → g < 3 → Step x a level g y → (j ≡ a → ⊥) → (groupOf (entryAt x j) ≡ g → ⊥) → entryAt y j .units ≡ entryAt x j .units
 step-leaves {x} {y} a level g j low s n d = ⊎-elim
@@ -620,7 +636,7 @@ step-leaves {x} {y} a level g j low s n d = ⊎-elim
     (λ (l : entryAt x j .units ≤ entryAt y j .units). omega (arith, s .shrinks .entry j .units))
     (lt-or-le (entryAt y j .units) (entryAt x j .units))
 
-module _ {second : Division} (d : Divides second) (a level : ℕ) (b : State) (rows : length (b .entries) ≡ 32) (m : Lawful b a level) where
+module _ {second : Division} (d : GivesOut second) (a level : ℕ) (b : State) (rows : length (b .entries) ≡ 32) (m : Lawful b a level) where
   abbrev c1 : State
   c1 = one d a level b rows m
 
@@ -660,6 +676,35 @@ module _ {second : Division} (d : Divides second) (a level : ℕ) (b : State) (r
         let x = step-leaves a level 0 j (omega arith) s1 n (λ z. omega arith) in
         let y = step-leaves a level 1 j (omega arith) s2 n (λ z. omega (arith, group-same (s1 .shrinks .entry j))) in
         omega arith
+
+  -- as the second group comes, its sizes are those from before the customers' fills
+  second-size : (i : ℕ) → holding (entryAt c1 a) level 1 (entryAt c1 i) ≡ holding (entryAt b a) level 1 (entryAt b i)
+  second-size i =
+      let s = s1 .shrinks in
+      let P : Type 0 = holding (entryAt c1 a) level 1 (entryAt c1 i) ≡ holding (entryAt b a) level 1 (entryAt b i) in
+      same-or P i a
+      (λ e. rw e (holding-own (entryAt c1 a) level 1 ∙ sym (holding-own (entryAt b a) level 1)))
+      (λ n. same-or P (groupOf (entryAt b i)) 1
+      (λ g. holding-same (s .entry a) (s .entry i) level 1 (group-one i n g .0))
+      (λ g.
+      holding-out (entryAt c1 a) level (entryAt c1 i) (λ z. g (sym (group-same (s .entry i)) ∙ z)) ∙ sym (holding-out (entryAt b a) level (entryAt b i) g)))
+
+  pub second-sizes : sizes (c1 .entries) (entryAt c1 a) level 1 ≡ sizes (b .entries) (entryAt b a) level 1
+  unfolding sizes
+  second-sizes = table-same _ _ 32 (λ i _. second-size i)
+
+  -- and what is left of the active entry is what remains after customers
+  pub second-left : entryAt c1 a .units ≡ entryAt b a .units - sumN (slot (sizes (b .entries) (entryAt b a) level 0)) 32
+  second-left = group-left inTurn-divides a level 0 b m
+
+  -- what one of the second group got in all is its quota there
+  pub second-got : (i : ℕ) → i < 32 → (i ≡ a → ⊥) → groupOf (entryAt b i) ≡ 1 →
+      got b c3 i ≡ slot (second (entryAt b a .units - sumN (slot (sizes (b .entries) (entryAt b a) level 0)) 32) (sizes (b .entries) (entryAt b a) level 1)) i
+  second-got i l n g =
+      let u = group-one i n g in
+      let q : got c1 c2 i ≡ slot (second (entryAt c1 a .units) (sizes (c1 .entries) (entryAt c1 a) level 1)) i = group-got d a level 1 c1 (s1 .shrinks .entryRows ∙ rows) m1 i l n in
+      let e : got b c3 i ≡ got c1 c2 i = rw (u .0, u .1) in
+      e ∙ q ∙ rw (second-left, second-sizes)
 
   in-one : (k : ℕ) → groupOf (entryAt b k) ≡ 1 → within 1 (entryAt c1 k) ≡ true
   in-one k g = group-in (entryAt c1 k) 1 (omega arith) (group-same (s1 .shrinks .entry k) ∙ g)
@@ -716,8 +761,8 @@ module _ (a level : ℕ) (b : State) (rows : length (b .entries) ≡ 32) (m : La
       omega (arith, ui .0, uj .0, ui .1, uj .1)
 
 -- at one limit the second and the third group are shared
-pub shared-fairly : (a level : ℕ) (b : State) → Sound b → Lawful b a level → SharedFairly a b (giveShared share a level b .state)
-unfolding giveShared and-then
+pub shared-fairly : (a level : ℕ) (b : State) → Sound b → Lawful b a level → SharedFairly a b (meetLimit Shared a level b .state)
+unfolding meetLimit giveShared and-then
 shared-fairly a level b v m = record {
   bySize = λ i j ni nj t l g li lj. ⊎-elim
       (λ h. fair-one a level b (v .entryRows) m i j ni nj (together t l) li lj (maker-group (entryAt b i) (h .0)) (maker-group (entryAt b j) (h .1)))

@@ -161,6 +161,7 @@ starts b (E.Clock e) v f c = record { bounds = λ k. refl; live = λ i l. v .sou
 starts b (E.DayEnd e) v f c = like-sound b b (v .sound) (λ k. refl) refl
 starts b (E.National e) v f c = tt
 starts b (E.Range e) v f c = tt
+starts b (E.Specialist e) v f c = tt
 
 -- EVERY FILL OF AN ACCEPTED EVENT keeps to the range and prices that the book knew before it
 pub fills-in-range : (b : State) (e : Event) → Valid b → FitEvent e → firstCause (causes b e) ≡ 0 → All (InRange b) (accept b e .records)

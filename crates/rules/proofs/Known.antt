@@ -30,12 +30,12 @@ use Rattle.rules.specs.National.{nationalPrice, nationalPrices, national
 use Rattle.rules.specs.Fills.{cancelEntry}
 use Rattle.rules.specs.Auctions.{answer}
 use Rattle.rules.specs.Events.{live, liveOrder, enter, enterOrder, onOrder, oldSweep, enterSweep, onSweep, onLegOrder, cancelNumber, onClock, onSeries, restart, onDayEnd}
-use Rattle.rules.specs.Given.{legsGiven, strategyGiven, orderGiven, sweepGiven, legOrderGiven, quoteGiven}
+use Rattle.rules.specs.Given.{legsGiven, strategyGiven, orderGiven, sweepGiven, legOrderGiven, specialistGiven, quoteGiven}
 use Rattle.rules.specs.Step.{Outcome, accept, refused}
 use Rattle.rules.specs.Valid.{FitStrategy, FitQuote, Valid}
 use Rattle.rules.specs.Totals.{Sent, Logged, outcome, after, run, quoteAfter, rangeAfter, quoted, rangeSaid}
 use Rattle.rules.proofs.Tables.{behind-length}
-use Rattle.rules.proofs.Shrinks.{Shrinks, cancel-shrinks, answer-shrinks}
+use Rattle.rules.proofs.Shrinks.{Shrinks, specialist-shrinks, cancel-shrinks, answer-shrinks}
 use Rattle.rules.proofs.Control.{shrinks-kept, onOrder-kept, onLegOrder-kept, cancelNumber-kept, onClock-kept, shut-kept, reopen-kept}
 use Rattle.rules.proofs.Ratios.{Padded, given-padded}
 use Rattle.rules.proofs.Nets.{same-net}
@@ -125,6 +125,7 @@ learns b (E.National e) v x p = record {
   range = refl;
 }
 learns b (E.Range e) v x p = record { quote = λ s l. refl; range = refl }
+learns b (E.Specialist e) v x p = learns-nothing (R.Event (E.Specialist e)) (λ s q. refl) (λ r. refl) (same-shrinks (same-still b) (specialist-shrinks (e .strategy) (specialistGiven e) b))
 
 -- ONE EVENT of any bytes: what it said if it was accepted, else nothing
 record Heard (b : State) (x : Sent) : Type 0 where

@@ -132,6 +132,7 @@ sent-event b x (E.Clock e) p q w h = absurd (let z : _≡_ {A = ℕ} 0 1 = cc in
 sent-event b x (E.DayEnd e) p q w h = absurd (let z : _≡_ {A = ℕ} 0 1 = cc in omega arith)
 sent-event b x (E.National e) p q w h = absurd (let z : _≡_ {A = ℕ} 0 1 = cc in omega arith)
 sent-event b x (E.Range e) p q w h = absurd (let z : _≡_ {A = ℕ} 0 1 = cc in omega arith)
+sent-event b x (E.Specialist e) p q w h = absurd (let z : _≡_ {A = ℕ} 0 1 = cc in omega arith)
 
 sent-row : (b : State) (x : Sent) (w : Terms) → termsOf (rowIn b x) ≡ leg w → AnySent b x
 sent-row b x w h = go (went b x)

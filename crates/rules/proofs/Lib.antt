@@ -3,6 +3,7 @@ pub mod Tables
 pub mod Strategies
 pub mod Shrinks
 pub mod Quotas
+pub mod Portions
 pub mod Gives
 pub mod Control
 pub mod Turns
@@ -38,6 +39,7 @@ pub mod Origins
 pub mod InRange
 pub mod Nets
 pub mod Known
+pub mod Named
 pub mod NetsSaid
 pub mod BetterNets
 pub mod LegBooks
@@ -47,6 +49,7 @@ pub mod Totals
 pub mod Sample
 pub mod WholeFills
 pub mod Groups
+pub mod FillOrder
 pub mod PassEnds
 pub mod Sharing
 pub mod Cancels
@@ -61,6 +64,7 @@ pub mod Matching
 pub mod LastRecords
 pub mod Definitions
 pub mod Nationals
+pub mod Specialists
 pub mod Sentences
 pub mod Causes
 pub mod SweepNets

@@ -128,6 +128,7 @@ enters-row b (E.Clock e) = pick-all (λ (w : Brought). w ≡ nothing) _ refl ref
 enters-row b (E.DayEnd e) = pick-all (λ (w : Brought). w ≡ nothing) _ refl refl
 enters-row b (E.National e) = pick-all (λ (w : Brought). w ≡ nothing) _ refl refl
 enters-row b (E.Range e) = pick-all (λ (w : Brought). w ≡ nothing) _ refl refl
+enters-row b (E.Specialist e) = pick-all (λ (w : Brought). w ≡ nothing) _ refl refl
 
 brought-refused : (b : State) (x : Sent) (n : ℕ) → (n ≡ 0 → ⊥) → outcome b x ≡ refused n b → brought (logOf x (outcome b x)) ≡ nothing
 unfolding brought refused

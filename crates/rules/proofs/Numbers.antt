@@ -27,13 +27,13 @@ use Rattle.rules.specs.Fills.{cancelEntry}
 use Rattle.rules.specs.Auctions.{answer}
 use Rattle.rules.specs.Events.{live, liveOrder, enter, enterOrder, onOrder, oldSweep, enterSweep, onSweep, onLegOrder, cancelNumber, onClock, shut, reopen, onSeries}
 use Rattle.rules.specs.National.{onNational, onRange}
-use Rattle.rules.specs.Given.{strategyGiven, orderGiven, sweepGiven, legOrderGiven, quoteGiven}
+use Rattle.rules.specs.Given.{strategyGiven, orderGiven, sweepGiven, legOrderGiven, specialistGiven, quoteGiven}
 use Rattle.rules.specs.Refusals.{firstCause, causes, undefined}
 use Rattle.rules.specs.Step.{accept}
 use Rattle.rules.specs.Records.{cents}
 use Rattle.rules.specs.Valid.{Valid}
 use Rattle.rules.specs.Totals.{Sent, outcome, after, logOf, run, Terms, Brought, complex, leg, brought, Came, Unknown, isDayEnd, endsDay, OneDay}
-use Rattle.rules.proofs.Shrinks.{SameStrategy, Shrinks, same-strategy, strategy-trans, cancel-shrinks, answer-shrinks}
+use Rattle.rules.proofs.Shrinks.{SameStrategy, Shrinks, same-strategy, strategy-trans, specialist-shrinks, cancel-shrinks, answer-shrinks}
 use Rattle.rules.proofs.Tables.{behind-length, tally}
 use Rattle.rules.proofs.Control.{shrinks-kept, onOrder-kept, onLegOrder-kept, cancelNumber-kept, onClock-kept, shut-kept, reopen-kept}
 use Rattle.rules.proofs.Validity.{clear, known}
@@ -132,6 +132,7 @@ Plain (E.Clock e) = Unit {0}
 Plain (E.DayEnd e) = ⊥
 Plain (E.National e) = Unit {0}
 Plain (E.Range e) = Unit {0}
+Plain (E.Specialist e) = Unit {0}
 
 pub accept-kin : (b : State) (e : Event) → length (b .orders) ≡ 32 → Plain e → Kin b (accept b e .state) (rowOf b e)
 unfolding accept
@@ -145,6 +146,7 @@ accept-kin b (E.Clock e) n p = kin-clock b (e .time) n
 accept-kin b (E.DayEnd e) n p = absurd p
 accept-kin b (E.National e) n p = kin-national b (e .series) (quoteGiven e)
 accept-kin b (E.Range e) n p = kin-range b (e .range)
+accept-kin b (E.Specialist e) n p = kin-shrinks b b _ noRow refl refl refl (specialist-shrinks (e .strategy) (specialistGiven e) b)
 
 goes-define : (b : State) (t : Strategy) → Goes b (define t b) noRow
 unfolding define strategyAdded withStrategies
@@ -168,6 +170,7 @@ accept-goes b (E.Clock e) n h = kin-goes (accept-kin b (E.Clock e) n tt)
 accept-goes b (E.DayEnd e) n h = absurd (let z : _≡_ {A = ℕ} 0 1 = cc in omega arith)
 accept-goes b (E.National e) n h = kin-goes (accept-kin b (E.National e) n tt)
 accept-goes b (E.Range e) n h = kin-goes (accept-kin b (E.Range e) n tt)
+accept-goes b (E.Specialist e) n h = kin-goes (accept-kin b (E.Specialist e) n tt)
 
 -- what enters is under the next number, and a complex order or sweep in a strategy that is defined
 abbrev pub Numbered : State → Row → Type 0
@@ -187,6 +190,7 @@ accept-numbered b (E.Clock e) c = tt
 accept-numbered b (E.DayEnd e) c = tt
 accept-numbered b (E.National e) c = tt
 accept-numbered b (E.Range e) c = tt
+accept-numbered b (E.Specialist e) c = tt
 
 pub ends-accepted : (b : State) (x : Sent) (e : Event) → readOf (x .frame) ≡ R.Event e → outcome b x ≡ done b e → endsDay (logOf x (outcome b x)) ≡ isDayEnd (R.Event e)
 unfolding endsDay

@@ -19,12 +19,12 @@ use Rattle.rules.specs.Moves.{Moved, and-then}
 use Rattle.rules.specs.Strategies.{added, define}
 use Rattle.rules.specs.Events.{live, liveOrder, enter, enterOrder, onSweep, onSeries, restart, onDayEnd}
 use Rattle.rules.specs.National.{onNational, onRange}
-use Rattle.rules.specs.Given.{strategyGiven, orderGiven, sweepGiven, legOrderGiven, quoteGiven}
+use Rattle.rules.specs.Given.{strategyGiven, orderGiven, sweepGiven, legOrderGiven, specialistGiven, quoteGiven}
 use Rattle.rules.specs.Step.{accept}
 use Rattle.rules.specs.Valid.{Valid}
 use Rattle.rules.specs.Sentences.{AcceptedEvent, SweepOf, Alike, OneSweep}
 use Rattle.rules.proofs.Tables.{behind-length, behind-ordered}
-use Rattle.rules.proofs.Shrinks.{Shrinks, cancel-shrinks, answer-shrinks}
+use Rattle.rules.proofs.Shrinks.{Shrinks, specialist-shrinks, cancel-shrinks, answer-shrinks}
 use Rattle.rules.proofs.Entering.{fresh-dead, Entering}
 use Rattle.rules.proofs.Control.{shrinks-kept, onOrder-kept, onLegOrder-kept, cancelNumber-kept, onClock-kept, shut-kept, reopen-kept}
 use Rattle.rules.proofs.Arrivals.{swept-valid, swept-entering}
@@ -33,7 +33,7 @@ use Rattle.rules.proofs.Validity.{sweep-clear}
 use Rattle.rules.proofs.Sweeps.{new, gone, d, none-left, withdraws, sweeps}
 
 -- through moves that lessen
-one-less : {b c : State} → Shrinks b c → OneSweep b → OneSweep c
+pub one-less : {b c : State} → Shrinks b c → OneSweep b → OneSweep c
 one-less s o i j l p q a =
     let x = s .entry i in
     let y = s .entry j in
@@ -116,3 +116,4 @@ one-sweep-kept b (E.Clock e) a o = one-less (onClock-kept shrinks-kept (e .time)
 one-sweep-kept b (E.DayEnd e) a o = one-sweep-fresh (e .timer)
 one-sweep-kept b (E.National e) a o = one-same b (onNational (e .series) (quoteGiven e) b) refl o
 one-sweep-kept b (E.Range e) a o = one-same b (onRange (e .range) b) refl o
+one-sweep-kept b (E.Specialist e) a o = one-less (specialist-shrinks (e .strategy) (specialistGiven e) b) o

@@ -18,13 +18,14 @@ use Rattle.rules.specs.declared.Turn.{Turn}
 use Rattle.rules.specs.declared.Turn.the-variants.{Stop, ByLegs, AtLimit}
 use Rattle.rules.specs.State.{noEntry, entryAt, strategyAt, withEntries, withOrders}
 use Rattle.rules.specs.Moves.{Moved, and-then, each}
-use Rattle.rules.specs.Quotas.{Division, inTurn, share}
+use Rattle.rules.specs.Quotas.{Division, GivesOut, inTurn, share}
 use Rattle.rules.specs.Fills.{cut, cutLeg, wholeFill, takeLegs, legFill, legTrade, cancelEntry, cancelOrder}
-use Rattle.rules.specs.Passes.{opposes, holding, sizeAt, sizes, giveAt, give, giveGroup, giveShared, meetLimit, turnOf, takeTurn, turn, pass}
+use Rattle.rules.specs.Passes.{opposes, holding, sizeAt, sizes, giveAt, give, giveGroup, giveShared, giveForStarter, meetLimit, turnOf, takeTurn, turn, pass}
 use Rattle.rules.specs.Auctions.{liveIn, isNumber, starterSlot, lapses, cancelLapsed, starterPass, later, laterPass, dayOrder, legPass, ahead, bestStep, bestSlot, crossed, matchOnce, matchAll}
 use Rattle.rules.specs.Events.{tradeOnce, tradeAll, cancelOrderOf}
 use Rattle.rules.proofs.Tables.{positive}
-use Rattle.rules.proofs.Quotas.{Divides, inTurn-divides, share-divides}
+use Rattle.rules.proofs.Gives.{specialist-divides}
+use Rattle.rules.proofs.Quotas.{inTurn-divides, share-divides}
 use Rattle.rules.proofs.Shrinks.{Shrinks, shrinks-refl, shrinks-trans, set-by, cut-shrinks, cutLeg-shrinks, legs-shrinks, trade-shrinks}
 
 pub record Only (k : ℕ) (b c : State) : Type 0 where
@@ -96,13 +97,13 @@ module _ (k : ℕ) where
       only-each (giveAt a level qs) b 32
       (λ i l c s. whole-only c a i level (slot qs i) (s .entry a .strategy ∙ e) (λ p. s .entry i .strategy ∙ f i l p))
 
-  giveGroup-only : {divide : Division} → Divides divide → (a level g : ℕ) (b : State) → entryAt b a .strategy ≡ k → Only k b (giveGroup divide a level g b .state)
+  giveGroup-only : {divide : Division} → GivesOut divide → (a level g : ℕ) (b : State) → entryAt b a .strategy ≡ k → Only k b (giveGroup divide a level g b .state)
   unfolding giveGroup
   giveGroup-only d a level g b e =
       let xs : List ℕ = sizes (b .entries) (entryAt b a) level g in
       give-only b a level _ e (λ i l p. size-some (b .entries) (entryAt b a) level g i l (omega (arith, d .under (entryAt b a .units) xs i)) ∙ e)
 
-  giveShared-only : {second : Division} → Divides second → (a level : ℕ) (b : State) → entryAt b a .strategy ≡ k → Only k b (giveShared second a level b .state)
+  giveShared-only : {second : Division} → GivesOut second → (a level : ℕ) (b : State) → entryAt b a .strategy ≡ k → Only k b (giveShared second a level b .state)
   unfolding giveShared
   giveShared-only {second} d a level b e =
       let c : State = giveGroup inTurn a level 0 b .state in
@@ -114,10 +115,10 @@ module _ (k : ℕ) where
       (giveGroup-only share-divides a level 2 _ (y .shrinks .entry a .strategy ∙ f)))
 
   meetLimit-only : (way : Allocation) (a level : ℕ) (b : State) → entryAt b a .strategy ≡ k → Only k b (meetLimit way a level b .state)
-  unfolding meetLimit
+  unfolding meetLimit giveForStarter
   meetLimit-only LegsOnly a level b e = only-refl k b
   meetLimit-only Shared a level b e = giveShared-only share-divides a level b e
-  meetLimit-only ForStarter a level b e = giveShared-only share-divides a level b e
+  meetLimit-only ForStarter a level b e = giveShared-only (specialist-divides a level b) a level b e
   meetLimit-only Numbered a level b e = giveGroup-only inTurn-divides a level 3 b e
 
   take-only : (way : Allocation) (a : ℕ) (t : Turn) (b : State) → length (b .orders) ≡ 32 → entryAt b a .strategy ≡ k → Only k b (takeTurn way a t b .state)
@@ -126,10 +127,13 @@ module _ (k : ℕ) where
   take-only way a ByLegs b n e = legs-only b a n e
   take-only way a (AtLimit level) b n e = meetLimit-only way a level b e
 
+  pub turns-only : (way : Allocation) (legs : Bool) (a : ℕ) (b : State) → length (b .orders) ≡ 32 → entryAt b a .strategy ≡ k → (n : ℕ) → Only k b (each (turn way legs a) n b .state)
+  turns-only way legs a b m e n =
+      only-each (turn way legs a) b n (λ i _ c s. take-only way a (turnOf way legs a c) c (s .orderRows ∙ m) (s .entry a .strategy ∙ e))
+
   pub pass-only : (way : Allocation) (legs : Bool) (a : ℕ) (b : State) → length (b .orders) ≡ 32 → entryAt b a .strategy ≡ k → Only k b (pass way legs a b .state)
   unfolding pass
-  pass-only way legs a b n e =
-      only-each (turn way legs a) b _ (λ i _ c s. take-only way a (turnOf way legs a c) c (s .orderRows ∙ n) (s .entry a .strategy ∙ e))
+  pass-only way legs a b n e = turns-only way legs a b n e _
 
   -- Cancels.
 

@@ -133,6 +133,7 @@ defines b x (E.Clock e) v p q h = inl (plain-same b x (E.Clock e) v q tt)
 defines b x (E.DayEnd e) v p q h = absurd (let z : _≡_ {A = ℕ} 0 1 = cc in omega arith)
 defines b x (E.National e) v p q h = inl (plain-same b x (E.National e) v q tt)
 defines b x (E.Range e) v p q h = inl (plain-same b x (E.Range e) v q tt)
+defines b x (E.Specialist e) v p q h = inl (plain-same b x (E.Specialist e) v q tt)
 
 pub outcome-defines : (b : State) (x : Sent) → Valid b → endsDay (logOf x (outcome b x)) ≡ false → (next b x .defined ≡ b .defined) ⊎ New b x
 outcome-defines b x v d = go (went b x)

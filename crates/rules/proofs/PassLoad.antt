@@ -21,12 +21,12 @@ use Rattle.rules.specs.declared.Turn.the-variants.{Stop, ByLegs, AtLimit
 use Rattle.rules.specs.State.{entryAt, strategyOf}
 use Rattle.rules.specs.Moves.{Moved, still, and-then, each}
 use Rattle.rules.specs.Nets.{prices, unitsOf}
-use Rattle.rules.specs.Quotas.{Division, inTurnAt, inTurn}
+use Rattle.rules.specs.Quotas.{Division, GivesOut, inTurnAt, inTurn}
 use Rattle.rules.specs.Fills.{legFill}
-use Rattle.rules.specs.Passes.{holding, sizes, giveAt, give, giveGroup, giveShared, meetLimit, turnOf, takeTurn, turn, pass}
+use Rattle.rules.specs.Passes.{holding, sizes, giveAt, give, giveGroup, giveShared, giveForStarter, meetLimit, turnOf, takeTurn, turn, pass}
 use Rattle.rules.proofs.Shrinks.{SameEntry, SameStrategy, Shrinks, shrinks-refl, shrinks-trans, legs-shrinks}
-use Rattle.rules.proofs.Quotas.{sum-table, Divides, divides-all, inTurn-divides, share-divides}
-use Rattle.rules.proofs.Gives.{Lawful, lawful-shrinks, whole-none, opposed, Quoted, quoted-holder, group-quoted, sizes-at, Given, given-each}
+use Rattle.rules.proofs.Quotas.{sum-table, divides-all, inTurn-divides, share-divides}
+use Rattle.rules.proofs.Gives.{specialist-divides, Lawful, lawful-shrinks, whole-none, opposed, Quoted, quoted-holder, group-quoted, sizes-at, Given, given-each}
 use Rattle.rules.proofs.Control.{given-proper, group-given, group-left, Legged, Fits, turn-fits}
 use Rattle.rules.proofs.Turns.{units-most}
 use Rattle.rules.proofs.Load.{load, Pays, Six, six-shrinks, pays-nothing, pays-more, pays-both, whole-most, whole-ends}
@@ -212,7 +212,7 @@ module _ (side : ℕ) (s : Strategy) (a M : ℕ) where
   inTurn-turned level g b six m = turned-pays (inTurn-pays a level g b six m) (group-given inTurn-divides a level g b m .orders)
 
   -- a group that holds more than remains: what remains is given out, so the active entry ends
-  less-turned : {divide : Division} → Divides divide → (level g : ℕ) (b : State) → Six b → (m : Lawful b a level) → EnoughShared a M b
+  less-turned : {divide : Division} → GivesOut divide → (level g : ℕ) (b : State) → Six b → (m : Lawful b a level) → EnoughShared a M b
       → entryAt b a .units < sumN (slot (sizes (b .entries) (entryAt b a) level g)) 32 → Turned side s a M b (giveGroup divide a level g b)
   unfolding giveGroup
   less-turned {divide} d level g b six m enough less =
@@ -237,7 +237,7 @@ module _ (side : ℕ) (s : Strategy) (a M : ℕ) where
       fee k = 14 * min (slot qs k) 1
 
   -- one that does not: each of its holders ends
-  all-turned : {divide : Division} → Divides divide → (level g : ℕ) (b : State) → Six b → (m : Lawful b a level)
+  all-turned : {divide : Division} → GivesOut divide → (level g : ℕ) (b : State) → Six b → (m : Lawful b a level)
       → sumN (slot (sizes (b .entries) (entryAt b a) level g)) 32 ≤ entryAt b a .units → Turned side s a M b (giveGroup divide a level g b)
   unfolding giveGroup
   all-turned d level g b six m all =
@@ -247,12 +247,12 @@ module _ (side : ℕ) (s : Strategy) (a M : ℕ) where
       (λ some. inl (holding-all (entryAt b a) level g (entryAt b k) some))))
       (unfold giveGroup in group-given d a level g b m .orders)
 
-  group-turned : {divide : Division} → Divides divide → (level g : ℕ) (b : State) → Six b → Lawful b a level → EnoughShared a M b → Turned side s a M b (giveGroup divide a level g b)
+  group-turned : {divide : Division} → GivesOut divide → (level g : ℕ) (b : State) → Six b → Lawful b a level → EnoughShared a M b → Turned side s a M b (giveGroup divide a level g b)
   group-turned d level g b six m enough =
       ⊎-elim (λ less. less-turned d level g b six m enough less) (λ all. all-turned d level g b six m all)
       (lt-or-le (entryAt b a .units) (sumN (slot (sizes (b .entries) (entryAt b a) level g)) 32))
 
-  shared-turned : {second : Division} → Divides second → (level : ℕ) (b : State) → Six b → Lawful b a level → EnoughShared a M b → Turned side s a M b (giveShared second a level b)
+  shared-turned : {second : Division} → GivesOut second → (level : ℕ) (b : State) → Six b → Lawful b a level → EnoughShared a M b → Turned side s a M b (giveShared second a level b)
   unfolding giveShared
   shared-turned d level b six m e =
       turned-then (inTurn-turned level 0 b six m)
@@ -260,10 +260,10 @@ module _ (side : ℕ) (s : Strategy) (a M : ℕ) where
       (λ y k. let h₂ : Shrinks b y = shrinks-trans h k in group-turned share-divides level 2 y (six-shrinks h₂ six) (lawful-shrinks h₂ m) (shared-shrinks a M h₂ e)))
 
   limit-turned : (way : Allocation) (level : ℕ) (b : State) → Six b → Lawful b a level → Enough way a M b → Turned side s a M b (meetLimit way a level b)
-  unfolding meetLimit
+  unfolding meetLimit giveForStarter
   limit-turned LegsOnly level b six m e = turned-nothing b
   limit-turned Shared level b six m e = shared-turned share-divides level b six m e
-  limit-turned ForStarter level b six m e = shared-turned share-divides level b six m e
+  limit-turned ForStarter level b six m e = shared-turned (specialist-divides a level b) level b six m e
   limit-turned Numbered level b six m e = inTurn-turned level 3 b six m
 
 -- PASSES

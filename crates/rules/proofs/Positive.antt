@@ -162,6 +162,7 @@ starts b (E.Clock e) r = record { used = r .used; rows = r .rows }
 starts b (E.DayEnd e) r = r
 starts b (E.National e) r = tt
 starts b (E.Range e) r = tt
+starts b (E.Specialist e) r = tt
 
 perform-filled : (b : State) (r : Reading) → Ratios b → All Filled (perform b r .moved .records)
 unfolding perform refused

@@ -10,7 +10,7 @@ use lib.Dec.{eqb, leb}
 use lib.ListN.{List·getD-eq-default}
 use Rattle.base.specs.Pick.{pick, pick-by, pick-both, pick-true, pick-false}
 use Rattle.base.specs.Walks.{sumN, slot, table, table-slot, length-table, lt-or-le}
-use Rattle.rules.specs.Quotas.{Division, inTurnAt, inTurn, portion, portionAt, oneOf, holderAt, sharedAt, share}
+use Rattle.rules.specs.Quotas.{Division, GivesOut, inTurnAt, inTurn, portion, portionAt, oneOf, holderAt, sharedAt, share}
 use Rattle.rules.proofs.Tables.{positive, sum-equal}
 
 -- a table of quotas: its sum, and a bound of each
@@ -19,7 +19,7 @@ unfolding sumN
 sum-table f n zero h = refl
 sum-table f n (suc k) h = rw (sum-table f n k (omega arith), table-slot f 0 n k (omega arith))
 
-table-under : (f : ℕ → ℕ) (xs : List ℕ) → ((i : ℕ) → f i ≤ slot xs i) → (i : ℕ) → slot (table f 32) i ≤ slot xs i
+pub table-under : (f : ℕ → ℕ) (xs : List ℕ) → ((i : ℕ) → f i ≤ slot xs i) → (i : ℕ) → slot (table f 32) i ≤ slot xs i
 table-under f xs h i =
     ⊎-elim
     (λ (l : i < 32). rw (table-slot f 0 32 i l) (h i))
@@ -137,17 +137,12 @@ share-under r xs i =
     (λ e. omega arith)
     (λ e. table-under _ xs (λ j. shared-under r t _ (slot xs j) (leb-false t r e)) i)
 
--- a division that gives out what it should: no quota above its size, and all of r or of the sizes
-pub record Divides (divide : Division) : Type 0 where
-  pub under : (r : ℕ) (xs : List ℕ) (i : ℕ) → slot (divide r xs) i ≤ slot xs i
-  pub sum : (r : ℕ) (xs : List ℕ) → sumN (slot (divide r xs)) 32 ≡ min r (sumN (slot xs) 32)
-
 -- where what remains is enough for all, each gets its size
-pub divides-all : {divide : Division} → Divides divide → (r : ℕ) (xs : List ℕ) → sumN (slot xs) 32 ≤ r → (i : ℕ) → i < 32 → slot (divide r xs) i ≡ slot xs i
+pub divides-all : {divide : Division} → GivesOut divide → (r : ℕ) (xs : List ℕ) → sumN (slot xs) 32 ≤ r → (i : ℕ) → i < 32 → slot (divide r xs) i ≡ slot xs i
 divides-all {divide} d r xs h i l = sum-equal (slot (divide r xs)) (slot xs) 32 i l (d .under r xs) (d .sum r xs ∙ omega arith)
 
-pub inTurn-divides : Divides inTurn
+pub inTurn-divides : GivesOut inTurn
 inTurn-divides = record { under = inTurn-under; sum = inTurn-sum }
 
-pub share-divides : Divides share
+pub share-divides : GivesOut share
 share-divides = record { under = share-under; sum = share-total }

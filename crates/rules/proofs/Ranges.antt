@@ -134,6 +134,9 @@ event-fit K.National n v t m =
     let at = fit-at (layoutOf K.National n) v 19 in
     (omega (arith, at 0 (omega arith) t .1), at 1 (omega arith) t .1, at 2 (omega arith) t .1)
 event-fit K.Range n v t m = fit-at (layoutOf K.Range n) v 19 0 (omega arith) t .1
+event-fit K.Specialist n v t m =
+    let at = fit-at (layoutOf K.Specialist n) v 19 in
+    (at 0 (omega arith) t .0, at 0 (omega arith) t .1, omega (arith, at 1 (omega arith) t .1), at 2 (omega arith) t .1)
 event-fit K.Unknown n v t m = tt
 
 -- a strategy's count is read from the byte that its length is taken from

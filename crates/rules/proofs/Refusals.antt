@@ -106,6 +106,7 @@ causes-in-order b (E.Clock e) = (omega arith, omega arith, tt)
 causes-in-order b (E.DayEnd e) = tt
 causes-in-order b (E.National e) = (omega arith, omega arith, tt)
 causes-in-order b (E.Range e) = tt
+causes-in-order b (E.Specialist e) = (omega arith, omega arith, tt)
 
 -- a reading refuses by 2 or 3 only
 pub record Read (r : Reading) : Type 0 where
@@ -152,6 +153,7 @@ event-number K.Clock v n e = absurd (let z : _≡_ {A = ℕ} 0 1 = cc in omega a
 event-number K.DayEnd v n e = absurd (let z : _≡_ {A = ℕ} 0 1 = cc in omega arith)
 event-number K.National v n e = absurd (let z : _≡_ {A = ℕ} 0 1 = cc in omega arith)
 event-number K.Range v n e = absurd (let z : _≡_ {A = ℕ} 0 1 = cc in omega arith)
+event-number K.Specialist v n e = absurd (let z : _≡_ {A = ℕ} 0 1 = cc in omega arith)
 event-number K.Unknown v n e = let z : 2 ≡ n = cc in (omega arith, omega arith)
 
 pub reads : (f : List ℕ) → Read (readOf f)

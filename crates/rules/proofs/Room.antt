@@ -43,6 +43,7 @@ accept-few b (E.Clock e) six = omega (arith, clock-few (e .time) b six)
 accept-few b (E.DayEnd e) six = omega (arith, dayEnd-few (e .timer) b six)
 accept-few b (E.National e) six = omega arith
 accept-few b (E.Range e) six = omega arith
+accept-few b (E.Specialist e) six = omega arith
 
 perform-few : (b : State) (r : Reading) → Six b → length (perform b r .moved .records) ≤ 2560
 unfolding perform refused

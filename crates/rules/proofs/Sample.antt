@@ -141,3 +141,50 @@ pub record Swept : Type 0 where
 pub sample-swept : Swept
 unfolding Examples.performed Records.lineOf Records.cents Totals.outcome Totals.run Totals.linesOf Totals.total Totals.wholeFilled Totals.cancelled
 sample-swept = record { answers = refl; values = refl; filled = refl; withdrawn = refl }
+
+-- 2026-04: a market 300/305 and 100/103. Member 2 is named specialist at 60 per cent; a customer buys 10 at 204 and starts an auction; members 1, 2 and 3
+-- sell 7 each by sweeps at 202
+abbrev pub portioned : List Totals.Sent
+portioned =
+    sent (6 ∷ (0 ∷ (6 ∷ (0 ∷ (0 ∷ (1 ∷ []))))))
+    ∷ (sent (6 ∷ (0 ∷ (6 ∷ (0 ∷ (1 ∷ (1 ∷ []))))))
+    ∷ (sent (11 ∷ (0 ∷ (1 ∷ (0 ∷ (2 ∷ (0 ∷ (0 ∷ (1 ∷ (1 ∷ (1 ∷ (1 ∷ [])))))))))))
+    ∷ (sent (14 ∷ (0 ∷ (4 ∷ (0 ∷ (7 ∷ (0 ∷ (0 ∷ (0 ∷ (9 ∷ (0 ∷ (44 ∷ (1 ∷ (0 ∷ (0 ∷ []))))))))))))))
+    ∷ (sent (14 ∷ (0 ∷ (4 ∷ (0 ∷ (7 ∷ (0 ∷ (0 ∷ (1 ∷ (9 ∷ (0 ∷ (49 ∷ (1 ∷ (0 ∷ (0 ∷ []))))))))))))))
+    ∷ (sent (14 ∷ (0 ∷ (4 ∷ (0 ∷ (7 ∷ (0 ∷ (1 ∷ (0 ∷ (9 ∷ (0 ∷ (100 ∷ (0 ∷ (0 ∷ (0 ∷ []))))))))))))))
+    ∷ (sent (14 ∷ (0 ∷ (4 ∷ (0 ∷ (7 ∷ (0 ∷ (1 ∷ (1 ∷ (9 ∷ (0 ∷ (103 ∷ (0 ∷ (0 ∷ (0 ∷ []))))))))))))))
+    ∷ (sent (8 ∷ (0 ∷ (11 ∷ (0 ∷ (2 ∷ (0 ∷ (0 ∷ (60 ∷ []))))))))
+    ∷ (sent (16 ∷ (0 ∷ (2 ∷ (0 ∷ (9 ∷ (0 ∷ (0 ∷ (0 ∷ (1 ∷ (0 ∷ (10 ∷ (0 ∷ (204 ∷ (0 ∷ (0 ∷ (0 ∷ []))))))))))))))))
+    ∷ (sent (14 ∷ (0 ∷ (3 ∷ (0 ∷ (1 ∷ (0 ∷ (0 ∷ (1 ∷ (7 ∷ (0 ∷ (202 ∷ (0 ∷ (0 ∷ (0 ∷ []))))))))))))))
+    ∷ (sent (14 ∷ (0 ∷ (3 ∷ (0 ∷ (2 ∷ (0 ∷ (0 ∷ (1 ∷ (7 ∷ (0 ∷ (202 ∷ (0 ∷ (0 ∷ (0 ∷ []))))))))))))))
+    ∷ (sent (14 ∷ (0 ∷ (3 ∷ (0 ∷ (3 ∷ (0 ∷ (0 ∷ (1 ∷ (7 ∷ (0 ∷ (202 ∷ (0 ∷ (0 ∷ (0 ∷ []))))))))))))))
+    ∷ (sent (8 ∷ (0 ∷ (7 ∷ (0 ∷ (136 ∷ (19 ∷ (0 ∷ (0 ∷ []))))))))
+    ∷ []))))))))))))
+
+-- of the 10 that remain the specialist's sweep, number 7, gets 6, and of the 4 that are left the others get 2 each
+pub record Portioned : Type 0 where
+  pub first : Totals.wholeFilled 6 (Totals.linesOf (Totals.run State.first portioned)) ≡ 2
+  pub specialist : Totals.wholeFilled 7 (Totals.linesOf (Totals.run State.first portioned)) ≡ 6
+  pub last : Totals.wholeFilled 8 (Totals.linesOf (Totals.run State.first portioned)) ≡ 2
+  pub named : Totals.namedLast State.noSpecialist (Totals.run State.first portioned) 0 ≡ record { member = 2; percentage = 60 }
+
+pub sample-portioned : Portioned
+unfolding
+    Examples.performed Records.lineOf Records.cents Totals.outcome Totals.run Totals.linesOf Totals.total Totals.wholeFilled Totals.specialistAfter
+    Totals.namedLast
+sample-portioned = record { first = refl; specialist = refl; last = refl; named = refl }
+
+-- a strategy is defined; then kind 11 with 0 and 100 per cent; with 101; with member 0; of a strategy that is not defined
+abbrev pub naming : List Totals.Sent
+naming =
+    sent (11 ∷ (0 ∷ (1 ∷ (0 ∷ (2 ∷ (0 ∷ (0 ∷ (1 ∷ (1 ∷ (1 ∷ (1 ∷ [])))))))))))
+    ∷ (sent (8 ∷ (0 ∷ (11 ∷ (0 ∷ (2 ∷ (0 ∷ (0 ∷ (0 ∷ []))))))))
+    ∷ (sent (8 ∷ (0 ∷ (11 ∷ (0 ∷ (255 ∷ (255 ∷ (0 ∷ (100 ∷ []))))))))
+    ∷ (sent (8 ∷ (0 ∷ (11 ∷ (0 ∷ (2 ∷ (0 ∷ (0 ∷ (101 ∷ []))))))))
+    ∷ (sent (8 ∷ (0 ∷ (11 ∷ (0 ∷ (0 ∷ (0 ∷ (0 ∷ (60 ∷ []))))))))
+    ∷ (sent (8 ∷ (0 ∷ (11 ∷ (0 ∷ (2 ∷ (0 ∷ (1 ∷ (60 ∷ []))))))))
+    ∷ [])))))
+
+pub sample-named : map (λ (x : Totals.Logged). x .answer) (Totals.run State.first naming) ≡ 0 ∷ (0 ∷ (0 ∷ (3 ∷ (3 ∷ (4 ∷ [])))))
+unfolding Examples.performed Totals.outcome Totals.run
+sample-named = refl

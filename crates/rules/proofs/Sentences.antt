@@ -30,6 +30,7 @@ use Rattle.rules.proofs.Matching.{series-sentence}
 use Rattle.rules.proofs.Clocks.{clock-sentence}
 use Rattle.rules.proofs.LastRecords.{day-end-sentence}
 use Rattle.rules.proofs.Nationals.{national-sentence, range-sentence}
+use Rattle.rules.proofs.Specialists.{specialist-sentence}
 
 -- EACH EVENT
 pub event-sentence : (b : State) (e : Event) → AcceptedEvent b e → OneSweep b → Sentence b e
@@ -39,10 +40,11 @@ event-sentence b (E.Sweep e) a o = sweep-sentence b e a o
 event-sentence b (E.LegOrder e) a o = leg-order-sentence b e a
 event-sentence b (E.Cancel e) a o = cancel-sentence b e a
 event-sentence b (E.Series e) a o = series-sentence b e a
-event-sentence b (E.Clock e) a o = clock-sentence b e a
+event-sentence b (E.Clock e) a o = clock-sentence b e a o
 event-sentence b (E.DayEnd e) a o = day-end-sentence b e a
 event-sentence b (E.National e) a o = national-sentence b e a
 event-sentence b (E.Range e) a o = range-sentence b e a
+event-sentence b (E.Specialist e) a o = specialist-sentence b e a
 
 -- EACH STATE
 pub reached-fresh : (timer : ℕ) → 1 ≤ timer → timer ≤ 5000 → ReachedState (fresh timer)

@@ -9,6 +9,7 @@ use lib.ListN.{length, getD, set, length-set, List·getD-eq-default}
 use Rattle.base.specs.Pick.{pick-all}
 use Rattle.base.specs.Walks.{slot, walk, table-slot, length-table, lt-or-le}
 use Rattle.rules.specs.declared.Leg.{Leg}
+use Rattle.rules.specs.declared.Specialist.{Specialist}
 use Rattle.rules.specs.declared.Strategy.{Strategy}
 use Rattle.rules.specs.declared.Entry.{Entry}
 use Rattle.rules.specs.declared.LegOrder.{LegOrder}
@@ -17,6 +18,7 @@ use Rattle.rules.specs.State.{noEntry, noOrder, noStrategy, entryAt, ord
 use Rattle.rules.specs.Moves.{Moved, and-then}
 pub use Rattle.rules.specs.Shrinks.{SameEntry, SameOrder, SameStrategy, Shrinks}
 use Rattle.rules.specs.Fills.{cutEntry, cutOrder, cut, cutLeg, cutAt, cutOrders, takesAt, cutByLegs, wholeFill, takeLegs, legFill, legTrade, cancelEntry, cancelOrder, legQuotas}
+use Rattle.rules.specs.Specialists.{withSpecialist, onSpecialist}
 use Rattle.rules.specs.Auctions.{withAuction, putAuction, begin, close, answer}
 
 pub same-entry : (e : Entry) → SameEntry e e
@@ -155,6 +157,12 @@ pub auction-shrinks : (b : State) (k n t : ℕ) (a : Bool) → Shrinks b (putAuc
 unfolding putAuction
 auction-shrinks b k n t a =
     strategies-shrink b _ (set-same SameStrategy same-strategy noStrategy (λ (s : Strategy). withAuction s n t a) (λ s. record { legs = refl; count = refl; series = refl }) (b .strategies) k)
+    (length-set (b .strategies) k _)
+
+pub specialist-shrinks : (k : ℕ) (p : Specialist) (b : State) → Shrinks b (onSpecialist k p b)
+unfolding onSpecialist
+specialist-shrinks k p b =
+    strategies-shrink b _ (set-same SameStrategy same-strategy noStrategy (λ (s : Strategy). withSpecialist s p) (λ s. record { legs = refl; count = refl; series = refl }) (b .strategies) k)
     (length-set (b .strategies) k _)
 
 -- the table of leg orders is 32 rows, and a cut of it makes a table of 32

@@ -18,6 +18,7 @@ use Rattle.rules.specs.declared.Strategy.{Strategy}
 use Rattle.rules.specs.declared.Entry.{Entry}
 use Rattle.rules.specs.declared.LegOrder.{LegOrder}
 use Rattle.rules.specs.declared.Quote.{Quote}
+use Rattle.rules.specs.declared.Specialist.{Specialist}
 use Rattle.rules.specs.declared.State.{State}
 use Rattle.rules.specs.State.{noLeg, noEntry, noOrder, noStrategy, fresh, entryAt, orderAt, strategyAt, withEntries, withOrders, withStrategies, withOpened, withClock, withLast, withNational, withRange}
 use Rattle.rules.specs.Moves.{Moved, still, and-then, each}
@@ -26,7 +27,8 @@ use Rattle.rules.specs.Fills.{cancelEntry}
 use Rattle.rules.specs.Auctions.{answer}
 use Rattle.rules.specs.Events.{live, liveOrder, keep, enter, enterOrder, onOrder, oldSweep, enterSweep, onSweep, onLegOrder, cancelNumber, onClock, shut, reopen, onSeries, closeRunning, cancelLowest, restart, onDayEnd, behind}
 use Rattle.rules.specs.National.{onNational, onRange}
-use Rattle.rules.specs.Given.{strategyGiven, orderGiven, sweepGiven, legOrderGiven, quoteGiven}
+use Rattle.rules.specs.Specialists.{onSpecialist}
+use Rattle.rules.specs.Given.{strategyGiven, orderGiven, sweepGiven, legOrderGiven, specialistGiven, quoteGiven}
 use Rattle.rules.specs.Refusals.{firstCause, causes}
 use Rattle.rules.specs.Step.{accept}
 use Rattle.rules.specs.Valid.{FitLeg, Sound, Valid}
@@ -42,6 +44,7 @@ use Rattle.rules.proofs.DayEnd.{Finished, day-end-clears}
 use Rattle.rules.proofs.Laws.{Law, ofUnits, ofContracts, noEntries, noOrders, ofSeries, ofCash, ofRatio, ofLimit, ofParty, ofPrice, size, come, gone, FitsEntry, FitsOrder, Good, Steady, Acct, ratioFor, steady-shrinks, good-shrinks, acct-nothing, acct-both, pick-none, measure, measure-by}
 use Rattle.rules.proofs.Accounts.{acct-whole, acct-trade, acct-cancel, acct-cancelOrder, acct-begins, acct-closes, acct-answers, size-same}
 use Rattle.rules.proofs.LegAccounts.{acct-legs}
+use Rattle.rules.proofs.Shrinks.{specialist-shrinks}
 
 -- EVERY RULE KEEPS THE ACCOUNTS
 pub acct : Kept (λ (b : State) (m : Moved). Steady b → Acct b m)
@@ -206,6 +209,13 @@ module _ (l : Law) (b : State) (s : Sound b) (g : Good l b) where
   unfolding onRange withRange
   books-range r = books-same l b (onRange r b) (still (onRange r b)) refl refl refl (sound-steady s) g (acct .nothing (onRange r b))
 
+  books-specialist : (k : ℕ) (p : Specialist) → Books l b 0 (still (onSpecialist k p b))
+  unfolding onSpecialist withStrategies
+  books-specialist k p = record {
+    sums = omega (arith, acct-nothing b .law l g, size-same l b (onSpecialist k p b) refl refl);
+    goesOn = good-shrinks l (specialist-shrinks k p b) g;
+  }
+
   books-series : (x state : ℕ) → Books l b 0 (onSeries x state b)
   unfolding onSeries withOpened
   books-series x state =
@@ -308,6 +318,7 @@ rowOf b (E.Clock e) = noRow
 rowOf b (E.DayEnd e) = noRow
 rowOf b (E.National e) = noRow
 rowOf b (E.Range e) = noRow
+rowOf b (E.Specialist e) = noRow
 
 sweep-life : (b : State) (e : GivenSweep) → sweepGiven b e .life ≡ 4
 unfolding sweepGiven
@@ -335,3 +346,4 @@ accept-books l b (E.Clock e) v f c h g = books-clock l b (v .sound) g (e .time)
 accept-books l b (E.DayEnd e) v f c h g = books-dayEnd l b (v .sound) g (e .timer)
 accept-books l b (E.National e) v f c h g = books-national l b (v .sound) g (e .series) (quoteGiven e)
 accept-books l b (E.Range e) v f c h g = books-range l b (v .sound) g (e .range)
+accept-books l b (E.Specialist e) v f c h g = books-specialist l b (v .sound) g (e .strategy) (specialistGiven e)

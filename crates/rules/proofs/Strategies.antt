@@ -251,6 +251,7 @@ module _ (legs : List Leg) (count : ℕ) (def : Definition legs count) where
     series = set-below;
     starter = omega arith;
     begun = omega arith;
+    percentage = omega arith;
   }
 
   pub defined-two : 2 ≤ defined legs count .count

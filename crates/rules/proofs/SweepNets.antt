@@ -81,6 +81,7 @@ only-sweeps b (E.Clock e) space h = absurd (clash h refl)
 only-sweeps b (E.DayEnd e) space h = absurd (clash h refl)
 only-sweeps b (E.National e) space h = absurd (clash h refl)
 only-sweeps b (E.Range e) space h = absurd (clash h refl)
+only-sweeps b (E.Specialist e) space h = absurd (clash h refl)
 
 not-read : (b : State) (n space : ℕ) → n ≤ 3 → applies (tableOf b (R.Refused n) space) 15 ≡ true → ⊥
 unfolding tableOf readCauses applies pick

@@ -10,7 +10,7 @@ use lib.Dec.{eqb}
 use lib.ListN.{length, getD, take, replicate, length-append, length-take, List·getD-append, List·getD-eq-default}
 use lib.Seq.{getD-take, getD-append-seam}
 use Rattle.base.specs.Pick.{pick, pick-all, pick-by}
-use Rattle.base.specs.Walks.{sumN, sum-zero, sum-mono, sum-first, clash, lt-or-le, below, joinN}
+use Rattle.base.specs.Walks.{sumN, table, sum-zero, sum-mono, sum-first, clash, lt-or-le, below, joinN}
 use Rattle.base.specs.All.{All, all-nil, all-cons, Sorted, sort-nil, sort-cons, all-at, all-append, all-replicate, sorted-append}
 use Rattle.rules.specs.Events.{keep, behind}
 
@@ -240,6 +240,12 @@ module _ {A : Type 0} (test : A → Bool) (none : A) (quantity : A → ℕ) (emp
       let z : (y : A) → S y none = λ y k m. absurd (omega arith) in
       sorted-any {R = S} none z
       (behind-sorted test none x l {R = S} z (keep-all test none (all-of (λ (y : A). S y x) none l (λ i k m. h i k))) (sorted-of S none l s))
+
+-- a table depends on its k values only
+pub table-same : {A : Type 0} (f g : ℕ → A) (k : ℕ) → ((i : ℕ) → i < k → f i ≡ g i) → table f k ≡ table g k
+unfolding table
+table-same f g zero h = refl
+table-same f g (suc k) h = rw (table-same f g k (λ i l. h i (omega arith)), h k (omega arith))
 
 -- SUMS
 -- no term more, and one term less

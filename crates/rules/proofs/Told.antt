@@ -31,6 +31,7 @@ Starts S b (E.Clock e) = S (withClock b (e .time))
 Starts S b (E.DayEnd e) = S b
 Starts S b (E.National e) = Unit {0}
 Starts S b (E.Range e) = Unit {0}
+Starts S b (E.Specialist e) = Unit {0}
 
 module _ {S : State → Type 0} {P : Record → Type 0} where
   pub told-nothing : (b : State) → Told S P b (still b)
@@ -69,3 +70,4 @@ module _ {S : State → Type 0} {P : Record → Type 0} where
     accept-told b (E.DayEnd e) h = day-end-told (e .timer) b h
     accept-told b (E.National e) h = all-nil
     accept-told b (E.Range e) h = all-nil
+    accept-told b (E.Specialist e) h = all-nil

@@ -25,24 +25,27 @@ use Rattle.frames.specs.Frames.{readOf}
 use Rattle.rules.specs.declared.Strategy.{Strategy}
 use Rattle.rules.specs.declared.Entry.{Entry}
 use Rattle.rules.specs.declared.Quote.{Quote}
+use Rattle.rules.specs.declared.Specialist.{Specialist}
 use Rattle.rules.specs.declared.State.{State}
 use Rattle.rules.specs.State.{noEntry, noStrategy, fresh, entryAt, strategyAt, withStrategies, withNational, withRange}
 use Rattle.rules.specs.Strategies.{twice, held, added, define, shutSet}
 use Rattle.rules.specs.Auctions.{liveIn, running, isNumber, starterSlot}
 use Rattle.rules.specs.Events.{live, oldSweep}
 use Rattle.rules.specs.National.{onNational, onRange}
-use Rattle.rules.specs.Given.{legsGiven, strategyGiven, orderGiven, sweepGiven, legOrderGiven, quoteGiven}
+use Rattle.rules.specs.Specialists.{withSpecialist, onSpecialist}
+use Rattle.rules.specs.Given.{legsGiven, strategyGiven, orderGiven, sweepGiven, legOrderGiven, specialistGiven, quoteGiven}
 use Rattle.rules.specs.Refusals.{Cause, _if_, firstCause, undefined, illFormed, notOpen, notFound, isStarter, unanswerable, replaces, removesNone, strategiesFull, isSweep, isOrderAt, isSweepAt, isLegOrderAt, ordersFull, sweepsFull, legOrdersFull, noRoom, numbersOut, sweepNumbersOut, causes, readCauses, tableOf, refusal, bettersNothing}
 use Rattle.rules.specs.Step.{Outcome, accept, refused, perform, refuseOrPerform, step}
 use Rattle.rules.specs.Valid.{FitStrategy, FitQuote, Sound, Starter, HasStarter, Settled, Valid}
 use Rattle.rules.proofs.Strategies.{Definition, defined-fit, defined-two, defined-starter, defined-begun}
-use Rattle.rules.proofs.Entering.{pos-live, order-one, sweep-live, Entering, EnteringOrder, sound-define, sound-national, sound-range}
-use Rattle.rules.proofs.Settled.{same-or, Nearly, OpenLegs, settled-nearly, nearly-tables, loose-valid}
+use Rattle.rules.proofs.Entering.{Auctions, sound-auctions, sound-shrinks, pos-live, order-one, sweep-live, Entering, EnteringOrder, sound-define, sound-national, sound-range}
+use Rattle.rules.proofs.Settled.{same-or, Nearly, OpenLegs, settled-nearly, nearly-settled, nearly-moves, open-moves, past, nearly-tables, loose-valid}
 use Rattle.rules.proofs.Only.{live-in}
 use Rattle.rules.proofs.Arrivals.{order-valid, Sweeping, sweep-valid, legOrder-valid, cancel-number-valid}
 use Rattle.rules.proofs.Endings.{or-no, live-is, clock-valid, series-valid, fresh-valid, dayEnd-valid}
 use Rattle.rules.specs.Fits.{FitGiven, FitOrderGiven, FitSweepGiven, FitLegOrderGiven, FitEvent, FitReading}
 use Rattle.rules.proofs.Ranges.{reading-fit}
+use Rattle.rules.proofs.Shrinks.{set-by, Shrinks, specialist-shrinks}
 
 pub valid-fresh : (timer : ℕ) → 1 ≤ timer → timer ≤ 5000 → Valid (fresh timer)
 valid-fresh = fresh-valid
@@ -282,10 +285,38 @@ range-valid : (r : ℕ) (b : State) → Valid b → r ≤ 9999 → Valid (onRang
 unfolding onRange withRange
 range-valid r b v h = record { sound = sound-range b r (v .sound) h; settled = λ k. settled-same b _ k refl refl refl refl (v .settled k) }
 
+-- a specialist is named: no auction changes
+specialist-at : (k : ℕ) (p : Specialist) (b : State) (P : Strategy → Type 0) (j : ℕ) → P (strategyAt b j) → (j ≡ k → P (withSpecialist (strategyAt b k) p)) → P (strategyAt (onSpecialist k p b) j)
+unfolding onSpecialist withStrategies
+specialist-at k p b P j h q = set-by P noStrategy _ (b .strategies) k j h q
+
+specialist-live : (k : ℕ) (p : Specialist) (b : State) (i : ℕ) → 0 < entryAt b i .units → 0 < entryAt (onSpecialist k p b) i .units
+unfolding onSpecialist withStrategies
+specialist-live k p b i l = l
+
+specialist-valid : (k : ℕ) (p : Specialist) (b : State) → Valid b → p .percentage ≤ 100 → Valid (onSpecialist k p b)
+specialist-valid k p b v h =
+    let c : State = onSpecialist k p b in
+    let s : Shrinks b c = specialist-shrinks k p b in
+    let starter : (j : ℕ) → strategyAt c j .starter ≡ strategyAt b j .starter = λ j. specialist-at k p b (λ (t : Strategy). t .starter ≡ strategyAt b j .starter) j refl (λ e. rw e) in
+    let begun : (j : ℕ) → strategyAt c j .begun ≡ strategyAt b j .begun = λ j. specialist-at k p b (λ (t : Strategy). t .begun ≡ strategyAt b j .begun) j refl (λ e. rw e) in
+    let was : Auctions b = sound-auctions b (v .sound) in
+    record {
+      sound = sound-shrinks s (record {
+        starter = λ j. omega (arith, starter j, was .starter j);
+        begun = λ j. omega (arith, begun j, was .begun j);
+        undefined = λ j l. starter j ∙ was .undefined j (omega (arith, s .defined));
+        percentage = λ j. specialist-at k p b (λ (t : Strategy). t .specialist .percentage ≤ 100) j (was .percentage j) (λ _. h);
+      }) (v .sound);
+      settled = λ j.
+          nearly-settled (nearly-moves j 32 s (starter j) (begun j) (λ _ i w. specialist-live k p b i (w .live)) (settled-nearly 32 (v .settled j))) (open-moves j s (starter j) (v .settled j .openLegs))
+          (λ l. absurd (omega (arith, past b (v .sound), s .entry 32 .units)));
+    }
+
 -- An event that is accepted.
 
 pub accept-valid : (b : State) (e : Event) → Valid b → FitEvent e → firstCause (causes b e) ≡ 0 → Valid (accept b e .state)
-unfolding accept causes sweepGiven quoteGiven
+unfolding accept causes sweepGiven specialistGiven quoteGiven
 accept-valid b (E.Strategy e) v f c =
     let x = clear 5 (illFormed e) _ (omega arith) c in
     let y = clear 12 (strategiesFull b e) _ (omega arith) (x .1) in
@@ -304,6 +335,7 @@ accept-valid b (E.Clock e) v f c =
 accept-valid b (E.DayEnd e) v f c = dayEnd-valid (e .timer) b (f .0) (f .1)
 accept-valid b (E.National e) v f c = national-valid (e .series) (quoteGiven e) b v (record { bid = f .1; offer = f .2 })
 accept-valid b (E.Range e) v f c = range-valid (e .range) b v f
+accept-valid b (E.Specialist e) v f c = specialist-valid (e .strategy) (specialistGiven e) b v (f .3)
 
 perform-valid : (b : State) (r : Reading) (space : ℕ) → Valid b → FitReading r → refusal b r space ≡ 0 → Valid (perform b r .moved .state)
 unfolding perform refused refusal tableOf readCauses

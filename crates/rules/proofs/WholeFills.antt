@@ -19,7 +19,7 @@ use Rattle.rules.specs.Moves.{Moved, still, and-then, each}
 use Rattle.rules.specs.Records.{kindNumber}
 use Rattle.rules.specs.Fills.{legRecordAt, partyRecords, noPrices, wholeFill}
 use Rattle.rules.specs.Quotas.{Division, inTurn, share}
-use Rattle.rules.specs.Passes.{giveAt, give, giveGroup, giveShared, meetLimit, readyNet, opposite, legsFirst, turnAt, allowed, turnOf, takeTurn, turn, pass}
+use Rattle.rules.specs.Passes.{giveAt, give, giveGroup, giveShared, giveForStarter, meetLimit, readyNet, opposite, legsFirst, turnAt, allowed, turnOf, takeTurn, turn, pass}
 use Rattle.rules.specs.National.{boundsAt}
 use Rattle.rules.specs.Auctions.{matchOnce, matchAll}
 use Rattle.rules.specs.Sentences.{Unpriced, WithoutLegs}
@@ -68,10 +68,10 @@ shared-without second a level b =
     (then-without _ (giveGroup second a level 1 (giveGroup inTurn a level 0 b .state)) (giveGroup share a level 2) (give-without a level _ _) (give-without a level _ _))
 
 pub limit-without : (way : Allocation) (a level : ℕ) (b : State) → WithoutLegs b (meetLimit way a level b)
-unfolding meetLimit giveGroup
+unfolding meetLimit giveForStarter giveGroup
 limit-without LegsOnly a level b = still-without b
 limit-without Shared a level b = shared-without share a level b
-limit-without ForStarter a level b = shared-without share a level b
+limit-without ForStarter a level b = shared-without _ a level b
 limit-without Numbered a level b = give-without a level _ b
 
 -- A TURN FOR WHICH THE LEGS ARE BARRED is none by the legs

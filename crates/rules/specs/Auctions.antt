@@ -30,7 +30,7 @@ running b k = not (eqb (strategyAt b k .starter) 0)
 
 -- the auction of strategy k, changed: its starter, the clock at its start, whether it was answered
 abbrev pub withAuction : Strategy → ℕ → ℕ → Bool → Strategy
-withAuction s n t a = record { legs = s .legs; count = s .count; series = s .series; starter = n; begun = t; answered = a }
+withAuction s n t a = record { legs = s .legs; count = s .count; series = s .series; starter = n; begun = t; answered = a; specialist = s .specialist }
 
 -- the state with the auction of strategy k changed so
 unfoldable pub putAuction : State → ℕ → ℕ → ℕ → Bool → State

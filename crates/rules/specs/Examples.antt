@@ -21,6 +21,7 @@ use Rattle.rules.specs.Sides
 use Rattle.rules.specs.Quotas
 use Rattle.rules.specs.Nets
 use Rattle.rules.specs.National
+use Rattle.rules.specs.Specialists
 use Rattle.rules.specs.Strategies
 use Rattle.rules.specs.Fills
 use Rattle.rules.specs.Passes
@@ -59,17 +60,20 @@ unfolding
     Moves.and-then Moves.each
     Sides.other Sides.legSide Sides.meets Sides.better Sides.bestPrice
     Quotas.inTurnAt Quotas.inTurn Quotas.portion Quotas.oneOf Quotas.holderAt Quotas.sharedAt Quotas.share
+    Quotas.specialistPortion Quotas.restAt Quotas.besideAt Quotas.beside Quotas.shareBeside
     Nets.stands Nets.priceWith Nets.priceOf Nets.lot Nets.lots Nets.legPrice Nets.prices Nets.known Nets.weight
     Nets.weighed Nets.netOf Nets.legNet Nets.betters Nets.legUnits Nets.unitsOf
     National.nationalPrice National.nationalPrices National.nationalNet National.boundsOf National.mayBuy
     National.maySell National.mayFill National.onNational National.onRange
+    Specialists.onSpecialist
     Strategies.divisor Strategies.lowestTerms Strategies.placeOf Strategies.bySeries Strategies.padded
     Strategies.seriesSet Strategies.defined Strategies.twice Strategies.overThreefold Strategies.sameLeg
     Strategies.sameLegs Strategies.numberOf Strategies.added Strategies.define Strategies.shutSet
     Fills.partyRecords Fills.cut Fills.cutLeg Fills.wholeFill Fills.legQuotas Fills.orderRow Fills.cutOrders
     Fills.cutByLegs Fills.takeLegs Fills.legFill Fills.legTrade Fills.cancelEntry Fills.cancelOrder
     Passes.opposes Passes.limitWith Passes.bestOpposite Passes.groupOf Passes.within Passes.holding Passes.sizes
-    Passes.give Passes.giveGroup Passes.giveShared Passes.meetLimit Passes.ready Passes.readyNet
+    Passes.isSweepOf Passes.specialistSlot Passes.besideSpecialist
+    Passes.give Passes.giveGroup Passes.giveShared Passes.giveForStarter Passes.meetLimit Passes.ready Passes.readyNet
     Passes.opposite Passes.legsFirst Passes.turnAt Passes.allowed Passes.turnOf Passes.takeTurn Passes.pass
     Auctions.liveIn Auctions.putAuction Auctions.begin Auctions.close Auctions.starterSlot Auctions.answer
     Auctions.lapses Auctions.cancelLapsed Auctions.endUnfilled Auctions.starterPass Auctions.later
@@ -83,7 +87,7 @@ unfolding
     Events.onLegOrder Events.cancelEntryOf Events.cancelOrderOf Events.cancelNumber Events.onClock Events.shut
     Events.reopen Events.onSeries Events.closeRunning Events.lowerNumber Events.lowestLive Events.cancelLowest
     Events.restart Events.onDayEnd
-    Given.strategyGiven Given.orderGiven Given.sweepGiven Given.legOrderGiven Given.quoteGiven
+    Given.strategyGiven Given.orderGiven Given.sweepGiven Given.legOrderGiven Given.specialistGiven Given.quoteGiven
     Refusals.position Refusals.rank Refusals.firstCause Refusals.bidAboveOffer Refusals.undefined Refusals.illFormed Refusals.isOrderOf Refusals.isLegOrderOf
     Refusals.notFound Refusals.isStarter Refusals.unanswerable Refusals.removesNone Refusals.strategiesFull
     Refusals.isOrder Refusals.isSweep Refusals.isLegOrder Refusals.ordersFull Refusals.sweepsFull

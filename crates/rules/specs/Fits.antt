@@ -64,6 +64,7 @@ FitEvent (E.Clock e) = e .time ≤ 86_400_000
 FitEvent (E.DayEnd e) = (1 ≤ e .timer) × (e .timer ≤ 5000)
 FitEvent (E.National e) = (e .series < seriesCount) × (e .bid ≤ 99_999) × (e .offer ≤ 99_999)
 FitEvent (E.Range e) = e .range ≤ 9999
+FitEvent (E.Specialist e) = (1 ≤ e .member) × (e .member ≤ 65_535) × (e .strategy < strategySlots) × (e .percentage ≤ 100)
 
 -- a frame that is refused has none
 abbrev pub FitReading : Reading → Type 0

@@ -7,7 +7,9 @@ use Rattle.events.specs.declared.Order.{Order as GivenOrder}
 use Rattle.events.specs.declared.Sweep.{Sweep as GivenSweep}
 use Rattle.events.specs.declared.LegOrder.{LegOrder as GivenLegOrder}
 use Rattle.events.specs.declared.National.{National as GivenNational}
+use Rattle.events.specs.declared.Specialist.{Specialist as GivenSpecialist}
 use Rattle.rules.specs.declared.Leg.{Leg}
+use Rattle.rules.specs.declared.Specialist.{Specialist}
 use Rattle.rules.specs.declared.Strategy.{Strategy}
 use Rattle.rules.specs.declared.Entry.{Entry}
 use Rattle.rules.specs.declared.LegOrder.{LegOrder}
@@ -69,6 +71,10 @@ legOrderGiven b e = record {
   contracts = e .contracts;
   price = e .price;
 }
+
+-- a specialist as it is named
+unfoldable pub specialistGiven : GivenSpecialist → Specialist
+specialistGiven e = record { member = e .member; percentage = e .percentage }
 
 -- national prices as they are set
 unfoldable pub quoteGiven : GivenNational → Quote

@@ -1,4 +1,5 @@
 pub mod Sizes
+pub mod Specialists
 pub mod State
 pub mod Moves
 pub mod Sides

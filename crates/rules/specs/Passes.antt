@@ -5,8 +5,9 @@ use Prim.Native.Nat.{ℕ}
 use lib.Dec.{eqb}
 use lib.ListN.{getD}
 use Rattle.base.specs.Pick.{pick, both, either}
-use Rattle.base.specs.Walks.{slot, table, walk}
+use Rattle.base.specs.Walks.{slot, table, firstN, walk}
 use Rattle.rules.specs.Sizes.{tableRows}
+use Rattle.rules.specs.declared.Specialist.{Specialist}
 use Rattle.rules.specs.declared.Strategy.{Strategy}
 use Rattle.rules.specs.declared.Entry.{Entry}
 use Rattle.rules.specs.declared.State.{State}
@@ -18,7 +19,7 @@ use Rattle.rules.specs.declared.Turn.the-variants.{Stop, ByLegs, AtLimit
 use Rattle.rules.specs.State.{noEntry, entryAt, strategyOf}
 use Rattle.rules.specs.Moves.{Moved, still, and-then, each}
 use Rattle.rules.specs.Sides.{other, meets, better, bestPrice}
-use Rattle.rules.specs.Quotas.{Division, inTurn, share}
+use Rattle.rules.specs.Quotas.{Division, inTurn, share, shareBeside}
 use Rattle.rules.specs.Nets.{prices, netOf, unitsOf}
 use Rattle.rules.specs.National.{boundsAt, mayTake, mayMeet}
 use Rattle.rules.specs.Fills.{wholeFill, legFill}
@@ -59,6 +60,25 @@ sizeAt es e level g i = holding e level g (getD es i noEntry)
 unfoldable pub sizes : List Entry → Entry → ℕ → ℕ → List ℕ
 sizes es e level g = table (sizeAt es e level g) tableRows
 
+-- 2026-04: "the specialist has a sweep there": f is a sweep of that member, opposite e at that limit
+unfoldable pub isSweepOf : ℕ → Entry → ℕ → Entry → Bool
+isSweepOf member e level f = both (opposes e f) (both (eqb (f .level) level) (both (eqb (f .life) 4) (eqb (f .member) member)))
+
+-- .. the entry at slot i
+abbrev pub sweepAt : ℕ → List Entry → Entry → ℕ → ℕ → Bool
+sweepAt member es e level i = isSweepOf member e level (getD es i noEntry)
+
+-- its slot; past the table where none stands there, and where no specialist is named
+unfoldable pub specialistSlot : ℕ → List Entry → Entry → ℕ → ℕ
+specialistSlot member es e level = pick (eqb member 0) tableRows (firstN (sweepAt member es e level) tableRows)
+
+-- how what remains of entry a is divided over the second group at a limit, beside the specialist of its strategy
+unfoldable pub besideSpecialist : ℕ → ℕ → State → Division
+besideSpecialist a level b =
+    let e : Entry = entryAt b a in
+    let s : Specialist = strategyOf b e .specialist in
+    shareBeside (specialistSlot (s .member) (b .entries) e level) (s .percentage)
+
 -- "Each holder met is a fill of its own": the active entry meets slot i for its quota
 abbrev pub giveAt : ℕ → ℕ → List ℕ → ℕ → State → Moved
 giveAt a level qs i b = wholeFill b a i level (slot qs i)
@@ -76,11 +96,15 @@ giveGroup divide a level g b = give a level (divide (entryAt b a .units) (sizes 
 unfoldable pub giveShared : Division → ℕ → ℕ → State → Moved
 giveShared second a level b = and-then (giveGroup inTurn a level 0 b) (λ c. and-then (giveGroup second a level 1 c) (giveGroup share a level 2))
 
+-- 2026-04: "In a starter's pass" the second group is divided beside the specialist
+unfoldable pub giveForStarter : ℕ → ℕ → State → Moved
+giveForStarter a level b = giveShared (besideSpecialist a level b) a level b
+
 -- "Whole: fill at the opposite limit."
 unfoldable pub meetLimit : Allocation → ℕ → ℕ → State → Moved
 meetLimit LegsOnly a level b = still b
 meetLimit Shared a level b = giveShared share a level b
-meetLimit ForStarter a level b = giveShared share a level b
+meetLimit ForStarter a level b = giveForStarter a level b
 meetLimit Numbered a level b = giveGroup inTurn a level 3 b
 
 -- "The legs are ready when each best price holds at least the ratio in contracts": one unit is there

@@ -53,7 +53,7 @@ unfoldable pub applies : List Cause → ℕ → Bool
 applies [] n = false
 applies ((m if c) ∷ cs) n = pick (eqb m n) (pick c true (applies cs n)) (applies cs n)
 
--- 4: "strategy not defined"
+-- 4: "strategy not defined"; 2026-04: "an undefined strategy gets 4"
 unfoldable pub undefined : State → ℕ → Bool
 undefined b k = leb (b .defined) k
 
@@ -183,6 +183,7 @@ causes b (E.Clock e) = (11 if ltb (e .time) (b .clock)) ∷ []
 causes b (E.DayEnd e) = []
 causes b (E.National e) = (14 if bidAboveOffer e) ∷ []
 causes b (E.Range e) = []
+causes b (E.Specialist e) = (4 if undefined b (e .strategy)) ∷ []
 
 -- those of a frame of any bytes, as it is read: 2 and 3 are the reader's, the rest need an event
 unfoldable pub readCauses : State → Reading → List Cause

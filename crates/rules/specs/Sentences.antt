@@ -6,11 +6,11 @@ use mathlib.Core.Path.{_≡_}
 use mathlib.Core.Bool.{Bool, true, false, not}
 use mathlib.Core.Logic.{_⊎_}
 use mathlib.Core.List.{List, [], _∷_, _++_, List·Memᴰ}
-use Prim.Native.Nat.{ℕ, suc, _+_, _-_, _*_, _^_, _≤_, _<_}
+use Prim.Native.Nat.{ℕ, suc, _+_, _-_, _*_, _/_, _^_, _≤_, _<_, min, max}
 use lib.Dec.{eqb}
 use lib.ListN.{getD, replicate, take}
-use Rattle.base.specs.Pick.{pick}
-use Rattle.base.specs.Walks.{sumN}
+use Rattle.base.specs.Pick.{pick, both}
+use Rattle.base.specs.Walks.{sumN, slot, anyN}
 use Rattle.base.specs.All.{All, Sorted}
 use Rattle.base.specs.Sets.{has}
 use Rattle.base.specs.Gcd.{Divides}
@@ -23,6 +23,7 @@ use Rattle.events.specs.declared.Sweep.{Sweep as GivenSweep}
 use Rattle.events.specs.declared.LegOrder.{LegOrder as GivenLegOrder}
 use Rattle.events.specs.declared.National.{National as GivenNational}
 use Rattle.events.specs.declared.Range.{Range as GivenRange}
+use Rattle.events.specs.declared.Specialist.{Specialist as GivenSpecialist}
 use Rattle.frames.specs.Frames.{readOf}
 use Rattle.rules.specs.declared.Leg.{Leg}
 use Rattle.rules.specs.declared.Strategy.{Strategy}
@@ -34,19 +35,20 @@ use Rattle.rules.specs.declared.Bounds.{Bounds}
 use Rattle.rules.specs.declared.Turn.{Turn}
 use Rattle.rules.specs.declared.Turn.the-variants.{Stop, ByLegs, AtLimit}
 use Rattle.rules.specs.declared.Kind.the-variants.{LegFill, LegOrderFill, Cancelled, LegOrderCancelled, AuctionBegun, AuctionEnded}
-use Rattle.rules.specs.State.{noLeg, noOrder, noQuote, fresh, entryAt, orderAt, strategyAt, legAt, withOpened, withClock, withNational, withRange}
+use Rattle.rules.specs.State.{noLeg, noOrder, noQuote, fresh, entryAt, orderAt, strategyAt, strategyOf, legAt, withStrategies, withOpened, withClock, withNational, withRange}
 use Rattle.rules.specs.Moves.{Moved, still, each}
 use Rattle.rules.specs.Records.{kindNumber}
 use Rattle.rules.specs.Sides.{other, legSide, meets, better}
 use Rattle.rules.specs.Nets.{stands, bestOf, noBest, bestAfter, offerNet, bidNet}
 use Rattle.rules.specs.Fills.{partyRecords}
 use Rattle.rules.specs.National.{boundsAt, mayBuy, maySell, mayFill, mayTake, mayMeet}
-use Rattle.rules.specs.declared.Allocation.the-variants.{Shared}
-use Rattle.rules.specs.Passes.{bestOpposite, readyNet, turnAt, pass}
-use Rattle.rules.specs.Auctions.{endAuction, matchIn}
+use Rattle.rules.specs.declared.Allocation.the-variants.{Shared, ForStarter}
+use Rattle.rules.specs.Quotas.{share, restOf}
+use Rattle.rules.specs.Passes.{bestOpposite, sizes, meetLimit, readyNet, turnAt, turnOf, turn, pass}
+use Rattle.rules.specs.Auctions.{starterPass, endAuction, matchIn}
 use Rattle.rules.specs.Sizes.{orderSlots, sweepSlots, legOrderSlots, tableRows, recordSpace, zeroLevel}
 use Rattle.rules.specs.Refusals.{firstCause, causes, isOrderAt, isSweepAt, isLegOrderAt}
-use Rattle.rules.specs.Events.{enter, enterOrder, freeSlot, freeOrderSlot, tradeAll}
+use Rattle.rules.specs.Events.{keep, enter, enterOrder, freeSlot, freeOrderSlot, tradeAll}
 use Rattle.rules.specs.Given.{legsGiven, orderGiven, legOrderGiven}
 use Rattle.rules.specs.Step.{valueOf, accept}
 use Rattle.rules.specs.Valid.{Starter, Valid}
@@ -144,6 +146,63 @@ pub record SharedFairly (a : ℕ) (b c : State) : Type 0 where
   -- and of two of one size the one with the smaller number got no less
   pub byNumber : (i j : ℕ) → (i ≡ a → ⊥) → (j ≡ a → ⊥) → Beside (entryAt b i) (entryAt b j) → entryAt b j .level ≡ entryAt b i .level → OneGroup (entryAt b i) (entryAt b j) →
       0 < entryAt b i .units → entryAt b i .units ≡ entryAt b j .units → entryAt b i .number < entryAt b j .number → got b c j ≤ got b c i
+
+-- number n is that of the entry at slot i, which holds something against the entry at slot a, at that limit, as one of group g
+abbrev pub heldBy : State → ℕ → ℕ → ℕ → ℕ → ℕ → Bool
+heldBy b a level g n i = pick (eqb (slot (sizes (b .entries) (entryAt b a) level g) i) 0) false (eqb (entryAt b i .number) n)
+
+-- a record 1 of such a holder
+abbrev pub fillIn : State → ℕ → ℕ → ℕ → Record → Bool
+fillIn b a level g r = both (eqb (kindNumber (r .kind)) 1) (anyN (heldBy b a level g (r .number)) tableRows)
+
+-- "Each holder met is a fill of its own, by number within a group": of each group the records 1 of its holders stand by rising number, so none has two
+abbrev pub ByNumber : State → ℕ → ℕ → Moved → Type 0
+ByNumber b a level x = (g : ℕ) → g < 3 → Sorted (λ (r s : Record). r .number < s .number) (keep (fillIn b a level g) (x .records))
+
+-- THE SPECIALIST'S PORTION (2026-04), at a limit that the entry at slot a, an auction's starter, meets in its pass. "what remains after customers":
+-- of its units, once those customers have theirs
+abbrev pub afterCustomers : State → ℕ → ℕ → ℕ
+afterCustomers b a level = entryAt b a .units - sumN (slot (sizes (b .entries) (entryAt b a) level 0)) tableRows
+
+-- the sizes of the second group there
+abbrev pub secondGroup : State → ℕ → ℕ → List ℕ
+secondGroup b a level = sizes (b .entries) (entryAt b a) level 1
+
+-- .. and their total
+abbrev pub groupTotal : State → ℕ → ℕ → ℕ
+groupTotal b a level = sumN (slot (secondGroup b a level)) tableRows
+
+-- "the specialist has a sweep there": the entry at slot k
+pub record SpecialistsSweep (b : State) (a level k : ℕ) : Type 0 where
+  pub live : 0 < entryAt b k .units
+  pub strategy : entryAt b k .strategy ≡ entryAt b a .strategy
+  pub side : entryAt b k .side ≡ other (entryAt b a .side)
+  pub limit : entryAt b k .level ≡ level
+  pub sweep : entryAt b k .life ≡ 4
+  pub named : 0 < strategyOf b (entryAt b a) .specialist .member
+  pub member : entryAt b k .member ≡ strategyOf b (entryAt b a) .specialist .member
+
+-- what a holder of the second group got between b and c
+abbrev pub groupGot : State → ℕ → ℕ → State → ℕ → ℕ
+groupGot b a level c i = pick (eqb (slot (secondGroup b a level) i) 0) 0 (got b c i)
+
+-- x is what the starter's pass does at that limit
+pub record PortionSentence (b : State) (a level : ℕ) (x : Moved) : Type 0 where
+  -- "where the second group must be shared and the specialist has a sweep there, that sweep gets the greater of its rounded-down share and the
+  -- rounded-down percentage of what remains after customers, never above its size"
+  pub portion : afterCustomers b a level < groupTotal b a level → (k : ℕ) → SpecialistsSweep b a level k →
+      got b (x .state) k ≡ min (entryAt b k .units)
+      (max (afterCustomers b a level * entryAt b k .units / groupTotal b a level) (strategyOf b (entryAt b a) .specialist .percentage * afterCustomers b a level / 100))
+  -- "The rest of the group shares what is left by the old sharing rule"
+  pub rest : afterCustomers b a level < groupTotal b a level → (k : ℕ) → SpecialistsSweep b a level k → (i : ℕ) → (i ≡ k → ⊥) → 0 < slot (secondGroup b a level) i →
+      got b (x .state) i ≡ slot (share (afterCustomers b a level - got b (x .state) k) (restOf k (secondGroup b a level))) i
+  -- all that remains is given out, or the whole group is filled
+  pub all : sumN (groupGot b a level (x .state)) tableRows ≡ min (afterCustomers b a level) (groupTotal b a level)
+  -- fills stay by number within the group, the specialist's in its place
+  pub byNumber : ByNumber b a level x
+  -- elsewhere nothing is changed: where no specialist has a sweep there, or the group need not be shared, it is what any order's shared pass does at
+  -- that limit
+  pub elsewhere : ((k : ℕ) → SpecialistsSweep b a level k → ⊥) ⊎ (groupTotal b a level ≤ afterCustomers b a level) → x ≡ meetLimit Shared a level b
 
 -- no live entry opposite the one at slot i meets its limit
 abbrev pub MeetsNone : State → ℕ → Type 0
@@ -257,14 +316,35 @@ pub record LaterSentence (b : State) (i : ℕ) (x : Moved) : Type 0 where
 abbrev pub UnpricedOf : ℕ → Record → Type 0
 UnpricedOf n r = r .kind ≡ LegFill → r .number ≡ n → r .level ≡ zeroLevel
 
+-- the state after n turns of the pass of a starter, at slot i, in the auction of strategy k
+abbrev pub afterTurns : State → ℕ → ℕ → ℕ → State
+afterTurns b k i n = each (turn ForStarter (not (strategyAt b k .answered)) i) n b .state
+
+-- 2026-04: "In a starter's pass": its pass is made of turns, and each that fills at a limit gives the specialist's sweep its portion there
+pub record StarterPortions (b : State) (k i : ℕ) : Type 0 where
+  pub turns : starterPass k b ≡ each (turn ForStarter (not (strategyAt b k .answered)) i) (entryAt b i .units) b
+  -- no turn names another
+  pub specialist : (n : ℕ) → strategyAt (afterTurns b k i n) k .specialist ≡ strategyAt b k .specialist
+  pub portions : (n level : ℕ) → turnOf ForStarter (not (strategyAt b k .answered)) i (afterTurns b k i n) ≡ AtLimit level →
+      PortionSentence (afterTurns b k i n) i level (turn ForStarter (not (strategyAt b k .answered)) i n (afterTurns b k i n))
+
+-- records that stand in a list in one piece
+pub record Part (part all : List Record) : Type 0 where
+  pub before : List Record
+  pub behind : List Record
+  pub whole : all ≡ before ++ (part ++ behind)
+
 -- "The starter gets a shared pass, ..": THE END of the auction of strategy k, between b and c. As it comes, every entry of the strategy is as it was in
 -- b, sweeps too, whatever the legs have done (2026-03: "Sweeps already in are not looked at again"); and what it leaves of them is what c has.
-pub record AuctionEnds (b : State) (k : ℕ) (c : State) : Type 0 where
+pub record AuctionEnds (b : State) (k : ℕ) (x : Moved) : Type 0 where
   pub moment : State
+  pub valid : Valid moment
   pub since : Shrinks b moment
   pub auction : strategyAt moment k ≡ strategyAt b k
   pub found : (i : ℕ) → entryAt b i .strategy ≡ k → entryAt moment i ≡ entryAt b i
-  pub leaves : (i : ℕ) → entryAt b i .strategy ≡ k → entryAt c i ≡ entryAt (endAuction k moment .state) i
+  pub leaves : (i : ℕ) → entryAt b i .strategy ≡ k → entryAt (x .state) i ≡ entryAt (endAuction k moment .state) i
+  -- it is the starter's pass, from that state, whose records the event has written
+  pub passed : Part (starterPass k moment .records) (x .records)
 
 -- CLOCK, at time t, from b to what x leaves.
 pub record ClockSentence (b : State) (t : ℕ) (x : Moved) : Type 0 where
@@ -275,7 +355,9 @@ pub record ClockSentence (b : State) (t : ℕ) (x : Moved) : Type 0 where
   -- .. and so every entry of its strategy, and of one without an auction
   pub stays : (i : ℕ) → (strategyAt b (entryAt b i .strategy) .starter ≡ 0) ⊎ (t < strategyAt b (entryAt b i .strategy) .begun + b .timer) → entryAt (x .state) i ≡ entryAt b i
   -- one that ends finds its entries as the clock did
-  pub wholly : (k : ℕ) → Runs b k → strategyAt b k .begun + b .timer ≤ t → AuctionEnds (withClock b t) k (x .state)
+  pub wholly : (k : ℕ) → Runs b k → strategyAt b k .begun + b .timer ≤ t → AuctionEnds (withClock b t) k x
+  -- 2026-04: at each limit of its starter's pass the specialist's sweep, and the rest of its group, get what the request says
+  pub portions : (k : ℕ) (r : Runs b k) (d : strategyAt b k .begun + b .timer ≤ t) (i : ℕ) → Starter (wholly k r d .moment) k i → StarterPortions (wholly k r d .moment) k i
   -- "The starter gets a shared pass", with the legs if nobody answered; "then each other entry accepted meanwhile", sweeps without legs
   pub starterPass : (k : ℕ) → Runs b k → strategyAt b k .begun + b .timer ≤ t → (i : ℕ) → Starter b k i → HadTurn (withClock b t) (x .state) i (not (strategyAt b k .answered))
   pub otherPasses : (k : ℕ) → Runs b k → strategyAt b k .begun + b .timer ≤ t → (i : ℕ) → 0 < entryAt b i .units → entryAt b i .strategy ≡ k → strategyAt b k .starter < entryAt b i .number →
@@ -609,6 +691,23 @@ pub record RangeSentence (b : State) (e : GivenRange) (x : Moved) : Type 0 where
   pub records : x .records ≡ []
   pub value : valueOf b (E.Range e) ≡ 0
 
+-- THE SPECIALIST of a strategy (2026-04), from b to what x leaves.
+pub record SpecialistSentence (b : State) (e : GivenSpecialist) (x : Moved) : Type 0 where
+  -- "It sets the strategy's specialist": "the last one named holds"
+  pub set : strategyAt (x .state) (e .strategy) .specialist ≡ record { member = e .member; percentage = e .percentage }
+  -- nothing else of the strategy, its auction included, and no other strategy
+  pub legs : strategyAt (x .state) (e .strategy) .legs ≡ strategyAt b (e .strategy) .legs
+  pub count : strategyAt (x .state) (e .strategy) .count ≡ strategyAt b (e .strategy) .count
+  pub series : strategyAt (x .state) (e .strategy) .series ≡ strategyAt b (e .strategy) .series
+  pub starter : strategyAt (x .state) (e .strategy) .starter ≡ strategyAt b (e .strategy) .starter
+  pub begun : strategyAt (x .state) (e .strategy) .begun ≡ strategyAt b (e .strategy) .begun
+  pub answered : strategyAt (x .state) (e .strategy) .answered ≡ strategyAt b (e .strategy) .answered
+  pub others : (k : ℕ) → (k ≡ e .strategy → ⊥) → strategyAt (x .state) k ≡ strategyAt b k
+  pub rest : x .state ≡ withStrategies b (x .state .strategies) (b .defined)
+  -- no record, and the value is 0
+  pub records : x .records ≡ []
+  pub value : valueOf b (E.Specialist e) ≡ 0
+
 -- a leg of the event stands in a row of the strategy, its ratio divided by d
 pub record Placed (s : Strategy) (l : Leg) (d : ℕ) : Type 0 where
   pub at : ℕ
@@ -634,6 +733,8 @@ pub record StrategySentence (b : State) (e : GivenStrategy) (n : ℕ) (c : State
   pub others : (k : ℕ) → (k ≡ n → ⊥) → strategyAt c k ≡ strategyAt b k
   pub entries : c .entries ≡ b .entries
   pub orders : c .orders ≡ b .orders
+  -- 2026-04: a new strategy has no specialist yet
+  pub unnamed : (c ≡ b) ⊎ (strategyAt c n .specialist .member ≡ 0)
 
 -- THE SENTENCE OF AN EVENT, from b. An order or leg order is looked at in the state that it has entered.
 abbrev pub Sentence : State → Event → Type 0
@@ -648,6 +749,7 @@ Sentence b (E.Clock e) = ClockSentence b (e .time) (accept b (E.Clock e))
 Sentence b (E.DayEnd e) = DayEndSentence b (e .timer) (accept b (E.DayEnd e))
 Sentence b (E.National e) = NationalSentence b e (accept b (E.National e))
 Sentence b (E.Range e) = RangeSentence b e (accept b (E.Range e))
+Sentence b (E.Specialist e) = SpecialistSentence b e (accept b (E.Specialist e))
 
 -- A STATE OF THE BOOK: valid, and without two sweeps of one member, strategy, side and limit. Every state that frames lead to is one.
 pub record ReachedState (b : State) : Type 0 where
@@ -690,6 +792,10 @@ pub record LegOrderMay (b : State) (e : GivenLegOrder) : Type 0 where
   pub isOpen : has (b .opened) (e .series) ≡ true
   pub slot : sumN (isLegOrderAt b) tableRows < legOrderSlots
   pub number : b .last < 100_000
+
+-- a specialist: its strategy is defined (4)
+abbrev pub SpecialistMay : State → GivenSpecialist → Type 0
+SpecialistMay b e = e .strategy < b .defined
 
 -- national prices: a bid that is not above the offer, or one of them missing (14)
 abbrev pub NationalMay : GivenNational → Type 0

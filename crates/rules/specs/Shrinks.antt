@@ -28,7 +28,7 @@ pub record SameOrder (o p : LegOrder) : Type 0 where
   pub price : p .price ≡ o .price
   pub contracts : p .contracts ≤ o .contracts
 
--- a strategy of which no more than the auction has changed
+-- a strategy of which no more than the auction and the specialist (kind 11) have changed
 pub record SameStrategy (s t : Strategy) : Type 0 where
   pub legs : t .legs ≡ s .legs
   pub count : t .count ≡ s .count

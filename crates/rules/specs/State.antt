@@ -5,6 +5,7 @@ use Prim.Native.Nat.{ℕ}
 use lib.ListN.{getD, replicate}
 use Rattle.rules.specs.Sizes.{strategySlots, seriesCount}
 use Rattle.rules.specs.declared.Leg.{Leg}
+use Rattle.rules.specs.declared.Specialist.{Specialist}
 use Rattle.rules.specs.declared.Strategy.{Strategy}
 use Rattle.rules.specs.declared.Entry.{Entry}
 use Rattle.rules.specs.declared.LegOrder.{LegOrder}
@@ -27,13 +28,17 @@ noOrder = record { number = 0; member = 0; series = 0; side = 0; contracts = 0; 
 abbrev pub noQuote : Quote
 noQuote = record { bid = 0; offer = 0 }
 
+-- no specialist is named
+abbrev pub noSpecialist : Specialist
+noSpecialist = record { member = 0; percentage = 0 }
+
 -- what stands past the table's end
 abbrev pub noStrategy : Strategy
-noStrategy = record { legs = []; count = 0; series = 0; starter = 0; begun = 0; answered = false }
+noStrategy = record { legs = []; count = 0; series = 0; starter = 0; begun = 0; answered = false; specialist = noSpecialist }
 
 -- a free row of the table
 abbrev pub freeStrategy : Strategy
-freeStrategy = record { legs = replicate 6 noLeg; count = 0; series = 0; starter = 0; begun = 0; answered = false }
+freeStrategy = record { legs = replicate 6 noLeg; count = 0; series = 0; starter = 0; begun = 0; answered = false; specialist = noSpecialist }
 
 -- a fresh book of a timer: clock 0, all shut, its tables empty and no number given. 2026-01: "a fresh book has 9,999", and "misses all" national
 -- prices

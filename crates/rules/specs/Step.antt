@@ -16,7 +16,8 @@ use Rattle.rules.specs.Moves.{Moved, still}
 use Rattle.rules.specs.Strategies.{numberOf, define}
 use Rattle.rules.specs.Events.{onOrder, onSweep, onLegOrder, cancelNumber, onSeries, onClock, onDayEnd}
 use Rattle.rules.specs.National.{onNational, onRange}
-use Rattle.rules.specs.Given.{strategyGiven, next, orderGiven, sweepGiven, legOrderGiven, quoteGiven}
+use Rattle.rules.specs.Specialists.{onSpecialist}
+use Rattle.rules.specs.Given.{strategyGiven, next, orderGiven, sweepGiven, legOrderGiven, specialistGiven, quoteGiven}
 use Rattle.rules.specs.Refusals.{refusal}
 
 -- what an event ends in: the answer (0, or the refusal), the value, and what moved
@@ -37,6 +38,7 @@ valueOf b (E.Clock e) = 0
 valueOf b (E.DayEnd e) = 0
 valueOf b (E.National e) = 0
 valueOf b (E.Range e) = 0
+valueOf b (E.Specialist e) = 0
 
 -- what an accepted event does
 unfoldable pub accept : State → Event → Moved
@@ -50,6 +52,7 @@ accept b (E.Clock e) = onClock (e .time) b
 accept b (E.DayEnd e) = onDayEnd (e .timer) b
 accept b (E.National e) = still (onNational (e .series) (quoteGiven e) b)
 accept b (E.Range e) = still (onRange (e .range) b)
+accept b (E.Specialist e) = still (onSpecialist (e .strategy) (specialistGiven e) b)
 
 -- "number only"; "book, space" are left as they were
 unfoldable pub refused : ℕ → State → Outcome

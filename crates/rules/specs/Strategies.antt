@@ -11,7 +11,7 @@ use Rattle.base.specs.Gcd.{gcd}
 use Rattle.rules.specs.declared.Leg.{Leg}
 use Rattle.rules.specs.declared.Strategy.{Strategy}
 use Rattle.rules.specs.declared.State.{State}
-use Rattle.rules.specs.State.{noLeg, strategyAt, legAt, withStrategies}
+use Rattle.rules.specs.State.{noLeg, strategyAt, legAt, withStrategies, noSpecialist}
 
 -- the ratio of the leg at place i; a definition has six rows of legs, the first count in use
 abbrev pub ratioOf : List Leg → ℕ → ℕ
@@ -77,6 +77,7 @@ defined legs count = record {
   starter = 0;
   begun = 0;
   answered = false;
+  specialist = noSpecialist;
 }
 
 -- whether the series of the leg at place i is that of a leg before it

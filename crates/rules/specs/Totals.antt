@@ -19,8 +19,9 @@ use Rattle.events.specs.declared.LegOrder.{LegOrder as GivenLegOrder}
 use Rattle.frames.specs.Frames.{readOf}
 use Rattle.rules.specs.declared.Leg.{Leg}
 use Rattle.rules.specs.declared.Quote.{Quote}
+use Rattle.rules.specs.declared.Specialist.{Specialist}
 use Rattle.rules.specs.declared.State.{State}
-use Rattle.rules.specs.State.{noLeg, noQuote}
+use Rattle.rules.specs.State.{noSpecialist, noLeg, noQuote}
 use Rattle.rules.specs.Sides.{other}
 use Rattle.rules.specs.Strategies.{seriesOf, ratioOf, divisor}
 use Rattle.rules.specs.Given.{legsGiven}
@@ -134,6 +135,7 @@ enters (E.Clock e) n = nothing
 enters (E.DayEnd e) n = nothing
 enters (E.National e) n = nothing
 enters (E.Range e) n = nothing
+enters (E.Specialist e) n = nothing
 
 -- "whose value isn't 0"
 unfoldable pub entersRead : Reading → ℕ → Brought
@@ -220,6 +222,7 @@ isDayEnd (R.Event (E.Clock e)) = false
 isDayEnd (R.Event (E.DayEnd e)) = true
 isDayEnd (R.Event (E.National e)) = false
 isDayEnd (R.Event (E.Range e)) = false
+isDayEnd (R.Event (E.Specialist e)) = false
 
 -- accepted, and a day end
 unfoldable pub endsDay : Logged → Bool
@@ -245,6 +248,7 @@ quoteAfter (R.Event (E.Clock e)) s q = q
 quoteAfter (R.Event (E.DayEnd e)) s q = noQuote
 quoteAfter (R.Event (E.National e)) s q = pick (eqb (e .series) s) (record { bid = e .bid; offer = e .offer }) q
 quoteAfter (R.Event (E.Range e)) s q = q
+quoteAfter (R.Event (E.Specialist e)) s q = q
 
 -- .. and of the execution range, which was r
 unfoldable pub rangeAfter : Reading → ℕ → ℕ
@@ -259,6 +263,7 @@ rangeAfter (R.Event (E.Clock e)) r = r
 rangeAfter (R.Event (E.DayEnd e)) r = 9999
 rangeAfter (R.Event (E.National e)) r = r
 rangeAfter (R.Event (E.Range e)) r = e .range
+rangeAfter (R.Event (E.Specialist e)) r = r
 
 -- the national prices of series s after a list of events, which were q before it: those of the last accepted kind 9 of that series
 unfoldable pub quoted : Quote → List Logged → ℕ → Quote
@@ -269,6 +274,27 @@ quoted q (x ∷ xs) s = quoted (pick (eqb (x .answer) 0) (quoteAfter (x .reading
 unfoldable pub rangeSaid : ℕ → List Logged → ℕ
 rangeSaid r [] = r
 rangeSaid r (x ∷ xs) = rangeSaid (pick (eqb (x .answer) 0) (rangeAfter (x .reading) r) r) xs
+
+-- 2026-04, from the log alone: what an accepted event says of the specialist of strategy k, which was s. "It sets the strategy's specialist until
+-- day end"
+unfoldable pub specialistAfter : Reading → ℕ → Specialist → Specialist
+specialistAfter (R.Refused n) k s = s
+specialistAfter (R.Event (E.Strategy e)) k s = s
+specialistAfter (R.Event (E.Order e)) k s = s
+specialistAfter (R.Event (E.Sweep e)) k s = s
+specialistAfter (R.Event (E.LegOrder e)) k s = s
+specialistAfter (R.Event (E.Cancel e)) k s = s
+specialistAfter (R.Event (E.Series e)) k s = s
+specialistAfter (R.Event (E.Clock e)) k s = s
+specialistAfter (R.Event (E.DayEnd e)) k s = record { member = 0; percentage = 0 }
+specialistAfter (R.Event (E.National e)) k s = s
+specialistAfter (R.Event (E.Range e)) k s = s
+specialistAfter (R.Event (E.Specialist e)) k s = pick (eqb (e .strategy) k) (record { member = e .member; percentage = e .percentage }) s
+
+-- "the last one named holds": the specialist of strategy k after a list of events, which was s before it
+unfoldable pub namedLast : Specialist → List Logged → ℕ → Specialist
+namedLast s [] k = s
+namedLast s (x ∷ xs) k = namedLast (pick (eqb (x .answer) 0) (specialistAfter (x .reading) k s) s) xs k
 
 -- "ratio × price" of the leg at place i of the strategy that event e defined, at these prices by leg: its ratio "divided as above", added for a buy
 -- leg and taken off for a sell leg

@@ -34,6 +34,7 @@ pub record FitStrategy (s : Strategy) : Type 0 where
   pub series : s .series < 2 ^ 32
   pub starter : s .starter ≤ 100_000
   pub begun : s .begun ≤ 86_400_000
+  pub percentage : s .specialist .percentage ≤ 100
 
 pub record FitEntry (e : Entry) : Type 0 where
   pub number : e .number ≤ 100_000

@@ -7,9 +7,15 @@ pub struct Leg {
     pub ratio: u8,
 }
 
+// The specialist of a strategy, 0 where none is named, and the percentage of its portion.
+pub struct Specialist {
+    pub member: u16,
+    pub percentage: u16,
+}
+
 // A strategy: its legs by rising series, `count` of them; its series as a set of 32 bits; the number of the order that
 // started the running auction (0: none runs), the clock at its start, and whether an opposite sweep or waiting order was
-// accepted during it.
+// accepted during it; its specialist.
 pub struct Strategy {
     pub legs: [Leg; 6],
     pub count: u8,
@@ -17,6 +23,7 @@ pub struct Strategy {
     pub series: u32,
     pub starter: u32,
     pub begun: u32,
+    pub specialist: Specialist,
 }
 
 // A complex order, or a sweep (life 4). An entry of 0 units is empty. Its level is the limit in cents and 10,000,000 more.

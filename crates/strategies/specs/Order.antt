@@ -18,7 +18,7 @@ use Rattle.base.specs.Walks.{table, firstN, joinN, table-slot, length-table, fi
 use Rattle.base.specs.Sets.{has, bitAt, setN, lowestOf}
 use Rattle.base.specs.SetLaws.{set-lt, set-has, set-same, has-small, has-ext, has-le, has-add, has-sub, add-lt, lowest-first, size-set, size-ones}
 use Rattle.rules.specs.declared.Leg.{Leg}
-use Rattle.rules.specs.State.{noLeg}
+use Rattle.rules.specs.State.{noLeg, noSpecialist}
 use Rattle.rules.specs.Strategies.{dividedAt, divisor, seriesOf, inSeries, placeOf, present, legsOf, bySeries, padded, seriesSet, lowestTerms, defined}
 use Rattle.tables.specs.Padded.{pad-take, pad-set}
 use Rattle.strategies.specs.declared.Ordered.{Ordered}
@@ -234,7 +234,7 @@ module _ (legs : List Leg) (n : ℕ) (six : length legs ≡ 6) where
 
 -- the strategy by its parts
 pub defined-is : (legs : List Leg) (n : ℕ) {low rows : List Leg} {x : ℕ} → low ≡ lowestTerms legs n → x ≡ seriesSet legs n → rows ≡ padded (bySeries low n)
-    → record { legs = rows; count = ones x; series = x; starter = 0; begun = 0; answered = false } ≡ defined legs n
+    → record { legs = rows; count = ones x; series = x; starter = 0; begun = 0; answered = false; specialist = noSpecialist } ≡ defined legs n
 unfolding defined seriesSet
 defined-is legs n e h g = rw (g, e, h, size-ones (setN (present legs n) 32) (set-lt (present legs n) 32))
 

@@ -10,6 +10,7 @@ use rules::State;
 use rules::Strategy;
 use states::has;
 use tables::NO_LEG;
+use tables::NO_SPECIALIST;
 use terms::leg_at;
 use terms::lowest_terms;
 use terms::place_of;
@@ -113,6 +114,7 @@ pub fn defined(legs: [Leg; 6], count: usize) -> Strategy
         starter: 0,
         begun: 0,
         answered: false,
+        specialist: NO_SPECIALIST,
     }
 }
 

@@ -5,6 +5,7 @@ use rules::Entry;
 use rules::Leg;
 use rules::LegOrder;
 use rules::Quote;
+use rules::Specialist;
 use rules::State;
 use rules::Strategy;
 
@@ -36,6 +37,11 @@ pub const NO_ORDER: LegOrder = LegOrder {
 
 pub const NO_QUOTE: Quote = Quote { bid: 0, offer: 0 };
 
+pub const NO_SPECIALIST: Specialist = Specialist {
+    member: 0,
+    percentage: 0,
+};
+
 // A free row of the table of strategies.
 fn free_strategy() -> Strategy
     ensures { λ s. ⌜ s ≡ freeStrategy ⌝ }
@@ -47,6 +53,7 @@ fn free_strategy() -> Strategy
         starter: 0,
         begun: 0,
         answered: false,
+        specialist: NO_SPECIALIST,
     }
 }
 

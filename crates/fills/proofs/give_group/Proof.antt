@@ -1,5 +1,5 @@
 use borrow.Author.Needs.{needs}
-use Rattle.rules.specs.Quotas.{share}
+use Rattle.rules.specs.Quotas.{shareBeside}
 use Rattle.records.specs.Done.{in-room, in-done}
 use Rattle.fills.specs.Gives.{group-is, entries-fit}
 use Rattle.ranges.specs.Fit.{fit-entry}
@@ -16,20 +16,20 @@ array-copy-out-e c = search needs
 sizes-requires : tie.Need-sizes-requires
 sizes-requires c κs = search needs
 
-share-requires : tie.Need-share-requires
-share-requires c κs = let k = c .before .before in
+share-beside-requires : tie.Need-share-beside-requires
+share-beside-requires c κs = let k = c .before .before in
     let few = entries-fit (k .pre .1) in
     (fit-entry few (k .args .a) .units, rw (c .sizes .ensures) (sizes-most _ _ _ _ few))
 
 give-requires : tie.Need-give-requires
 give-requires c κs = let k = c .before .before .before .before in
-    (k .pre .0, in-room (group-is share _ _ _ (rw (c .before .before .sizes .ensures) at (c .before .share .ensures))) (k .pre .1))
+    (k .pre .0, in-room (group-is (shareBeside _ _) _ _ _ (rw (c .before .before .sizes .ensures) at (c .before .share-beside .ensures))) (k .pre .1))
 
 same-length : tie.Need-same-length
 same-length c = search needs
 
 returns : tie.Need-returns
-returns c = in-done (group-is share _ _ _ (rw (c .before .before .before .before .sizes .ensures) at (c .before .before .before .share .ensures))) (c .before .give .ensures)
+returns c = in-done (group-is (shareBeside _ _) _ _ _ (rw (c .before .before .before .before .sizes .ensures) at (c .before .before .before .share-beside .ensures))) (c .before .give .ensures)
 
 pub give-group-spec : {M : Type 1} → statement M
 give-group-spec =
@@ -38,7 +38,7 @@ give-group-spec =
     mul-e
     array-copy-out-e
     sizes-requires
-    share-requires
+    share-beside-requires
     give-requires
     same-length
     returns)

@@ -25,9 +25,9 @@ give-shared-requires c κs = let k = c .before .before .before in (k .pre .0, in
 enum-told-3 : tie.Need-enum-told-3
 enum-told-3 c = search needs
 
-give-shared-requires-2 : tie.Need-give-shared-requires-2
+give-for-starter-requires : tie.Need-give-for-starter-requires
 unfolding meetLimit
-give-shared-requires-2 c κs = let k = c .before .before .before in (k .pre .0, in-room (λ b _. by-way k (c .before .enum-told3 .given .1) b) (k .pre .1))
+give-for-starter-requires c κs = let k = c .before .before .before in (k .pre .0, in-room (λ b _. by-way k (c .before .enum-told3 .given .1) b) (k .pre .1))
 
 enum-told-4 : tie.Need-enum-told-4
 enum-told-4 c = search needs
@@ -52,7 +52,7 @@ same-length-2 c = search needs
 
 returns-3 : tie.Need-returns-3
 unfolding meetLimit
-returns-3 c = in-done (λ b _. by-way (c .before .before .before .before .before) (c .before .before .before .enum-told3 .given .1) b) (c .before .give-shared2 .ensures)
+returns-3 c = in-done (λ b _. by-way (c .before .before .before .before .before) (c .before .before .before .enum-told3 .given .1) b) (c .before .give-for-starter .ensures)
 
 same-length-3 : tie.Need-same-length-3
 same-length-3 c = search needs
@@ -69,7 +69,7 @@ meet-limit-spec =
     enum-told-2
     give-shared-requires
     enum-told-3
-    give-shared-requires-2
+    give-for-starter-requires
     enum-told-4
     give-in-turn-requires
     returns

@@ -98,6 +98,12 @@ enum-known-event-10 c = search needs
 range-requires : tie.Need-range-requires
 range-requires c κs = asked (c .before .before .before .before .before) (c .before .before .event10 .given .1)
 
+enum-known-event-11 : tie.Need-enum-known-event-11
+enum-known-event-11 c = search needs
+
+specialist-requires : tie.Need-specialist-requires
+specialist-requires c κs = asked (c .before .before .before .before .before) (c .before .before .event11 .given .1)
+
 returns-2 : tie.Need-returns-2
 returns-2 c = stepped-refused _ _ _ (c .before .before .before .before .before .before .before .before .pre) (c .before .before .before .before .before .before .if1 .left) (sym (c .before .before .before .reading .given .1) ∙ c .before .before .before .before .before .read .ensures) (c .refuse2 .ensures)
 
@@ -161,6 +167,12 @@ same-length-10 c = search needs
 returns-12 : tie.Need-returns-12
 returns-12 c = stepped _ _ _ (carried (c .before .before .before .before .before .before .before)) (c .before .before .before .before .event10 .given .1) (c .before .range .ensures)
 
+same-length-11 : tie.Need-same-length-11
+same-length-11 c = search needs
+
+returns-13 : tie.Need-returns-13
+returns-13 c = stepped _ _ _ (carried (c .before .before .before .before .before .before .before)) (c .before .before .before .before .event11 .given .1) (c .before .specialist .ensures)
+
 pub step-spec : {M : Type 1} → statement M
 step-spec =
     tie.close
@@ -191,6 +203,8 @@ step-spec =
     national-requires
     enum-known-event-10
     range-requires
+    enum-known-event-11
+    specialist-requires
     returns-2
     same-length
     returns-3
@@ -211,4 +225,6 @@ step-spec =
     same-length-9
     returns-11
     same-length-10
-    returns-12)
+    returns-12
+    same-length-11
+    returns-13)

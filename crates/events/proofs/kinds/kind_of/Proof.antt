@@ -3,9 +3,9 @@ use Rattle.events.specs.Kinds.{kindOf}
 use Rattle.events.proofs.kinds.kind_of.Statement.{statement}
 use Rattle.events.proofs.kinds.kind_of.Tie as tie
 
-returns-12 : tie.Need-returns-12
+returns-13 : tie.Need-returns-13
 unfolding kindOf
-returns-12 c = search tests
+returns-13 c = search tests
 
 -- at each arm its number, and at the last that it is none of them
 pub kind-of-spec : {M : Type 1} → statement M
@@ -24,4 +24,5 @@ kind-of-spec =
     (λ c. rw (c .match .keys9))
     (λ c. rw (c .match .keys10))
     (λ c. rw (c .match .keys11))
-    returns-12)
+    (λ c. rw (c .match .keys12))
+    returns-13)
