@@ -150,9 +150,23 @@ const ROWS: &[Row] = &[
         known_prices,
         auctions,
     ),
+    (
+        "portion",
+        7,
+        "threes: a starter, a specialist's sweep, end",
+        named,
+        portions,
+    ),
     ("day-end", 8, "of a fresh book", nothing, day_ends),
     ("national", 9, "both prices of a series", nothing, prices),
     ("range", 10, "another range", nothing, ranges),
+    (
+        "specialist",
+        11,
+        "another specialist of a strategy",
+        nothing,
+        specialists,
+    ),
     ("refused", 0, "of an unknown kind", nothing, refused),
 ];
 
@@ -298,6 +312,14 @@ impl Maker {
         self.push(Event::ExecutionRange { cents });
     }
 
+    pub(crate) fn specialist(&mut self, member: u16, strategy: u8, percentage: u8) {
+        self.push(Event::Specialist {
+            member,
+            strategy,
+            percentage,
+        });
+    }
+
     /// The net that an order of this side takes from the legs.
     pub(crate) fn net(&self, strategy: u8, side: u8) -> i32 {
         self.book.leg_net(strategy, side).unwrap_or(0) as i32
@@ -309,6 +331,13 @@ fn nothing(_: &mut Maker, _: usize) {}
 /// National prices as the usual best ones are, and a range that lets all fill.
 fn known_prices(maker: &mut Maker, _: usize) {
     maker.national(CENTRE - AWAY, CENTRE + AWAY, 100);
+}
+
+/// A specialist of each strategy.
+fn named(maker: &mut Maker, _: usize) {
+    for strategy in 0..STRATEGIES as u8 {
+        maker.specialist(201, strategy, 40);
+    }
 }
 
 fn strategies(maker: &mut Maker, index: usize) {
@@ -386,6 +415,15 @@ fn auctions(maker: &mut Maker, index: usize) {
     clocks(maker, index);
 }
 
+/// The same with a sweep that is larger than the starter, so that it is shared.
+fn portions(maker: &mut Maker, index: usize) {
+    let strategy = (index % STRATEGIES) as u8;
+    let limit = maker.net(strategy, SELL) + 1;
+    maker.complex(strategy, BUY, CUSTOMER, IMMEDIATE, limit);
+    maker.sweep(201, strategy, SELL, 5, limit);
+    clocks(maker, index);
+}
+
 fn day_ends(maker: &mut Maker, index: usize) {
     let timer = 1 + (index % 5_000) as u16;
     maker.push(Event::DayEnd { timer });
@@ -403,6 +441,15 @@ fn prices(maker: &mut Maker, index: usize) {
 fn ranges(maker: &mut Maker, index: usize) {
     let cents = (index % 10_000) as u16;
     maker.push(Event::ExecutionRange { cents });
+}
+
+fn specialists(maker: &mut Maker, index: usize) {
+    let strategy = (index % STRATEGIES) as u8;
+    maker.specialist(
+        201 + (index / STRATEGIES % 8) as u16,
+        strategy,
+        (index % 101) as u8,
+    );
 }
 
 fn refused(maker: &mut Maker, _: usize) {

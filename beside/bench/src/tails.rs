@@ -7,7 +7,7 @@ use reckoning::frames::{bytes, Event};
 
 /// The names of the kinds; at 0 stand the events that are refused, whatever kind
 /// their frame has.
-pub const KINDS: [&str; 11] = [
+pub const KINDS: [&str; 12] = [
     "refused",
     "1 strategy",
     "2 complex order",
@@ -19,6 +19,7 @@ pub const KINDS: [&str; 11] = [
     "8 day end",
     "9 national",
     "10 range",
+    "11 specialist",
 ];
 
 /// One event of a day.

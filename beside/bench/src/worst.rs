@@ -66,6 +66,11 @@ const ROWS: &[Row] = &[
         auction_bound,
     ),
     (
+        "portion",
+        "the same end with a specialist's portion",
+        auction_portion,
+    ),
+    (
         "answers",
         "an auction ends: 30 answers are shared, an order takes the rest and 32 leg orders",
         answers,
@@ -341,6 +346,14 @@ fn auction(maker: &mut Maker) {
 fn auction_bound(maker: &mut Maker) {
     maker.strategies();
     maker.national(1, 99_999, 0);
+    end_auction(maker);
+}
+
+/// The last of the 16 sweeps is the specialist's, and the other 15 share with many
+/// units left over. It leaves something of each, too.
+fn auction_portion(maker: &mut Maker) {
+    maker.strategies();
+    maker.specialist(200 + SWEEPS as u16 - 1, LAST, 7);
     end_auction(maker);
 }
 

@@ -6,6 +6,7 @@
 use bench::days::{busy_day, days, names, Frame};
 use bench::worst::long_days;
 use reckoning::book::{Book, SPACE};
+use reckoning::coverage;
 use reckoning::events::Answer;
 use reckoning::national::Bounds;
 use std::collections::{BTreeMap, BTreeSet};
@@ -37,8 +38,8 @@ fn a_busy_day_has_every_kind_and_most_answers() {
             *kinds.entry(frame[2]).or_default() += 1;
         }
     }
-    // The day is of kinds 1 to 8; a few of its damaged frames may be of kind 10.
-    let damaged = kinds.remove(&10).unwrap_or(0);
+    // The day is of kinds 1 to 8; a few of its damaged frames may be of kind 10 or 11.
+    let damaged = kinds.remove(&10).unwrap_or(0) + kinds.remove(&11).unwrap_or(0);
     assert!(damaged < 5, "{damaged}");
     assert_eq!(
         kinds.keys().copied().collect::<Vec<u8>>(),
@@ -148,8 +149,10 @@ fn the_events_of_a_tail_do_what_is_said_of_them() {
         ("clock", 1, &[]),
         ("clock-auction", 3, &[1, 2, 3, 5]),
         ("auction-bound", 3, &[1, 2, 3, 5]),
+        ("portion", 3, &[1, 2, 3, 5]),
         ("national", 1, &[]),
         ("range", 1, &[]),
+        ("specialist", 1, &[]),
         ("refused", 1, &[]),
     ] {
         let days = days(600);
@@ -172,7 +175,7 @@ fn every_kind_has_a_day() {
     let kinds: BTreeSet<u8> = days(1).iter().map(|day| day.kind).collect();
     assert_eq!(
         kinds.into_iter().collect::<Vec<u8>>(),
-        [0, 1, 2, 3, 4, 5, 6, 7, 8, 9, 10]
+        [0, 1, 2, 3, 4, 5, 6, 7, 8, 9, 10, 11]
     );
     let known: BTreeSet<&str> = names().into_iter().collect();
     assert_eq!(known.len(), names().len());
@@ -182,7 +185,7 @@ fn every_kind_has_a_day() {
 /// kind, and of records whole fills, leg fills, cancels, auctions begun and ended.
 #[test]
 fn the_last_event_of_a_long_day_does_what_is_said_of_it() {
-    let rows: [(&str, [usize; 4], usize, u8, [usize; 5]); 12] = [
+    let rows: [(&str, [usize; 4], usize, u8, [usize; 5]); 13] = [
         ("full-book", [16, 16, 16, 31], 16, 6, [0; 5]),
         // 15 limits with 2 whole fills of 6 legs each; 27 leg nets with a whole fill,
         // its 6 legs and 6 leg orders each; what is left is cancelled.
@@ -194,6 +197,7 @@ fn the_last_event_of_a_long_day_does_what_is_said_of_it() {
         ("halt", [16, 16, 16, 32], 16, 6, [0, 0, 32, 0, 16]),
         ("auction", [16, 16, 16, 32], 1, 7, [105, 876, 0, 0, 1]),
         ("auction-bound", [16, 16, 16, 32], 1, 7, [105, 876, 0, 0, 1]),
+        ("portion", [16, 16, 16, 32], 1, 7, [105, 876, 0, 0, 1]),
         ("answers", [16, 16, 16, 32], 1, 7, [147, 1_044, 1, 0, 1]),
         ("auctions", [16, 16, 16, 32], 16, 7, [40, 480, 17, 0, 16]),
         ("day-end", [16, 16, 16, 32], 16, 8, [0, 0, 64, 0, 16]),
@@ -217,6 +221,33 @@ fn the_last_event_of_a_long_day_does_what_is_said_of_it() {
         let count = |kind: i32| answer.records.iter().filter(|r| r.kind == kind).count();
         assert_eq!([1, 2, 3, 4, 5].map(count), written, "{name}");
     }
+}
+
+/// A specialist is named, and its sweep is shared at the auction's end: in the tail it
+/// is alone in its group, in the long day 56 of 801 are its portion.
+#[test]
+fn a_specialist_has_its_portion() {
+    let days = days(600);
+    let day = |name: &str| days.iter().find(|day| day.name == name).expect(name);
+    let mut book = Book::first();
+    play(&mut book, &day("portion").head);
+    assert!(book.specialists.iter().all(Option::is_some));
+    coverage::take();
+    play(&mut book, &day("portion").tail);
+    let reached = coverage::take();
+    assert_eq!(reached.get("portion: of the whole group"), Some(&200));
+
+    let long = long_days();
+    let day = |name: &str| long.iter().find(|day| day.name == name).expect(name);
+    let fills = |name: &str| -> Vec<i32> {
+        let answers = play(&mut Book::first(), &day(name).frames);
+        let last = answers.last().expect(name);
+        let whole = last.records.iter().filter(|r| r.kind == 1 && r.side == 1);
+        whole.take(16).map(|record| record.quantity).collect()
+    };
+    assert_eq!(fills("auction"), [vec![51], vec![50; 15]].concat());
+    let shared = [vec![50; 10], vec![49; 5], vec![56]].concat();
+    assert_eq!(fills("portion"), shared);
 }
 
 /// The last 13 events of the full book: refusals, then an event of each kind.

@@ -48,14 +48,14 @@ fn the_least_of_each_event_is_kept() {
 
 #[test]
 fn the_kind_of_an_event() {
-    for kind in 1..=10 {
+    for kind in 1..=11 {
         assert_eq!(kind_of(&[4, 0, kind, 0], 0), kind);
         assert_eq!(kind_of(&[6, 0, kind, 0, 1, 1], 0), kind);
         assert_eq!(kind_of(&[4, 0, kind, 0], 3), 0);
         let name = KINDS[usize::from(kind)];
         assert!(name.starts_with(&format!("{kind} ")), "{name}");
     }
-    for none in [&[4, 0, 0, 0][..], &[4, 0, 11, 0], &[4, 0, 1, 1], &[4, 0]] {
+    for none in [&[4, 0, 0, 0][..], &[4, 0, 12, 0], &[4, 0, 1, 1], &[4, 0]] {
         assert_eq!(kind_of(none, 0), 0, "{none:?}");
     }
     assert_eq!(KINDS[0], "refused");

@@ -1,6 +1,7 @@
 //! Lists made by hand: spaces of every sort, ends of the input, long frames, depths
 //! of leg orders in every order, and the days of `tapes` with full tables, numbers at
-//! the ends of their ranges, national prices, best prices and sweeps near the nets.
+//! the ends of their ranges, national prices, best prices, sweeps near the nets and
+//! specialists.
 
 use crate::lists::List;
 use reckoning::book::{Book, BUY, LEG_ORDERS, SELL, SPACE};
@@ -9,7 +10,7 @@ use reckoning::frames::{bytes, Event};
 use reckoning::generate::LAST_KIND;
 use reckoning::lists::Input;
 use tapes::days::Day;
-use tapes::hand::{best_prices, example, extremes, full_tables, national, near_nets};
+use tapes::hand::{best_prices, example, extremes, full_tables, national, near_nets, specialists};
 use tapes::tally::frames;
 
 fn made(name: impl Into<String>, bytes: Vec<u8>) -> List {
@@ -255,6 +256,87 @@ pub fn refused_sweeps() -> Vec<List> {
     lists
 }
 
+/// Lists that end with an auction of a specialist (2026-04): market makers' day orders
+/// and sweeps at one limit, of which the orders keep what the starter leaves; or before
+/// its end, with the sweeps live. Each kind 11 comes with too short a space first, for
+/// another member, and one that is refused 4 stands before the strategy.
+pub fn portions() -> Vec<List> {
+    let order = |member, side, class, life, units, limit| Event::Complex {
+        member,
+        strategy: 0,
+        side,
+        class,
+        life,
+        units,
+        limit,
+    };
+    let mut lists = Vec::new();
+    for percentage in [0, 10, 40, 55, 100] {
+        for place in 0..3 {
+            for ended in [true, false] {
+                let named = |member| Event::Specialist {
+                    member,
+                    strategy: 0,
+                    percentage,
+                };
+                let mut calls = whole(&[
+                    &[8, 0, 11, 0, 3, 0, 0, 100],
+                    &[6, 0, 6, 0, 0, 1],
+                    &[6, 0, 6, 0, 1, 1],
+                    &[11, 0, 1, 0, 2, 0, 0, 1, 1, 1, 1],
+                ]);
+                let mut push = |event: &Event, space| calls.extend(call(&bytes(event), space));
+                for (series, side, price) in
+                    [(0, BUY, 300), (0, SELL, 305), (1, BUY, 100), (1, SELL, 103)]
+                {
+                    let leg_order = Event::LegOrder {
+                        member: 7,
+                        series,
+                        side,
+                        contracts: 9,
+                        price,
+                    };
+                    push(&leg_order, SPACE);
+                }
+                // Number 5, and then the starter.
+                push(&order(1, SELL, 3, 0, 7, 202), SPACE);
+                push(&order(9, BUY, 1, 0, 20, 204), SPACE);
+                for at in 0..3 {
+                    if at == place {
+                        push(&named(2), SPACE);
+                        push(&named(3), SPACE - 1);
+                        let sweep = Event::Sweep {
+                            member: 2,
+                            strategy: 0,
+                            side: SELL,
+                            units: 9,
+                            limit: 202,
+                        };
+                        push(&sweep, SPACE);
+                    }
+                    push(&order(2 + at, SELL, 3, 0, 7, 202), SPACE);
+                    let sweep = Event::Sweep {
+                        member: 3,
+                        strategy: 0,
+                        side: SELL,
+                        units: 6,
+                        limit: 202,
+                    };
+                    push(&sweep, SPACE);
+                }
+                if ended {
+                    let milliseconds = 5_000;
+                    push(&Event::Clock { milliseconds }, SPACE);
+                }
+                let name =
+                    format!("a portion, {percentage} per cent, place {place}, ended {ended}");
+                lists.push(made(name, calls));
+            }
+        }
+    }
+    lists
+}
+
 /// A day as calls, whole and up to the call after which the most is live.
 fn of_day(day: &Day) -> Vec<List> {
     let bytes = day.bytes();
@@ -278,5 +360,6 @@ pub fn days() -> Vec<List> {
     days.extend(national());
     days.extend(best_prices());
     days.extend(near_nets());
+    days.extend(specialists());
     days.iter().flat_map(of_day).collect()
 }

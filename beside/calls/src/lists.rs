@@ -16,12 +16,12 @@ use std::fmt;
 #[derive(Clone, Debug, PartialEq, Eq)]
 pub enum List {
     /// A list of the reckoning's generator with further calls in it, ended where
-    /// the book is in a certain state. Two of three have kinds 9 and 10.
+    /// the book is in a certain state. Two of three have kinds 9 to 11.
     Generated { seed: u64, events: usize, end: End },
     /// A list that gives all 100,000 numbers and goes on.
     EveryNumber { seed: u64 },
     /// Several days, a day end after each but the last; two of three have kinds 9
-    /// and 10.
+    /// to 11.
     Several { seed: u64, days: u64, end: End },
     /// Frames of any sort one after the other, most of them refused, with spaces
     /// of any length.
@@ -50,9 +50,11 @@ pub enum End {
     Full,
     /// Orders rest crossed, since the range keeps them apart.
     Crossed,
+    /// A specialist's sweep is live.
+    Specialist,
 }
 
-pub const ENDS: [End; 8] = [
+pub const ENDS: [End; 9] = [
     End::Anywhere,
     End::Auctions,
     End::Sweeps,
@@ -61,6 +63,7 @@ pub const ENDS: [End; 8] = [
     End::Depth,
     End::Full,
     End::Crossed,
+    End::Specialist,
 ];
 
 impl End {
@@ -98,6 +101,7 @@ impl End {
                     || book.leg_orders.len() == LEG_ORDERS
             }
             End::Crossed => (book.live_numbers().into_iter()).any(|n| rests_crossed(book, n)),
+            End::Specialist => book.sweeps().any(|sweep| is_specialist_s(book, sweep)),
         }
     }
 }
@@ -120,6 +124,12 @@ pub fn best_orders(book: &Book, series: u8, side: u8) -> usize {
 /// Whether the sweep would be refused 15 if it came now.
 pub fn is_passed(book: &Book, sweep: &Entry) -> bool {
     book.betters_own_net(sweep.strategy, sweep.side, sweep.limit) == Some(false)
+}
+
+/// Whether the sweep is that of its strategy's specialist.
+pub fn is_specialist_s(book: &Book, sweep: &Entry) -> bool {
+    let named = book.specialists[usize::from(sweep.strategy)];
+    named.is_some_and(|named| named.holds(sweep))
 }
 
 /// Whether the order rests in an open strategy without an auction, beside an
@@ -258,7 +268,7 @@ fn ended(seed: u64, mut list: Vec<Input>, end: End) -> Vec<Input> {
     list
 }
 
-/// A list of the generator, with kinds 9 and 10 for two seeds of three.
+/// A list of the generator, with kinds 9 to 11 for two seeds of three.
 fn some_list(seed: u64, events: usize, options: Options) -> Vec<Input> {
     match seed % 3 {
         0 => list(seed, events, options),

@@ -2,7 +2,7 @@
 //! sort, the lines of the lookups by what they tell, and the situations that the
 //! book reached.
 
-use crate::lists::{best_orders, is_passed, rests_crossed};
+use crate::lists::{best_orders, is_passed, is_specialist_s, rests_crossed};
 use reckoning::book::{Book, BUY, SPACE};
 use reckoning::calls::items;
 use reckoning::national::FRESH_RANGE;
@@ -45,6 +45,7 @@ pub const SEEN: &[&str] = &[
     "L in a list without a sweep",
     "L of a complex order",
     "L of a leg order",
+    "L of a specialist's sweep",
     "L of a sweep",
     "L of a sweep that the net has passed",
     "L of an auction's starter",
@@ -60,9 +61,11 @@ pub const SEEN: &[&str] = &[
     "list: all tables but the strategies are used",
     "list: an auction runs",
     "list: another range than 9,999",
+    "list: a specialist is named",
     "list: every lookup is empty",
     "list: national prices are known",
     "list: several auctions run",
+    "list: several specialists are named",
     "list: 16 complex orders",
     "list: 16 strategies",
     "list: 16 sweeps",
@@ -159,6 +162,9 @@ impl Tally {
             book.national.range != FRESH_RANGE,
             "list: another range than 9,999",
         );
+        let named = book.specialists.iter().flatten().count();
+        self.see_if(named > 0, "list: a specialist is named");
+        self.see_if(named > 1, "list: several specialists are named");
         self.see_if(
             tables[..3].iter().all(|(held, _, _)| *held > 0),
             "list: all tables but the strategies are used",
@@ -181,6 +187,10 @@ impl Tally {
         self.see_if(
             sweep.is_some_and(|sweep| is_passed(book, sweep)),
             "L of a sweep that the net has passed",
+        );
+        self.see_if(
+            sweep.is_some_and(|sweep| is_specialist_s(book, sweep)),
+            "L of a specialist's sweep",
         );
         self.see_if(leg, "L of a leg order");
         self.see_if(starter, "L of an auction's starter");

@@ -5,7 +5,9 @@
 #![deny(warnings)]
 
 use calls::agree::agrees;
-use calls::hand::{days, depths, ends, last_numbers, long_frames, refused_sweeps, spaces};
+use calls::hand::{
+    days, depths, ends, last_numbers, long_frames, portions, refused_sweeps, spaces,
+};
 use calls::lists::{any_frames, every_number, generated, several_days, List};
 use calls::tally::{Tally, SEEN};
 use reckoning::coverage::{LAST_SITUATIONS, SITUATIONS};
@@ -57,6 +59,7 @@ const ANSWERS: &[(u32, &[u32])] = &[
     (8, &[0, 1, 2, 3]),
     (9, &[0, 1, 2, 3, 14]),
     (10, &[0, 1, 2, 3]),
+    (11, &[0, 1, 2, 3, 4]),
     (OTHER, &[1, 2]),
 ];
 
@@ -85,11 +88,11 @@ fn generated_lists() {
         let count = tally.saw(what);
         assert!(count >= 20, "{what}: {count}");
     }
-    for kind in [9, 10] {
+    for kind in [9, 10, 11] {
         let count = tally.of(kind, 0);
         assert!(count >= 10_000, "accepted calls of kind {kind}: {count}");
     }
-    assert!(SITUATIONS.len() >= 165);
+    assert!(SITUATIONS.len() >= 219);
     for situation in SITUATIONS {
         let count = tally.reached(situation);
         assert!(count >= 50, "{situation}: {count}");
@@ -105,7 +108,7 @@ fn lists_that_give_every_number() {
         let count = tally.of(kind, 13);
         assert!(count >= 20, "kind {kind}, answer 13: {count}");
     }
-    assert!(tally.of(9, 0) >= 100 && tally.of(10, 0) >= 50);
+    assert!(tally.of(9, 0) >= 100 && tally.of(10, 0) >= 50 && tally.of(11, 0) >= 50);
     for situation in LAST_SITUATIONS {
         let count = tally.reached(situation);
         assert!(count >= 3, "{situation}: {count}");
@@ -138,6 +141,7 @@ fn several_days_in_a_row() {
         "S with one shut leg",
         "D of bids",
         "list: national prices are known",
+        "list: a specialist is named",
     ] {
         assert!(tally.saw(what) >= 20, "{what}");
     }
@@ -202,6 +206,25 @@ fn sweeps_that_are_refused_15() {
     ] {
         let count = tally.saw(what);
         assert!(count >= 50, "{what}: {count}");
+    }
+}
+
+#[test]
+fn what_a_specialist_leaves_to_the_others() {
+    let lists = portions();
+    let tally = agreed("portions", &lists);
+    assert_eq!(lists.len(), 30);
+    for (answer, count) in [(0, 30), (1, 30), (4, 30)] {
+        assert_eq!(tally.of(11, answer), count, "answer {answer}");
+    }
+    for what in ["L of a complex order", "L of a specialist's sweep"] {
+        let count = tally.saw(what);
+        assert!(count >= 15, "{what}: {count}");
+    }
+    let shared = ["by the share", "by the percentage", "by its size"];
+    for situation in shared.map(|by| format!("portion: {by}")) {
+        let count = tally.reached(&situation);
+        assert!(count >= 2, "{situation}: {count}");
     }
 }
 

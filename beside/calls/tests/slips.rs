@@ -5,13 +5,13 @@
 #![deny(warnings)]
 
 use calls::agree::{agrees, difference, reckoned};
-use calls::hand::{days, depths, ends, last_numbers, refused_sweeps, spaces};
+use calls::hand::{days, depths, ends, last_numbers, portions, refused_sweeps, spaces};
 use calls::lists::{generated, several_days, List};
 use std::fs;
 use std::path::Path;
 use std::time::Duration;
 use tapes::program::Program;
-use tapes::slips::{built, Slip};
+use tapes::slips::{built, missed, Slip};
 
 const SLIPS: &[Slip] = &[
     // Live quantity.
@@ -466,6 +466,73 @@ const SLIPS: &[Slip] = &[
         "[1, 2, 3, 14, 4, 5, 6, 7, 8, 9, 10, 15, 11, 12, 13]",
         "[1, 2, 3, 14, 4, 5, 6, 7, 8, 9, 10, 11, 12, 15, 13]",
     ),
+    // Request 2026-04.
+    (
+        "a specialist named by a call refused 1",
+        "events.rs",
+        "        let event = read(frame);\n",
+        "        let event = read(frame);\n        if let (true, Ok(Event::Specialist { member, strategy, percentage })) = (space < SPACE, &event) {\n            if self.defined(*strategy) {\n                let (member, percentage) = (*member, *percentage);\n                self.specialists[usize::from(*strategy)] = Some(Specialist { member, percentage });\n            }\n        }\n",
+    ),
+    (
+        "a specialist refused 4 and kept",
+        "events.rs",
+        "            (first, _) => {\n",
+        "            (first, event) => {\n                if let (Some(4), Ok(Event::Specialist { member, strategy, percentage })) = (first, event) {\n                    self.specialists[usize::from(strategy)] = Some(Specialist { member, percentage });\n                }\n",
+    ),
+    (
+        "refusal 1 after 4",
+        "events.rs",
+        "match (causes.first(), event) {",
+        "let undefined = Causes(causes.0 & 1 << 4).first();\n        match (undefined.or(causes.first()), event) {",
+    ),
+    (
+        "no portion",
+        "auctions.rs",
+        "            Holders::Shared(self.specialists[usize::from(strategy)]),\n",
+        "            Holders::Shared(None),\n",
+    ),
+    (
+        "a part in the leftovers of the whole group",
+        "specialist.rs",
+        "        let portion = self.portion(remaining, group[place].units, sum(group));\n",
+        "        let mut old = group.to_vec();\n        share(remaining, &mut old);\n        let portion = self.portion(remaining, group[place].units, sum(group)).max(old[place].units);\n",
+    ),
+    (
+        "the percentage rounded up",
+        "specialist.rs",
+        "        let part = u32::from(self.percentage) * remaining / 100;\n",
+        "        let part = (u32::from(self.percentage) * remaining).div_ceil(100);\n",
+    ),
+    (
+        "the specialist last",
+        "specialist.rs",
+        "        group[place..].rotate_right(1);\n",
+        "",
+    ),
+    (
+        "specialists kept over the day end",
+        "events.rs",
+        "        *self = Book::fresh(timer);\n",
+        "        let specialists = self.specialists;\n        *self = Book::fresh(timer);\n        self.specialists = specialists;\n",
+    ),
+    (
+        "the first one named holds",
+        "events.rs",
+        "                self.specialists[usize::from(strategy)] = Some(Specialist { member, percentage });\n",
+        "                let named = &mut self.specialists[usize::from(strategy)];\n                named.get_or_insert(Specialist { member, percentage });\n",
+    ),
+    (
+        "percentage 101 accepted",
+        "frames.rs",
+        "member >= 1 && strategy <= 15 && percentage <= 100",
+        "member >= 1 && strategy <= 15 && percentage <= 101",
+    ),
+    (
+        "live quantity without the specialists' sweeps",
+        "calls.rs",
+        "    for number in book.live_numbers() {\n",
+        "    let named = |number: &u32| book.entry(*number).is_some_and(|entry| book.specialists[usize::from(entry.strategy)].is_some_and(|named| named.holds(&entry)));\n    for number in book.live_numbers().into_iter().filter(|number| !named(number)) {\n",
+    ),
 ];
 
 /// A part of the lists that the proved program is compared on.
@@ -478,6 +545,7 @@ fn lists() -> Vec<List> {
     lists.extend(depths());
     lists.extend(last_numbers());
     lists.extend(refused_sweeps().into_iter().step_by(5));
+    lists.extend(portions());
     lists
 }
 
@@ -491,18 +559,14 @@ fn slips_in_calls_are_found() {
     if let Err(different) = agrees(&program, &lists) {
         panic!("without an edit: {different}");
     }
-    let mut missed = Vec::new();
-    for slip in SLIPS {
-        let mut program = Program::new(built(&folder, "calls", slip), &[]);
+    let missed = missed(&folder, "calls", SLIPS, |built| {
+        let mut program = Program::new(built, &[]);
         program.limit = Duration::from_secs(60);
-        match agrees(&program, &lists) {
-            Ok(_) => missed.push(slip.0),
-            Err(different) => println!("{}: {different}", slip.0),
-        }
-    }
+        agrees(&program, &lists).err().map(|different| different.to_string())
+    });
     assert!(missed.is_empty(), "slips not found: {missed:#?}");
     println!("slips found: {}", SLIPS.len());
-    assert!(SLIPS.len() >= 74);
+    assert!(SLIPS.len() >= 85);
 }
 
 #[test]

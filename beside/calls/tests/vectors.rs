@@ -70,3 +70,8 @@ fn every_vector_of_2026_01_gives_its_lines() {
 fn every_vector_of_2026_03_gives_its_lines() {
     give_their_lines("2026-03-", 1);
 }
+
+#[test]
+fn every_vector_of_2026_04_gives_its_lines() {
+    give_their_lines("2026-04-", 4);
+}

@@ -1,5 +1,5 @@
-//! The fields of each kind as document 01 and request 2026-01 list them, for making
-//! inputs.
+//! The fields of each kind as document 01 and requests 2026-01 and 2026-04 list them,
+//! for making inputs.
 
 use crate::random::Random;
 
@@ -44,9 +44,10 @@ const TIMER: Field = field("timer", 2, 1, 5_000);
 const NATIONAL_BID: Field = field("national bid", 4, 0, 99_999);
 const NATIONAL_OFFER: Field = field("national offer", 4, 0, 99_999);
 const RANGE: Field = field("range", 2, 0, 9_999);
+const PERCENTAGE: Field = field("percentage", 1, 0, 100);
 
 /// The highest kind there is.
-pub const LAST: u32 = 10;
+pub const LAST: u32 = 11;
 
 /// The fields of a kind in frame order; those of a strategy for this count.
 pub fn fields(kind: u32, count: usize) -> Vec<Field> {
@@ -67,6 +68,7 @@ pub fn fields(kind: u32, count: usize) -> Vec<Field> {
         8 => vec![TIMER],
         9 => vec![SERIES, NATIONAL_BID, NATIONAL_OFFER],
         10 => vec![RANGE],
+        11 => vec![MEMBER, STRATEGY, PERCENTAGE],
         _ => vec![],
     }
 }

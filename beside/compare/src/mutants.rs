@@ -7,7 +7,7 @@ use crate::rows::{numbers_used, read, write, Row};
 const KINDS: usize = LAST as usize + 2;
 
 /// A judge by a table of lengths and fields. As `Table::right` has it, it is that of
-/// document 01 and of request 2026-01; the mutants change one entry.
+/// document 01 and of requests 2026-01 and 2026-04; the mutants change one entry.
 #[derive(Clone)]
 pub struct Table {
     /// The length of each kind, of a strategy without legs; 0 for an unknown kind.
@@ -191,6 +191,7 @@ pub fn judges() -> Vec<(String, Table)> {
         (KINDS - 1, 6),
         (KINDS - 1, 9),
         (KINDS - 1, 10),
+        (KINDS - 1, 11),
     ] {
         let name = format!("kind {unknown} is taken as {known}");
         add(name, &|table| {

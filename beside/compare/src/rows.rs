@@ -105,6 +105,11 @@ pub fn event_of(row: &Row) -> Option<Event> {
             offer: row[3],
         },
         10 => Event::ExecutionRange { cents: two(1)? },
+        11 => Event::Specialist {
+            member: two(1)?,
+            strategy: byte(2)?,
+            percentage: byte(3)?,
+        },
         _ => return None,
     })
 }
@@ -157,7 +162,7 @@ fn single_values(visit: Visit) -> Result<(), String> {
     Ok(())
 }
 
-/// Kinds that are not 1 to 10, and valid events under another kind.
+/// Kinds that are not 1 to 11, and valid events under another kind.
 fn other_kinds(visit: Visit) -> Result<(), String> {
     let mut random = Random::new(12);
     for (kind, fields) in shapes() {
@@ -197,7 +202,7 @@ fn legs_past_the_count(visit: Visit) -> Result<(), String> {
 }
 
 /// Valid events, events with some values near the ends of their ranges, and
-/// rows of any numbers; in kinds 2 to 10 also with numbers after the fields.
+/// rows of any numbers; in kinds 2 to 11 also with numbers after the fields.
 fn random_rows(visit: Visit) -> Result<(), String> {
     let mut random = Random::new(14);
     let near = |random: &mut Random, field: &Field| match random.byte() % 16 {

@@ -50,6 +50,56 @@ fn national_prices_and_the_range() {
     }
 }
 
+/// Request 2026-04: "a member (2) and a strategy (1), both as in kind 2, and a
+/// percentage (1) 0–100; length 8". That the strategy is defined is for the book.
+#[test]
+fn a_specialist() {
+    for (frame, event) in [
+        ([8, 0, 11, 0, 1, 0, 0, 0], [11, 1, 0, 0]),
+        ([8, 0, 11, 0, 2, 1, 15, 100], [11, 258, 15, 100]),
+        ([8, 0, 11, 0, 255, 255, 7, 60], [11, 65_535, 7, 60]),
+    ] {
+        assert_eq!(judge(&frame), 0);
+        let mut values = [7; 20];
+        assert_eq!(read_into(&frame, &mut values), 0);
+        assert_eq!(values[..4], event);
+        assert_eq!(values[4..], [0; 16]);
+        let mut space = [9; 10];
+        assert_eq!(write_from(&values, &mut space), 8);
+        assert_eq!(space[..8], frame);
+        assert_eq!(space[8..], [9, 9]);
+        assert_eq!(write_from(&values, &mut space[..7]), 1);
+    }
+    // Each field past its ends; a frame of 7 and of 9 bytes.
+    for (frame, answer) in [
+        (&[8, 0, 11, 0, 0, 0, 0, 0][..], 3),
+        (&[8, 0, 11, 0, 1, 0, 16, 0], 3),
+        (&[8, 0, 11, 0, 1, 0, 0, 101], 3),
+        (&[8, 0, 11, 0, 1, 0, 0, 255], 3),
+        (&[7, 0, 11, 0, 1, 0, 0], 2),
+        (&[9, 0, 11, 0, 1, 0, 0, 0, 0], 2),
+        (&[9, 0, 11, 0, 0, 0, 16, 101, 0], 2),
+        (&[8, 0, 12, 0, 1, 0, 0, 0], 2),
+    ] {
+        assert_eq!(judge(frame), answer, "{frame:?}");
+        let mut values = [7; 20];
+        assert_eq!(read_into(frame, &mut values), answer, "{frame:?}");
+        assert_eq!(values, [7; 20]);
+    }
+    for numbers in [
+        [0, 0, 0],
+        [65_536, 0, 0],
+        [1, 16, 0],
+        [1, 0, 101],
+        [1, 256, 0],
+    ] {
+        let mut values = [0; 20];
+        values[0] = 11;
+        values[1..4].copy_from_slice(&numbers);
+        assert_eq!(write_from(&values, &mut [9; 10]), 3, "{numbers:?}");
+    }
+}
+
 #[test]
 fn under_20_numbers_are_refused_1_by_the_reader() {
     for count in 0..20 {

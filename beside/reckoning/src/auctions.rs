@@ -21,12 +21,14 @@ impl Book {
 
     /// "The starter gets a shared pass, legs barred if any opposite sweep or
     /// waiting order was accepted meanwhile. Then each other entry accepted
-    /// meanwhile, by number, gets a numbered pass; sweeps never use legs."
+    /// meanwhile, by number, gets a numbered pass; sweeps never use legs." Request
+    /// 2026-04: the starter's pass alone knows the strategy's specialist, the one
+    /// named last.
     fn end_auction(&mut self, strategy: u8, records: &mut Vec<Record>) {
         let auction = self.auctions[usize::from(strategy)].expect("the auction runs");
         self.pass(
             auction.starter,
-            Holders::Shared,
+            Holders::Shared(self.specialists[usize::from(strategy)]),
             !auction.legs_barred,
             records,
         );

@@ -4,6 +4,7 @@ use crate::frames::Leg;
 use crate::national::National;
 use crate::nets::{add_slot, add_to_pair};
 use crate::records::Record;
+use crate::specialist::Specialist;
 use crate::table::Table;
 
 /// "Tables: 16 strategies, 16 complex orders, 16 sweeps, 32 leg orders."
@@ -146,6 +147,8 @@ pub struct Book {
     pub given: u32,
     /// The national prices and the execution range.
     pub national: National,
+    /// The specialist of each strategy, if one was named today.
+    pub specialists: [Option<Specialist>; STRATEGIES],
 }
 
 /// Some of the strategies; they come by rising number.
@@ -195,6 +198,7 @@ impl Book {
             auctions: [None; STRATEGIES],
             given: 0,
             national: National::default(),
+            specialists: [None; STRATEGIES],
         }
     }
 

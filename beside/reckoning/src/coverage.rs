@@ -12,6 +12,7 @@ use crate::nets::{net, LegPrice};
 use crate::passes::{meets, strictly_better, Given, Holders};
 use crate::records::{Record, AUCTION_BEGUN, AUCTION_ENDED, CANCELLED, LEG_FILL, WHOLE_FILL};
 use std::cell::{Cell, RefCell};
+use std::cmp::Ordering;
 use std::collections::{BTreeMap, BTreeSet};
 
 thread_local! {
@@ -60,11 +61,13 @@ pub const SITUATIONS: &[&str] = &[
     "complex: the net meets and is not ready",
     "complex: the pass stops at the range",
     "complex: waits in an auction",
+    "day end: a specialist is named",
     "day end: an auction ends",
     "day end: national prices and a range are set",
     "day end: several auctions end",
     "end: a day starter rests",
     "end: a later pass meets an order from before",
+    "end: a later pass meets the specialist's sweep",
     "end: a later pass meets the starter's rest",
     "end: a sweep fills that the net has passed",
     "end: a sweep that the net has passed is cancelled",
@@ -76,6 +79,8 @@ pub const SITUATIONS: &[&str] = &[
     "end: an immediate starter is cancelled",
     "end: legs barred by what is gone",
     "end: legs barred for the starter",
+    "end: the specialist's portion after fills at another limit",
+    "end: the specialist's sweep in full, then its portion at another limit",
     "end: the starter fills by both",
     "end: the starter fills by legs only",
     "end: the starter fills whole only",
@@ -115,6 +120,38 @@ pub const SITUATIONS: &[&str] = &[
     "opening: matches, then fills by legs",
     "opening: orders fill by legs",
     "opening: several strategies match",
+    "portion: a percentage that is rounded down",
+    "portion: after customers, less than the percentage of all",
+    "portion: all that remains, beside others",
+    "portion: as by the old rule",
+    "portion: at 0 per cent",
+    "portion: at 100 per cent",
+    "portion: before a market maker's order of its member",
+    "portion: behind a market maker's order of its member",
+    "portion: beside a sweep of another strategy's specialist",
+    "portion: broker-dealers behind the group",
+    "portion: by its size",
+    "portion: by the percentage",
+    "portion: by the share",
+    "portion: in another strategy than 0",
+    "portion: more than by the old rule",
+    "portion: nothing of what remains",
+    "portion: nothing remains after customers",
+    "portion: of one between others",
+    "portion: of the first in its group",
+    "portion: of the last in its group",
+    "portion: of the whole group",
+    "portion: one unit less than by the old rule",
+    "portion: the rest alone would not be shared",
+    "portion: the rest is filled in full",
+    "portion: the rest leaves a holder without a unit",
+    "portion: the rest shares, a unit left over",
+    "portion: the rest shares, no unit left over",
+    "portion: the rest shares, several units left over",
+    "portion: the share equals the percentage",
+    "portion: to a buying starter",
+    "portion: to a selling starter",
+    "portion: to a starter of its own member",
     "range: 0",
     "range: narrowed",
     "range: widened",
@@ -128,6 +165,24 @@ pub const SITUATIONS: &[&str] = &[
     "share: three groups at one limit",
     "shut: an auction ends",
     "shut: several auctions end",
+    "specialist: 0 per cent",
+    "specialist: 1 to 99 per cent",
+    "specialist: 100 per cent",
+    "specialist: 4 of a strategy that is not defined",
+    "specialist: a market maker's order of its member, without a sweep, in a shared group",
+    "specialist: an order of its member in a group that an arriving order shares",
+    "specialist: another member named",
+    "specialist: another member named in an auction",
+    "specialist: another member named in an auction with a sweep of the old one",
+    "specialist: its sweep in a group that is not shared",
+    "specialist: named",
+    "specialist: named beside a shut series",
+    "specialist: named in an auction",
+    "specialist: named in an auction with a sweep of its member",
+    "specialist: named in two strategies",
+    "specialist: named once more as it was",
+    "specialist: no entry of its member in a shared group",
+    "specialist: the same member at another percentage",
     "stop: after fills",
     "stop: another limit could fill",
     "stop: in a legs-only pass",
@@ -279,6 +334,230 @@ pub fn count_allotment(holders: &[Entry], fills: &[Given]) {
     );
 }
 
+/// Counts what a specialist's sweep and orders meet at one limit, and what they were
+/// given (2026-04).
+pub fn count_specialist(
+    book: &Book,
+    active: &Entry,
+    holders: &[Entry],
+    how: Holders,
+    fills: &[Given],
+) {
+    if counting() {
+        specialist(book, active, holders, how, fills);
+    }
+}
+
+#[cold]
+fn specialist(book: &Book, active: &Entry, holders: &[Entry], how: Holders, fills: &[Given]) {
+    let (Holders::Shared(known), Some(named)) =
+        (how, book.specialists[usize::from(active.strategy)])
+    else {
+        return;
+    };
+    let given = |holder: &Entry| {
+        let own = fills.iter().find(|fill| fill.number == holder.number);
+        own.map_or(0, |fill| fill.units)
+    };
+    let in_group = |group: u8| holders.iter().filter(move |holder| holder.group == group);
+    let customers: u32 = in_group(0).map(given).sum();
+    let remaining = active.units - customers;
+    let group: Vec<Entry> = in_group(1).copied().collect();
+    let total: u32 = group.iter().map(|holder| holder.units).sum();
+    let shared = total > remaining;
+    let own = |holder: &Entry| holder.member == named.member;
+    if known.is_none() {
+        return reach_if(
+            shared && remaining > 0 && group.iter().any(own) && group.len() > 1,
+            "specialist: an order of its member in a group that an arriving order shares",
+        );
+    }
+    let place = group.iter().position(|holder| named.holds(holder));
+    let Some(place) = place else {
+        return match group.iter().any(own) {
+            true => reach_if(
+                shared && remaining > 0,
+                "specialist: a market maker's order of its member, without a sweep, in a shared group",
+            ),
+            false => reach_if(
+                shared && remaining > 0,
+                "specialist: no entry of its member in a shared group",
+            ),
+        };
+    };
+    if !shared {
+        return reach("specialist: its sweep in a group that is not shared");
+    }
+    if remaining == 0 {
+        return reach("portion: nothing remains after customers");
+    }
+    let sweep = group[place];
+    let portion = given(&sweep);
+    let size = sweep.units;
+    let floor = |holder: &Entry| u64::from(remaining) * u64::from(holder.units) / u64::from(total);
+    let share = floor(&sweep) as u32;
+    let hundredths = |of: u32| u32::from(named.percentage) * of;
+    let part = hundredths(remaining) / 100;
+    if part > size {
+        reach("portion: by its size");
+    } else {
+        reach(match part.cmp(&share) {
+            Ordering::Less => "portion: by the share",
+            Ordering::Equal => "portion: the share equals the percentage",
+            Ordering::Greater => "portion: by the percentage",
+        });
+        reach_if(
+            part > share && hundredths(remaining) % 100 > 0,
+            "portion: a percentage that is rounded down",
+        );
+    }
+    reach_if(named.percentage == 0, "portion: at 0 per cent");
+    reach_if(named.percentage == 100, "portion: at 100 per cent");
+    reach_if(portion == 0, "portion: nothing of what remains");
+    let of_all = size.min(share.max(hundredths(active.units) / 100));
+    reach_if(
+        customers > 0 && portion < of_all,
+        "portion: after customers, less than the percentage of all",
+    );
+    // By the old rule it would have a part in the leftovers.
+    let floors: u64 = group.iter().map(floor).sum();
+    let left_over = u64::from(remaining) - floors;
+    let by_old_rule = share + u32::from((place as u64) < left_over);
+    reach(match portion.cmp(&by_old_rule) {
+        Ordering::Less => "portion: one unit less than by the old rule",
+        Ordering::Equal => "portion: as by the old rule",
+        Ordering::Greater => "portion: more than by the old rule",
+    });
+    reach(match (place, group.len() - 1 - place) {
+        (0, 0) => "portion: of the whole group",
+        (0, _) => "portion: of the first in its group",
+        (_, 0) => "portion: of the last in its group",
+        _ => "portion: of one between others",
+    });
+    reach_if(
+        group[..place].iter().any(own),
+        "portion: behind a market maker's order of its member",
+    );
+    reach_if(
+        group[place + 1..].iter().any(own),
+        "portion: before a market maker's order of its member",
+    );
+    let elsewhere = |holder: &Entry| {
+        let mut others = book.specialists.iter().flatten();
+        holder.number != sweep.number && others.any(|other| other.holds(holder))
+    };
+    reach_if(
+        group.iter().any(elsewhere),
+        "portion: beside a sweep of another strategy's specialist",
+    );
+    reach_if(
+        in_group(2).next().is_some(),
+        "portion: broker-dealers behind the group",
+    );
+    reach_if(active.strategy > 0, "portion: in another strategy than 0");
+    reach_if(
+        active.member == named.member,
+        "portion: to a starter of its own member",
+    );
+    reach(match active.side {
+        BUY => "portion: to a buying starter",
+        _ => "portion: to a selling starter",
+    });
+    let rest: Vec<Entry> = (group.iter().copied())
+        .filter(|holder| holder.number != sweep.number)
+        .collect();
+    let (left, rest_total) = (remaining - portion, total - size);
+    reach_if(
+        rest_total <= remaining && !rest.is_empty(),
+        "portion: the rest alone would not be shared",
+    );
+    if rest.is_empty() {
+        return;
+    }
+    reach_if(left == 0, "portion: all that remains, beside others");
+    reach_if(
+        left > 0 && rest_total == left,
+        "portion: the rest is filled in full",
+    );
+    if left > 0 && rest_total > left {
+        let floors = |holder: &Entry| u64::from(left) * u64::from(holder.units);
+        let floors: u64 = (rest.iter())
+            .map(|holder| floors(holder) / u64::from(rest_total))
+            .sum();
+        reach(match u64::from(left) - floors {
+            0 => "portion: the rest shares, no unit left over",
+            1 => "portion: the rest shares, a unit left over",
+            _ => "portion: the rest shares, several units left over",
+        });
+        reach_if(
+            rest.iter().any(|holder| given(holder) == 0),
+            "portion: the rest leaves a holder without a unit",
+        );
+    }
+}
+
+/// Counts an event of kind 11, as its answer tells (2026-04).
+fn count_named(before: &Book, event: &Event, answer: u32) {
+    let Event::Specialist {
+        member,
+        strategy,
+        percentage,
+    } = *event
+    else {
+        return;
+    };
+    if answer != 0 {
+        return reach_if(
+            answer == 4,
+            "specialist: 4 of a strategy that is not defined",
+        );
+    }
+    reach(match percentage {
+        0 => "specialist: 0 per cent",
+        100 => "specialist: 100 per cent",
+        _ => "specialist: 1 to 99 per cent",
+    });
+    let old = before.specialists[usize::from(strategy)];
+    let another = old.is_some_and(|old| old.member != member);
+    reach(match old {
+        None => "specialist: named",
+        Some(_) if another => "specialist: another member named",
+        Some(old) if old.percentage != percentage => {
+            "specialist: the same member at another percentage"
+        }
+        _ => "specialist: named once more as it was",
+    });
+    let mut others = before.specialists.iter().enumerate();
+    reach_if(
+        others.any(|(at, other)| {
+            at != usize::from(strategy) && other.is_some_and(|other| other.member == member)
+        }),
+        "specialist: named in two strategies",
+    );
+    reach_if(
+        !before.all_open(strategy),
+        "specialist: named beside a shut series",
+    );
+    let Some(auction) = before.auctions[usize::from(strategy)] else {
+        return;
+    };
+    let has_sweep = |member: u16| {
+        (before.sweeps()).any(|sweep| {
+            (sweep.strategy, sweep.member) == (strategy, member) && sweep.side != auction.side
+        })
+    };
+    reach("specialist: named in an auction");
+    reach_if(
+        has_sweep(member),
+        "specialist: named in an auction with a sweep of its member",
+    );
+    reach_if(another, "specialist: another member named in an auction");
+    reach_if(
+        another && old.is_some_and(|old| has_sweep(old.member)),
+        "specialist: another member named in an auction with a sweep of the old one",
+    );
+}
+
 /// A turn of a pass, as it was chosen.
 pub struct Turn {
     pub holders: Holders,
@@ -299,8 +578,8 @@ pub fn count_turn(turn: &Turn) {
     let (legs, leg_net, whole) = (turn.by_legs, turn.leg_net, turn.whole);
     reach(match (turn.holders, legs) {
         (Holders::Nobody, _) => "turn: legs in a legs-only pass",
-        (Holders::Shared, true) => "turn: legs in a shared pass",
-        (Holders::Shared, false) => "turn: whole in a shared pass",
+        (Holders::Shared(_), true) => "turn: legs in a shared pass",
+        (Holders::Shared(_), false) => "turn: whole in a shared pass",
         (Holders::Numbered, true) => "turn: legs in a numbered pass",
         (Holders::Numbered, false) => "turn: whole in a numbered pass",
     });
@@ -367,7 +646,7 @@ pub fn count_stop(book: &Book, active: &Entry, turn: &Turn, filled: bool) {
     let auction = book.auction_runs(active.strategy);
     match turn.holders {
         Holders::Nobody => reach("stop: in a legs-only pass"),
-        Holders::Shared => {
+        Holders::Shared(_) => {
             reach("stop: in a shared pass");
             reach(match auction {
                 true => "end: the starter's pass stops at the range",
@@ -920,12 +1199,13 @@ fn count_net_moves(before: &Book, event: &Event, after: &Book) {
 }
 
 /// Counts the situations of one event, from the book before it and after it, and its
-/// answer: of a refused one those of a sweep.
+/// answer: of a refused one those of a sweep or of kind 11.
 pub fn observe(before: &Book, frame: &[u8], answer: &Answer, after: &Book) {
     let Ok(event) = read(frame) else {
         return;
     };
     count_sweep(before, &event, answer.answer);
+    count_named(before, &event, answer.answer);
     if answer.answer != 0 {
         return;
     }
@@ -1048,6 +1328,10 @@ pub fn observe(before: &Book, frame: &[u8], answer: &Answer, after: &Book) {
                 national.known() != 0 && national.range != FRESH_RANGE,
                 "day end: national prices and a range are set",
             );
+            reach_if(
+                before.specialists.iter().any(Option::is_some),
+                "day end: a specialist is named",
+            );
         }
         Event::NationalPrices { series, bid, offer } => {
             reach(match (bid, offer) {
@@ -1072,6 +1356,7 @@ pub fn observe(before: &Book, frame: &[u8], answer: &Answer, after: &Book) {
                 "range: widened where orders rest crossed",
             );
         }
+        Event::Specialist { .. } => {}
     }
 }
 
@@ -1137,6 +1422,37 @@ fn count_end(before: &Book, records: &[Record], ended: Record, after: &Book) {
     reach_if(by_legs && !whole, "end: the starter fills by legs only");
     reach_if(whole && by_legs, "end: the starter fills by both");
     let is_sweep = |number: u32| before.sweeps().any(|sweep| sweep.number == number);
+    if let Some(named) = before.specialists[usize::from(strategy)] {
+        let holds = |number: u32| {
+            before
+                .entry(number)
+                .is_some_and(|entry| named.holds(&entry))
+        };
+        let met = |fill: &&&Fill| fill.other.is_some_and(holds);
+        // What of a sweep the starter left, it left by its portion.
+        let left = |fill: &Fill| {
+            let later = |record: &&Record| fill.other == Some(record.number as u32);
+            let own = records.iter().filter(later);
+            let filled = own.filter(|r| r.kind == WHOLE_FILL).count();
+            let cancelled = |record: &Record| later(&record) && record.kind == CANCELLED;
+            filled > 1 || records.iter().any(cancelled)
+        };
+        let sweeps: Vec<&&Fill> = own.iter().filter(met).collect();
+        if let Some(last) = sweeps.last().filter(|fill| left(fill)) {
+            reach_if(
+                own.iter().any(|fill| fill.price != last.price),
+                "end: the specialist's portion after fills at another limit",
+            );
+            reach_if(
+                sweeps.iter().any(|fill| fill.price != last.price),
+                "end: the specialist's sweep in full, then its portion at another limit",
+            );
+        }
+        reach_if(
+            others.iter().any(|fill| met(&fill)),
+            "end: a later pass meets the specialist's sweep",
+        );
+    }
     for fill in others {
         reach_if(fill.other.is_none(), "end: a waiting order uses legs");
         reach_if(is_sweep(fill.active), "end: a sweep's own pass fills");

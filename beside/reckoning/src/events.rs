@@ -1,5 +1,5 @@
 //! Document 01, "Refusals by cause" and "Events"; kinds 9 and 10 and refusal 14
-//! of request 2026-01; refusal 15 of request 2026-03.
+//! of request 2026-01; refusal 15 of request 2026-03; kind 11 of request 2026-04.
 
 use crate::book::{
     Auction, Book, Entry, LegOrder, BROKER_DEALER, BUY, COMPLEX_ORDERS, CUSTOMER, DAY,
@@ -12,6 +12,7 @@ use crate::national::crossed;
 use crate::nets::{normal, refused_5};
 use crate::passes::{meets, Holders};
 use crate::records::{Record, AUCTION_BEGUN, LEG_FILL};
+use crate::specialist::Specialist;
 
 /// What an event answers: 0 and a value, or the number of a refusal.
 #[derive(Clone, Debug, Default, PartialEq, Eq)]
@@ -174,6 +175,12 @@ impl Book {
                 }
             }
             Event::ExecutionRange { .. } => {}
+            // "an undefined strategy gets 4".
+            Event::Specialist { strategy, .. } => {
+                if !self.defined(strategy) {
+                    causes.add(4);
+                }
+            }
         }
     }
 
@@ -322,6 +329,16 @@ impl Book {
                 self.national.range = u32::from(cents);
                 0
             }
+            // "It sets the strategy's specialist until day end; the last one named
+            // holds".
+            Event::Specialist {
+                member,
+                strategy,
+                percentage,
+            } => {
+                self.specialists[usize::from(strategy)] = Some(Specialist { member, percentage });
+                0
+            }
         }
     }
 
@@ -382,7 +399,7 @@ impl Book {
             });
         } else {
             // "Else a shared pass; then day rests, others are cancelled."
-            self.pass(number, Holders::Shared, true, records);
+            self.pass(number, Holders::Shared(None), true, records);
             if life != Some(DAY) {
                 self.cancel_live(number, records);
             }

@@ -1,5 +1,5 @@
 //! Document 01, "Frames": reading, judging and writing of frames; kinds 9 and 10
-//! of request 2026-01.
+//! of request 2026-01, kind 11 of request 2026-04.
 
 /// "per leg series (1) 0–31, side (1), ratio (1) 1–12".
 #[derive(Clone, Copy, Debug, Default, PartialEq, Eq)]
@@ -53,6 +53,13 @@ pub enum Event {
     NationalPrices { series: u8, bid: u32, offer: u32 },
     /// Kind 10, of request 2026-01: "the range in cents (2), 0–9,999".
     ExecutionRange { cents: u16 },
+    /// Kind 11, of request 2026-04: "a member (2) and a strategy (1), both as in kind
+    /// 2, and a percentage (1) 0–100".
+    Specialist {
+        member: u16,
+        strategy: u8,
+        percentage: u8,
+    },
 }
 
 /// Refusal 1: the space is too short.
@@ -94,6 +101,7 @@ fn length_of_kind(frame: &[u8], kind: u16) -> Result<usize, u32> {
         8 => Ok(6),
         9 => Ok(13),
         10 => Ok(6),
+        11 => Ok(8),
         _ => Err(BAD_FRAME),
     }
 }
@@ -159,6 +167,11 @@ fn decode(frame: &[u8], kind: u16) -> Result<Event, u32> {
         },
         10 => Event::ExecutionRange {
             cents: two(frame, 4),
+        },
+        11 => Event::Specialist {
+            member: two(frame, 4),
+            strategy: frame[6],
+            percentage: frame[7],
         },
         _ => return Err(BAD_FRAME),
     })
@@ -228,6 +241,11 @@ fn fields_in_range(event: &Event) -> bool {
             series <= 31 && bid <= 99_999 && offer <= 99_999
         }
         Event::ExecutionRange { cents } => cents <= 9_999,
+        Event::Specialist {
+            member,
+            strategy,
+            percentage,
+        } => member >= 1 && strategy <= 15 && percentage <= 100,
     }
 }
 
@@ -346,11 +364,21 @@ pub fn values(event: &Event) -> (u32, [i64; 19]) {
             list[0] = i64::from(cents);
             10
         }
+        Event::Specialist {
+            member,
+            strategy,
+            percentage,
+        } => {
+            list[0] = i64::from(member);
+            list[1] = i64::from(strategy);
+            list[2] = i64::from(percentage);
+            11
+        }
     };
     (kind, list)
 }
 
-/// The widths in bytes of the fields of kinds 2 to 10, in frame order.
+/// The widths in bytes of the fields of kinds 2 to 11, in frame order.
 fn widths(kind: u32) -> &'static [usize] {
     match kind {
         2 => &[2, 1, 1, 1, 1, 2, 4],
@@ -362,6 +390,7 @@ fn widths(kind: u32) -> &'static [usize] {
         8 => &[2],
         9 => &[1, 4, 4],
         10 => &[2],
+        11 => &[2, 1, 1],
         _ => &[],
     }
 }

@@ -50,9 +50,9 @@ impl Random {
 }
 
 /// The highest kind there is.
-pub const LAST_KIND: u32 = 10;
+pub const LAST_KIND: u32 = 11;
 
-/// The lowest and highest value of each field of kinds 2 to 10, in frame order.
+/// The lowest and highest value of each field of kinds 2 to 11, in frame order.
 fn field_ranges(kind: u32) -> &'static [(i64, i64)] {
     const LIMIT: (i64, i64) = (-9_999_999, 9_999_999);
     match kind {
@@ -73,11 +73,12 @@ fn field_ranges(kind: u32) -> &'static [(i64, i64)] {
         8 => &[(1, 5_000)],
         9 => &[(0, 31), (0, 99_999), (0, 99_999)],
         10 => &[(0, 9_999)],
+        11 => &[(1, 65_535), (0, 15), (0, 100)],
         _ => &[],
     }
 }
 
-/// The event of a kind from 2 to 10 with these values in frame order. A value
+/// The event of a kind from 2 to 11 with these values in frame order. A value
 /// past its field's width keeps its low bytes.
 fn event_of(kind: u32, list: &[i64]) -> Event {
     match kind {
@@ -123,8 +124,13 @@ fn event_of(kind: u32, list: &[i64]) -> Event {
             bid: list[1] as u32,
             offer: list[2] as u32,
         },
-        _ => Event::ExecutionRange {
+        10 => Event::ExecutionRange {
             cents: list[0] as u16,
+        },
+        _ => Event::Specialist {
+            member: list[0] as u16,
+            strategy: list[1] as u8,
+            percentage: list[2] as u8,
         },
     }
 }
@@ -385,7 +391,7 @@ pub fn frames(seed: u64, amount: usize) -> Vec<Vec<u8>> {
             list.push(frame_of(1, &body));
         }
     }
-    // Every length from 0 to 64 for every kind from 0 to 11, fields zero, one
+    // Every length from 0 to 64 for every kind from 0 to 12, fields zero, one
     // or random; the first bytes alone where the length is under 4.
     for length in 0..=64usize {
         for kind in 0..=LAST_KIND as u16 + 1 {
@@ -422,7 +428,7 @@ pub fn frames(seed: u64, amount: usize) -> Vec<Vec<u8>> {
             2 => 12,
             3 | 4 => 10,
             5 => 6,
-            7 => 4,
+            7 | 11 => 4,
             9 => 9,
             _ => 2,
         };

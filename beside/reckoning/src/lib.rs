@@ -1,5 +1,5 @@
 //! A second implementation of the complex book of document 01 with requests
-//! 2026-01 to 2026-03 of document 02, written for comparison with the engine:
+//! 2026-01 to 2026-04 of document 02, written for comparison with the engine:
 //! plain structures, one function per sentence.
 
 #![forbid(unsafe_code)]
@@ -17,6 +17,7 @@ pub mod national;
 pub mod nets;
 pub mod passes;
 pub mod records;
+pub mod specialist;
 pub mod table;
 pub mod tape;
 pub mod totals;

@@ -1,11 +1,12 @@
 //! Lists of events made from a seed. The maker keeps a book of its own, so that
 //! it can choose limits near the nets, members and numbers that exist, national
-//! prices near the own ones, and so reach auctions, sharing, halts, openings, full
-//! tables, passes that stop at the range, and sweeps that better nothing.
+//! prices near the own ones, specialists among the sweeps, and so reach auctions,
+//! sharing, halts, openings, full tables, passes that stop at the range, sweeps that
+//! better nothing, and specialists' portions.
 
 use crate::book::{
-    Book, Entry, BUY, COMPLEX_ORDERS, CUSTOMER, DAY, DO_NOT_AUCTION, IMMEDIATE, LAST_NUMBER,
-    LEG_ORDERS, MARKET_MAKER, RESPONSE, SELL, SPACE, STRATEGIES, SWEEPS,
+    Book, Entry, BROKER_DEALER, BUY, COMPLEX_ORDERS, CUSTOMER, DAY, DO_NOT_AUCTION, IMMEDIATE,
+    LAST_NUMBER, LEG_ORDERS, MARKET_MAKER, RESPONSE, SELL, SPACE, STRATEGIES, SWEEPS,
 };
 use crate::frames::{bytes, judge, read, Event, Leg};
 use crate::generate::{damaged_frame_up_to, edge_event, valid_event, Random, LAST_KIND};
@@ -37,8 +38,8 @@ pub fn list(seed: u64, events: usize, options: Options) -> Vec<Input> {
     made(Maker::new(seed, options), events)
 }
 
-/// The same with kinds 9 and 10 of request 2026-01, and with sweeps made to be
-/// refused 15.
+/// The same with kinds 9 and 10 of request 2026-01, with sweeps made to be refused
+/// 15, and with kind 11 of request 2026-04.
 pub fn national_list(seed: u64, events: usize, options: Options) -> Vec<Input> {
     made(Maker::new(seed, options).with_national(seed), events)
 }
@@ -78,7 +79,7 @@ pub fn better_sweep(book: &Book, frame: &[u8]) -> Option<Event> {
     None
 }
 
-/// Whether the streams and long lists of the seed have kinds 9 and 10, and sweeps
+/// Whether the streams and long lists of the seed have kinds 9 to 11, and sweeps
 /// made to be refused 15.
 fn has_national(seed: u64) -> bool {
     !seed.is_multiple_of(4)
@@ -147,7 +148,7 @@ struct Maker {
     members: i64,
     /// How often series shut, in parts of 1,000 random events.
     halts: usize,
-    /// Where kinds 9 and 10 come: what chooses when, and how often of 8 times
+    /// Where kinds 9 to 11 come: what chooses when, and how often of 8 times
     /// national prices stay when their phase is over.
     national: Option<Random>,
     stays: usize,
@@ -207,7 +208,7 @@ impl Maker {
         }
     }
 
-    /// The same maker, for a list with kinds 9 and 10.
+    /// The same maker, for a list with kinds 9 to 11.
     fn with_national(mut self, seed: u64) -> Maker {
         let mut random = Random::new(seed ^ 0x2026_0001_9E15_0A17);
         self.stays = random.pick(&[0, 0, 1, 4]);
@@ -215,8 +216,8 @@ impl Maker {
         self
     }
 
-    /// Whether national prices come now: `part` times in `whole` where they come
-    /// at all.
+    /// Whether something of the requests comes now: `part` times in `whole` where it
+    /// comes at all.
     fn national_now(&mut self, part: usize, whole: usize) -> bool {
         (self.national.as_mut()).is_some_and(|random| random.chance(part, whole))
     }
@@ -224,7 +225,7 @@ impl Maker {
     /// The kinds of single events, without a day end.
     fn kinds(&self) -> &'static [u32] {
         match self.national {
-            Some(_) => &[1, 2, 3, 4, 5, 6, 7, 9, 10],
+            Some(_) => &[1, 2, 3, 4, 5, 6, 7, 9, 10, 11],
             None => &[1, 2, 3, 4, 5, 6, 7],
         }
     }
@@ -242,6 +243,9 @@ impl Maker {
             }
             if self.national_now(1, 5) {
                 self.net_phase();
+            }
+            if self.national_now(1, 4) {
+                self.specialist_phase();
             }
             match self.random.below(20) {
                 0..=7 => {
@@ -627,6 +631,10 @@ impl Maker {
             let series = self.some_series();
             return self.series_event(series, 0);
         }
+        if self.national_now(1, 100) {
+            let (strategy, member) = (self.some_strategy(), self.member());
+            return self.specialist_event(strategy, member);
+        }
         if self.national_now(self.stays, 100) {
             return match self.random.below(3) {
                 0 => self.range_event(),
@@ -681,12 +689,12 @@ impl Maker {
         self.push_frame(frame, SPACE);
     }
 
-    /// An event made for one of the refusals 1 to 11, or 14.
+    /// An event made for one of the refusals 1 to 11, or 14, of any kind.
     fn refused_event(&mut self) {
         let strategy = self.some_strategy();
         let side = self.random.range(0, 1) as u8;
         let member = self.member();
-        let cases = if self.national.is_some() { 13 } else { 11 };
+        let cases = if self.national.is_some() { 15 } else { 11 };
         match self.random.below(cases) {
             0 => {
                 if self.options.loose {
@@ -762,6 +770,11 @@ impl Maker {
                 });
             }
             11..=12 => self.crossed_event(),
+            13..=14 => {
+                let first = self.book.strategies.len().min(15) as i64;
+                let undefined = self.random.range(first, 15) as u8;
+                self.specialist_event(undefined, member);
+            }
             _ => {
                 let milliseconds = self.book.clock.saturating_sub(1);
                 self.push(Event::Clock { milliseconds });
@@ -1482,6 +1495,215 @@ impl Maker {
         };
         let member = self.random.range(1, 9) as u16;
         self.push_sweep(member, strategy, side, units, limit as i32);
+    }
+
+    /// Kind 11 with this strategy and member.
+    fn specialist_event(&mut self, strategy: u8, member: u16) {
+        let percentage = match self.random.below(6) {
+            0 => 0,
+            1 => 100,
+            2..=3 => self.random.pick(&[10, 20, 25, 33, 40, 50, 60]),
+            _ => self.random.range(1, 99) as u8,
+        };
+        self.push(Event::Specialist {
+            member,
+            strategy,
+            percentage,
+        });
+    }
+
+    /// The strategy with its specialist: a member of these few, or one of another
+    /// strategy's.
+    fn name_specialist(&mut self, strategy: u8) {
+        let member = self.random.range(1, 5) as u16;
+        self.specialist_event(strategy, member);
+        let named = self.book.specialists[usize::from(strategy)];
+        if let Some(named) = named.filter(|_| self.random.chance(1, 10)) {
+            self.push(Event::Specialist {
+                member: named.member,
+                strategy,
+                percentage: named.percentage,
+            });
+        }
+        if self.random.chance(1, 4) {
+            let (other, member) = (self.some_strategy(), self.random.range(1, 5) as u16);
+            self.specialist_event(other, member);
+        }
+    }
+
+    /// An auction with a specialist: entries of a few members at one limit and at a
+    /// better one, often more than the starter takes. It is named before the auction or
+    /// in it, and sometimes another takes its place.
+    fn specialist_phase(&mut self) {
+        if self.book.strategies.is_empty() {
+            return self.strategy_event();
+        }
+        let strategy = self.some_strategy();
+        if self.random.chance(1, 12) && !self.book.auction_runs(strategy) {
+            let leg = self.book.legs(strategy)[0];
+            self.series_event(leg.series, 0);
+            self.name_specialist(strategy);
+        }
+        self.make_ready(strategy);
+        if self.random.chance(5, 6) {
+            self.name_specialist(strategy);
+        }
+        if self.random.chance(1, 6) {
+            self.shared_arrival(strategy);
+        }
+        for _ in 0..3 {
+            if !self.book.auction_runs(strategy) {
+                self.start_auction(strategy);
+            }
+        }
+        let Some(auction) = self.book.auctions[usize::from(strategy)] else {
+            return;
+        };
+        let Some(starter) = self.book.entry(auction.starter) else {
+            return;
+        };
+        let side = 1 - auction.side;
+        // What meets the starter and betters the net of its own side.
+        let limit = i64::from(starter.limit);
+        let limit = match (self.book.leg_net(strategy, 1 - side), side) {
+            (Some(net), BUY) => limit.max(net + 1),
+            (Some(net), _) => limit.min(net - 1),
+            (None, _) => limit,
+        };
+        let better = if side == BUY { limit + 1 } else { limit - 1 };
+        let entries = self.random.pick(&[1, 2, 3, 4, 5, 6, 9]);
+        self.make_complex_room(entries + 2);
+        let one_limit = self.random.chance(2, 3);
+        for _ in 0..entries {
+            let at = if one_limit || self.random.chance(2, 3) {
+                limit
+            } else {
+                better
+            };
+            self.group_entry(strategy, side, at as i32, starter.units);
+        }
+        let named = self.book.specialists[usize::from(strategy)];
+        match named.filter(|_| self.random.chance(5, 6)) {
+            Some(named) if self.random.chance(1, 5) => {
+                let units = self.one_too_many(&starter, limit as i32);
+                self.push_sweep(named.member, strategy, side, units, limit as i32);
+            }
+            Some(named) => {
+                let units = self.group_units(starter.units);
+                self.push_sweep(named.member, strategy, side, units, limit as i32);
+                if !one_limit && self.random.chance(1, 2) {
+                    let units = self.random.range(1, 2) as u16;
+                    self.push_sweep(named.member, strategy, side, units, better as i32);
+                }
+                for _ in 0..self.random.below(4) {
+                    self.group_entry(strategy, side, limit as i32, starter.units);
+                }
+                if self.random.chance(1, 6) {
+                    let units = self.group_units(starter.units);
+                    self.push(Event::Complex {
+                        member: named.member,
+                        strategy,
+                        side,
+                        class: MARKET_MAKER,
+                        life: RESPONSE,
+                        units,
+                        limit: limit as i32,
+                    });
+                }
+            }
+            None => {}
+        }
+        if self.random.chance(1, 3) {
+            self.name_specialist(strategy);
+        }
+        // One of the starter's side, for what the others have left.
+        if self.random.chance(1, 3) {
+            let life = self.random.pick(&[IMMEDIATE, RESPONSE]);
+            self.complex_event(strategy, auction.side, MARKET_MAKER, life, limit as i32);
+        }
+        if self.random.chance(9, 10) {
+            let milliseconds = (self.book.clock + self.book.timer).min(86_400_000);
+            self.push(Event::Clock { milliseconds });
+        }
+    }
+
+    /// Units that make the group one larger than what a starter leaves it, if that is
+    /// one or more.
+    fn one_too_many(&self, starter: &Entry, limit: i32) -> u16 {
+        let opposite = (self.book.entries_of(starter.strategy))
+            .filter(|entry| entry.side != starter.side && entry.group < 2);
+        let at_limit = opposite.filter(|entry| entry.limit == limit);
+        let others: u32 = at_limit.map(|entry| entry.units).sum();
+        (starter.units + 1).saturating_sub(others).clamp(1, 9_999) as u16
+    }
+
+    /// Units of an entry beside a starter of so many.
+    fn group_units(&mut self, starter: u32) -> u16 {
+        let starter = i64::from(starter);
+        let units = match self.random.below(8) {
+            0..=1 => self.random.range(1, 3),
+            2..=4 => self.random.range(1, starter),
+            5 => self.random.range(starter, 2 * starter),
+            6 => starter / 2,
+            _ => i64::from(self.some_units()),
+        };
+        units.clamp(1, 9_999) as u16
+    }
+
+    /// An answer to an auction at this limit: mostly a sweep, of one of few members.
+    fn group_entry(&mut self, strategy: u8, side: u8, limit: i32, starter: u32) {
+        let member = self.random.range(1, 5) as u16;
+        let units = self.group_units(starter);
+        let class = match self.random.below(10) {
+            0..=5 => return self.push_sweep(member, strategy, side, units, limit),
+            6..=7 => MARKET_MAKER,
+            8 => CUSTOMER,
+            _ => BROKER_DEALER,
+        };
+        let units = match class {
+            CUSTOMER => units.min(1 + starter as u16 / 2),
+            _ => units,
+        };
+        let life = self.random.pick(&[DAY, IMMEDIATE, RESPONSE]);
+        self.push(Event::Complex {
+            member,
+            strategy,
+            side,
+            class,
+            life,
+            units,
+            limit,
+        });
+    }
+
+    /// Market makers' day orders at one limit, and an order of another that shares
+    /// them on its arrival.
+    fn shared_arrival(&mut self, strategy: u8) {
+        if self.book.auction_runs(strategy) {
+            return;
+        }
+        let side = self.random.range(0, 1) as u8;
+        let limit = match (self.book.leg_net(strategy, 1 - side), side) {
+            (Some(net), BUY) => net + 1,
+            (Some(net), _) => net - 1,
+            (None, _) => i64::from(self.some_limit(strategy)),
+        };
+        let limit = limit as i32;
+        let entries = self.random.range(2, 4) as usize;
+        self.make_complex_room(entries + 1);
+        for member in 1..=entries as u16 {
+            let units = self.some_units();
+            self.push(Event::Complex {
+                member,
+                strategy,
+                side,
+                class: MARKET_MAKER,
+                life: DAY,
+                units,
+                limit,
+            });
+        }
+        self.complex_event(strategy, 1 - side, MARKET_MAKER, IMMEDIATE, limit);
     }
 
     /// Sweeps until their table is full, and some near the nets.

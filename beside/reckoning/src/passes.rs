@@ -1,18 +1,22 @@
-//! Document 01, "Passes", within the bounds of request 2026-01.
+//! Document 01, "Passes", within the bounds of request 2026-01, with the specialist's
+//! portion of request 2026-04.
 
 use crate::book::{Book, Entry, BUY, COMPLEX_ORDERS, DAY, ENTRIES};
 use crate::coverage::{
-    count_allotment, count_leftover, count_leg_fill, count_stop, count_turn, count_unready, Turn,
+    count_allotment, count_leftover, count_leg_fill, count_specialist, count_stop, count_turn,
+    count_unready, Turn,
 };
 use crate::nets::{net, ready, side_taken, LegPrice};
 use crate::records::{Record, LEG_FILL, WHOLE_FILL};
+use crate::specialist::Specialist;
 use crate::table::Table;
 
 /// How the holders of one limit are met.
 #[derive(Clone, Copy, Debug, PartialEq, Eq)]
 pub enum Holders {
-    /// "In a shared pass one limit's holders go in groups".
-    Shared,
+    /// "In a shared pass one limit's holders go in groups"; in a starter's pass with
+    /// the strategy's specialist, if it has one.
+    Shared(Option<Specialist>),
     /// "In a numbered pass they go by number alone."
     Numbered,
     /// A pass by legs only meets no holder.
@@ -77,41 +81,58 @@ fn in_turn(remaining: u32, group: &mut [Given]) {
 }
 
 /// The units of a group.
-fn sum(group: &[Given]) -> u32 {
+pub fn sum(group: &[Given]) -> u32 {
     group.iter().map(|given| given.units).sum()
 }
 
 /// What each holder of one limit gives, in the order of the fills. The holders
 /// stand by number.
 pub fn allot(holders: &[Entry], how: Holders, units: u32) -> Table<Given, ENTRIES> {
-    let size = |holder: &Entry| Given {
-        number: holder.number,
-        units: holder.units,
-    };
     let mut fills: Table<Given, ENTRIES> = Table::default();
-    if how == Holders::Numbered {
-        fills.extend(holders.iter().map(size));
-        in_turn(units, &mut fills);
-    } else {
+    if let Holders::Shared(specialist) = how {
         let mut remaining = units;
         // "customers by number; then sweeps and market makers; then
         // broker-dealers".
         for group in 0..3 {
             let first = fills.len();
-            fills.extend(holders.iter().filter(|h| h.group == group).map(size));
+            let own = || holders.iter().filter(|holder| holder.group == group);
+            fills.extend(own().map(size));
             let members = &mut fills[first..];
+            // The specialist, and the place of its sweep, which is in the second group.
+            let portion = specialist.and_then(|specialist| {
+                let place = own().position(|holder| specialist.holds(holder))?;
+                Some((specialist, place))
+            });
             if group == 0 {
                 in_turn(remaining, members);
             } else {
-                share(remaining, members);
+                // "where the second group must be shared and the specialist has a
+                // sweep there".
+                match portion {
+                    Some((specialist, place)) if sum(members) > remaining => {
+                        specialist.share(remaining, members, place);
+                    }
+                    _ => share(remaining, members),
+                }
             }
             remaining -= sum(members);
         }
         count_allotment(holders, &fills);
+    } else {
+        fills.extend(holders.iter().map(size));
+        in_turn(units, &mut fills);
     }
     // "No fill record has quantity 0."
     fills.retain(|fill| fill.units > 0);
     fills
+}
+
+/// The size of a holder: its live units.
+fn size(holder: &Entry) -> Given {
+    Given {
+        number: holder.number,
+        units: holder.units,
+    }
 }
 
 impl Book {
@@ -208,7 +229,9 @@ impl Book {
             .filter(|entry| i64::from(entry.limit) == limit)
             .copied()
             .collect();
-        for fill in allot(&holders, how, active.units).iter() {
+        let fills = allot(&holders, how, active.units);
+        count_specialist(self, active, &holders, how, &fills);
+        for fill in fills.iter() {
             self.whole_fill(active, fill.number, fill.units, limit, records);
         }
     }

@@ -1,4 +1,5 @@
-//! Tests of document 01, "Frames", and of kinds 9 and 10 of request 2026-01.
+//! Tests of document 01, "Frames", of kinds 9 and 10 of request 2026-01, and of kind
+//! 11 of request 2026-04.
 
 #![forbid(unsafe_code)]
 #![deny(warnings)]
@@ -118,16 +119,90 @@ fn national_prices_and_a_range_as_bytes() {
             _ => assert_eq!(write(&event, &mut space), Err(3)),
         }
     }
-    // Kind 11 and a frame that is too short or too long.
+    // A frame that is too short or too long.
     for frame in [
-        &[6, 0, 11, 0, 0, 0][..],
-        &[8, 0, 11, 0, 0, 0, 0, 0],
-        &[5, 0, 10, 0, 0],
+        &[5, 0, 10, 0, 0][..],
         &[7, 0, 10, 0, 0, 0, 0],
         &[12, 0, 9, 0, 0, 0, 0, 0, 0, 0, 0, 0],
         &[14, 0, 9, 0, 0, 0, 0, 0, 0, 0, 0, 0, 0, 0],
     ] {
         assert_eq!(judge(frame), 2);
+    }
+}
+
+#[test]
+fn a_specialist_as_bytes() {
+    let specialist = |member, strategy, percentage| Event::Specialist {
+        member,
+        strategy,
+        percentage,
+    };
+    let event = specialist(258, 15, 100);
+    let frame = [8, 0, 11, 0, 2, 1, 15, 100];
+    assert_eq!(bytes(&event), frame);
+    assert_eq!(read(&frame), Ok(event));
+    let (kind, list) = values(&event);
+    assert_eq!((kind, &list[..4]), (11, &[258, 15, 100, 0][..]));
+    // Each field at its ends and past them.
+    for (event, answer) in [
+        (specialist(1, 0, 0), 0),
+        (specialist(65_535, 15, 100), 0),
+        (specialist(0, 0, 0), 3),
+        (specialist(0, 15, 100), 3),
+        (specialist(1, 16, 0), 3),
+        (specialist(1, 255, 0), 3),
+        (specialist(1, 0, 99), 0),
+        (specialist(1, 0, 101), 3),
+        (specialist(1, 0, 255), 3),
+        (specialist(0, 16, 101), 3),
+    ] {
+        let frame = bytes(&event);
+        assert_eq!(frame.len(), 8);
+        assert_eq!(judge(&frame), answer, "{event:?}");
+        let mut space = [7; 9];
+        match answer {
+            0 => {
+                assert_eq!(read(&frame), Ok(event));
+                assert_eq!(write(&event, &mut space), Ok(8));
+                assert_eq!(space[..8], frame);
+                assert_eq!(space[8], 7);
+                assert_eq!(write(&event, &mut space[..7]), Err(1));
+            }
+            _ => {
+                assert_eq!(read(&frame), Err(3));
+                assert_eq!(write(&event, &mut space), Err(3));
+                assert_eq!(write(&event, &mut []), Err(3), "3 before 1");
+                assert_eq!(space, [7; 9]);
+            }
+        }
+    }
+    // Every member, strategy and percentage that a frame can hold.
+    for member in 0..=u16::MAX {
+        let right = u32::from(member == 0) * 3;
+        assert_eq!(judge(&bytes(&specialist(member, 3, 40))), right);
+    }
+    for byte in 0..=255 {
+        let strategy = u32::from(byte > 15) * 3;
+        assert_eq!(judge(&bytes(&specialist(7, byte, 40))), strategy);
+        let percentage = u32::from(byte > 100) * 3;
+        assert_eq!(judge(&bytes(&specialist(7, 3, byte))), percentage);
+    }
+    // "length 8"; 2 comes before 3, and the next kind is unknown.
+    for frame in [
+        &[4, 0, 11, 0][..],
+        &[7, 0, 11, 0, 1, 0, 0],
+        &[7, 0, 11, 0, 0, 0, 16],
+        &[9, 0, 11, 0, 1, 0, 0, 40, 0],
+        &[9, 0, 11, 0, 0, 0, 16, 101, 0],
+        &[7, 0, 11, 0, 1, 0, 0, 40],
+        &[9, 0, 11, 0, 1, 0, 0, 40],
+        &[8, 1, 11, 0, 1, 0, 0, 40],
+        &[8, 0, 11, 1, 1, 0, 0, 40],
+        &[8, 0, 12, 0, 1, 0, 0, 40],
+        &[5, 0, 12, 0, 0],
+        &[6, 0, 12, 0, 0, 0],
+    ] {
+        assert_eq!(judge(frame), 2, "{frame:?}");
     }
 }
 

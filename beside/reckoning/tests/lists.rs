@@ -67,11 +67,13 @@ fn holds(day: &Day) -> Result<(), String> {
 /// starter is live; no buy meets a sell in a series' leg orders, nor, on a day
 /// without national prices, where the strategy is all open and no auction runs.
 /// Each table stands by number, and the depths that are kept are those of the leg
-/// orders.
+/// orders. Only a strategy that is held has a specialist.
 fn sound(book: &Book, national: bool) {
     assert!(book.complex_orders().count() <= 16 && book.sweeps().count() <= 16);
     assert!(book.leg_orders.len() <= 32 && book.strategies.len() <= 16);
     assert!(book.entries.is_sorted_by(|a, b| a.number < b.number));
+    let undefined = &book.specialists[book.strategies.len()..];
+    assert!(undefined.iter().all(Option::is_none));
     assert!(book.leg_orders.is_sorted_by(|a, b| a.number < b.number));
     for series in 0..32 {
         for side in [BUY, SELL] {
@@ -111,7 +113,7 @@ struct Reached {
     events: usize,
     /// Events by answer, accepted events by kind, records by kind.
     answers: [u64; 16],
-    accepted: [u64; 11],
+    accepted: [u64; 12],
     records: [u64; 6],
     /// The most records of one event.
     most: usize,
@@ -171,18 +173,20 @@ fn every_situation_occurs() {
     reached.add(&plain);
     // Without national prices nothing on the other side meets the starter's limit
     // after its pass, no order rests crossed, and no pass stops. Every sweep betters
-    // its net.
+    // its net. No specialist is named.
     for situation in reached.situations.keys() {
         assert!(
             *situation != "end: a later pass meets the starter's rest"
                 && !situation.contains("crossed")
                 && !situation.contains("stop")
-                && !situation.contains("15"),
+                && !situation.contains("15")
+                && !situation.contains("specialist")
+                && !situation.contains("portion"),
             "{situation}"
         );
     }
     assert_eq!(reached.answers[15], 0);
-    let mut lists: Vec<Vec<Input>> = (0..100)
+    let mut lists: Vec<Vec<Input>> = (0..130)
         .map(|seed| national_list(seed, 2_000, options))
         .collect();
     lists.push(long_list(1, 2_000, true));
@@ -192,7 +196,7 @@ fn every_situation_occurs() {
         reached.events, reached.most
     );
     println!("answers 0 to 15: {:?}", reached.answers);
-    println!("accepted by kind 1 to 10: {:?}", &reached.accepted[1..]);
+    println!("accepted by kind 1 to 11: {:?}", &reached.accepted[1..]);
     println!("records by kind 1 to 5: {:?}", &reached.records[1..]);
     for (situation, count) in &reached.situations {
         println!("{count:>8}  {situation}");

@@ -107,7 +107,7 @@ fn a_bad_length_prints_refusal_2_and_stops() {
 
 #[test]
 fn any_other_refusal_goes_on() {
-    let mut input = vec![4, 0, 11, 0, 5, 0, 6, 0, 0, 6, 0, 6, 0, 32, 1];
+    let mut input = vec![4, 0, 12, 0, 5, 0, 6, 0, 0, 6, 0, 6, 0, 32, 1];
     input.extend([6, 0, 6, 0, 0, 1]);
     assert_eq!(
         printed(&input),

@@ -81,6 +81,11 @@ fn every_vector_of_2026_03_gives_its_lines() {
 }
 
 #[test]
+fn every_vector_of_2026_04_gives_its_lines() {
+    give_their_lines("2026-04-", 4);
+}
+
+#[test]
 fn a_line_gives_its_frame_and_space() {
     let frame = vec![6, 0, 6, 0, 0, 1];
     let space = SPACE;

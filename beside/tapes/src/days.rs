@@ -14,7 +14,7 @@ pub enum Day {
     Generated { seed: u64, events: usize },
     /// A day that gives all 100,000 numbers and goes on.
     EveryNumber { seed: u64, events: usize },
-    /// Several days, a day end after each; two of three have kinds 9 and 10.
+    /// Several days, a day end after each; two of three have kinds 9 to 11.
     Several { seed: u64, days: u64, events: usize },
     /// Frames of any sort one after the other, most of them refused 2 or 3.
     Frames { seed: u64, amount: usize },

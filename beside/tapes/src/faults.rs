@@ -24,9 +24,9 @@ pub enum Ending {
     Never,
 }
 
-/// A frame of kind 2 to 10 with its right length, by its kind.
+/// A frame of kind 2 to 11 with its right length, by its kind.
 fn is(frame: &[u8], kind: u8) -> bool {
-    let lengths = [0, 0, 16, 14, 14, 10, 6, 8, 6, 13, 6];
+    let lengths = [0, 0, 16, 14, 14, 10, 6, 8, 6, 13, 6, 8];
     frame.len() == lengths[usize::from(kind)] && frame[2] == kind && frame[3] == 0
 }
 
@@ -171,6 +171,40 @@ fn frame_faults() -> Vec<(&'static str, Fault)> {
             Fault::Frame(|frame| {
                 if is(frame, 9) && frame[4] < 31 {
                     frame[4] += 1;
+                }
+            }),
+        ),
+        ("percentage-100-as-50", misread!(11, 7, 100 => 50)),
+        ("percentage-101-taken", misread!(11, 7, 101 => 100)),
+        (
+            "percentage-one-more",
+            Fault::Frame(|frame| {
+                if is(frame, 11) && frame[7] < 100 {
+                    frame[7] += 1;
+                }
+            }),
+        ),
+        (
+            "specialist-of-the-next-member",
+            Fault::Frame(|frame| {
+                if is(frame, 11) && (1..255).contains(&frame[4]) {
+                    frame[4] += 1;
+                }
+            }),
+        ),
+        (
+            "specialist-of-the-last-strategy",
+            Fault::Frame(|frame| {
+                if is(frame, 11) && (1..16).contains(&frame[6]) {
+                    frame[6] -= 1;
+                }
+            }),
+        ),
+        (
+            "specialist-never-heard",
+            Fault::Frame(|frame| {
+                if is(frame, 11) && frame[4..6] != [0, 0] {
+                    frame[4..6].copy_from_slice(&[255, 255]);
                 }
             }),
         ),

@@ -1,6 +1,7 @@
 //! Days made by hand: ends of the input, long frames, full tables, numbers at the
 //! ends of their ranges, fills at the bounds of the execution range, fills by the
-//! contracts of a best price, and sweeps near the net of their side.
+//! contracts of a best price, sweeps near the net of their side, and specialists'
+//! portions.
 
 use crate::days::Day;
 use reckoning::book::{Book, COMPLEX_ORDERS, LEG_ORDERS, SPACE, STRATEGIES, SWEEPS};
@@ -10,9 +11,11 @@ use reckoning::generate::LAST_KIND;
 const BUY: u8 = 0;
 const SELL: u8 = 1;
 const CUSTOMER: u8 = 1;
+const BROKER_DEALER: u8 = 2;
 const MARKET_MAKER: u8 = 3;
 const DAY: u8 = 0;
 const IMMEDIATE: u8 = 1;
+const RESPONSE: u8 = 2;
 
 fn made(name: impl Into<String>, bytes: Vec<u8>) -> Day {
     Day::Made {
@@ -96,6 +99,14 @@ fn range(cents: u16) -> Event {
     Event::ExecutionRange { cents }
 }
 
+fn specialist(member: u16, strategy: u8, percentage: u8) -> Event {
+    Event::Specialist {
+        member,
+        strategy,
+        percentage,
+    }
+}
+
 /// Document 01's worked example.
 pub fn example() -> Vec<u8> {
     let events = [
@@ -152,7 +163,7 @@ pub fn long_frames() -> Vec<Day> {
     let mut days = Vec::new();
     let open = bytes(&series(0, 1));
     let last = LAST_KIND as u16 + 1;
-    for kind in (0..=last).chain([255, 256, 257, 258, 262, 265, 266, 65_535]) {
+    for kind in (0..=last).chain([255, 256, 257, 258, 262, 265, 266, 267, 65_535]) {
         let mut input = example();
         for length in [4, 5, 6, 770, 771, 4_096, 32_768, 65_534, 65_535] {
             for fill in [0, 1, 255] {
@@ -847,4 +858,399 @@ fn full_of_sweeps() -> Day {
         made.clear(1);
     }
     day("a full table of sweeps near the nets", &made.events)
+}
+
+/// An answer to an auction: its member, its class, or none for a sweep, and its units.
+type Answer = (u16, Option<u8>, u16);
+
+/// The member that is the specialist in most of the days.
+const NAMED: u16 = 2;
+
+impl Made {
+    /// All series open, these strategies, and bids and offers in series 0 to 3.
+    fn strategies(list: &[&[(u8, u8, u8)]]) -> Made {
+        let mut made = Made::new(list[0]);
+        for legs in &list[1..] {
+            made.push(strategy(legs));
+        }
+        for series in 0..4 {
+            made.push(leg_order(1, series, BUY, 9, 300));
+            made.push(leg_order(1, series, SELL, 9, 310));
+        }
+        made
+    }
+
+    /// An order of this side starts an auction for so many units, at the net of the
+    /// other side. Immediate, so that its rest goes with the auction.
+    fn starter(&mut self, of: u8, side: u8, units: u16) {
+        let limit = self.book.leg_net(of, side).map_or(0, |net| net as i32);
+        self.push(Event::Complex {
+            member: 9,
+            strategy: of,
+            side,
+            class: CUSTOMER,
+            life: IMMEDIATE,
+            units,
+            limit,
+        });
+    }
+
+    /// An answer to that starter, so many cents better for it than its limit.
+    fn answer(&mut self, of: u8, starter: u8, cents: i32, (member, class, units): Answer) {
+        let net = self.book.leg_net(of, starter).map_or(0, |net| net as i32);
+        let (side, limit) = match starter {
+            BUY => (SELL, net - cents),
+            _ => (BUY, net + cents),
+        };
+        self.push(match class {
+            None => Event::Sweep {
+                member,
+                strategy: of,
+                side,
+                units,
+                limit,
+            },
+            Some(class) => Event::Complex {
+                member,
+                strategy: of,
+                side,
+                class,
+                life: RESPONSE,
+                units,
+                limit,
+            },
+        });
+    }
+
+    /// An auction of strategy 0 with these answers, all a cent better, and its end.
+    fn shared(&mut self, side: u8, units: u16, answers: &[Answer]) {
+        self.starter(0, side, units);
+        for answer in answers {
+            self.answer(0, side, 1, *answer);
+        }
+        self.end();
+    }
+}
+
+/// A strategy of two legs, one bought and one sold.
+const PAIR: &[(u8, u8, u8)] = &[(0, BUY, 1), (1, SELL, 1)];
+
+/// Days of specialists and their portions (2026-04).
+pub fn specialists() -> Vec<Day> {
+    let mut days = vec![
+        specialist_fields(),
+        specialist_strategies(),
+        specialist_names(),
+        specialist_day_ends(),
+        specialist_arrivals(),
+        specialist_tables(),
+    ];
+    for side in [BUY, SELL] {
+        for units in [5, 10, 17] {
+            days.push(portions(side, units));
+        }
+        days.push(portions_beside_others(side));
+        days.push(portions_at_two_limits(side));
+        days.push(percentages(side));
+    }
+    days
+}
+
+/// Kind 11 with each field at its ends and past them: accepted, refused 3, refused 4.
+fn specialist_fields() -> Day {
+    let mut events = Vec::new();
+    let mut named = |defined: &[u8]| {
+        events.extend(
+            defined
+                .iter()
+                .map(|of| strategy(&[(0, BUY, 1), (*of, SELL, 1)])),
+        );
+        for member in [0, 1, 2, 255, 256, 65_534, 65_535] {
+            for of in [0, 1, 2, 14, 15, 16, 17, 255] {
+                for percentage in [0, 1, 99, 100, 101, 102, 128, 200, 255] {
+                    events.push(specialist(member, of, percentage));
+                }
+            }
+        }
+    };
+    named(&[]);
+    named(&[1]);
+    let others: Vec<u8> = (2..=16).collect();
+    named(&others);
+    day("fields of kind 11", &events)
+}
+
+/// Every group of three sweeps of 1, 4 or 9 units, for a starter of so many; each of the
+/// three is the specialist, at several percentages.
+fn portions(side: u8, units: u16) -> Day {
+    let mut made = Made::strategies(&[PAIR]);
+    for number in 0..3_usize.pow(3) {
+        let size = |at: u32| [1, 4, 9][number / 3_usize.pow(at) % 3];
+        let answers: Vec<Answer> = (0..3).map(|at| (1 + at as u16, None, size(at))).collect();
+        for member in 1..=3 {
+            for percentage in [0, 10, 39, 50, 75, 100] {
+                made.push(specialist(member, 0, percentage));
+                made.shared(side, units, &answers);
+            }
+        }
+    }
+    day(
+        &format!("portions to a starter of side {side}, {units} units"),
+        &made.events,
+    )
+}
+
+/// Every percentage, for a starter of 100 units and of 37.
+fn percentages(side: u8) -> Day {
+    let mut made = Made::strategies(&[PAIR]);
+    for percentage in 0..=100 {
+        made.push(specialist(NAMED, 0, percentage));
+        for (units, own) in [(100, 90), (37, 90), (37, 20)] {
+            made.shared(
+                side,
+                units,
+                &[(1, None, 40), (NAMED, None, own), (3, None, 70)],
+            );
+        }
+    }
+    day(
+        &format!("every percentage, a starter of side {side}"),
+        &made.events,
+    )
+}
+
+/// A specialist's sweep beside each choice of a customer's, a broker-dealer's and a
+/// market maker's order, some of them its own member's, before it and behind it.
+fn portions_beside_others(side: u8) -> Day {
+    let mut made = Made::strategies(&[PAIR]);
+    let others: [Answer; 6] = [
+        (8, Some(CUSTOMER), 4),
+        (NAMED, Some(CUSTOMER), 1),
+        (NAMED, Some(MARKET_MAKER), 7),
+        (7, Some(MARKET_MAKER), 5),
+        (NAMED, Some(BROKER_DEALER), 6),
+        (NAMED + 256, None, 7),
+    ];
+    for choice in 0..1 << others.len() {
+        for (percentage, own, units) in [
+            (0, 7, 10),
+            (50, 7, 10),
+            (50, 1, 10),
+            (100, 20, 10),
+            (35, 0, 10),
+            (60, 7, 5),
+        ] {
+            made.push(specialist(NAMED, 0, percentage));
+            let mut answers: Vec<Answer> = (others.into_iter().enumerate())
+                .filter(|(at, _)| choice >> at & 1 == 1)
+                .map(|(_, answer)| answer)
+                .collect();
+            // Without a sweep of its own the old rule holds.
+            if own > 0 {
+                answers.insert(answers.len() / 2, (NAMED, None, own));
+            }
+            made.shared(side, units, &answers);
+        }
+    }
+    day(
+        &format!("portions beside other orders, a starter of side {side}"),
+        &made.events,
+    )
+}
+
+/// Sweeps of the specialist and of others at two limits: shared at the better one or
+/// at the other; and an order of the starter's side for what they have left, which comes
+/// before them or after.
+fn portions_at_two_limits(side: u8) -> Day {
+    let mut made = Made::strategies(&[PAIR]);
+    for percentage in [0, 30, 50, 80, 100] {
+        made.push(specialist(NAMED, 0, percentage));
+        for better in 0..=6_u16 {
+            for own in 0..=better {
+                made.starter(0, side, 10);
+                let limit = made.book.leg_net(0, side).map_or(0, |net| net as i32);
+                let waiting = order(5, side, MARKET_MAKER, RESPONSE, 7, limit);
+                if own % 2 == 0 {
+                    made.push(waiting);
+                }
+                for (member, units) in [(1, better - own), (NAMED, own)] {
+                    if units > 0 {
+                        made.answer(0, side, 2, (member, None, 2 * units));
+                    }
+                }
+                for (member, units) in [(NAMED, 6), (3, 5), (4, 8)] {
+                    made.answer(0, side, 1, (member, None, units));
+                }
+                if own % 2 == 1 {
+                    made.push(waiting);
+                }
+                made.end();
+            }
+        }
+    }
+    day(
+        &format!("portions at two limits, a starter of side {side}"),
+        &made.events,
+    )
+}
+
+/// Auctions of four strategies, each with a specialist of its own or with none; some
+/// end together.
+fn specialist_strategies() -> Day {
+    let list: [&[(u8, u8, u8)]; 4] = [
+        PAIR,
+        &[(0, BUY, 1), (2, SELL, 1)],
+        &[(1, BUY, 2), (3, SELL, 1)],
+        &[(2, SELL, 1), (3, BUY, 3)],
+    ];
+    let mut made = Made::strategies(&list);
+    for turn in 0..16_u16 {
+        let of = (turn % 4) as u8;
+        made.push(specialist(
+            1 + turn / 2 % 4,
+            of,
+            [80, 0, 100, 45][usize::from(turn / 4)],
+        ));
+        let side = (turn % 2) as u8;
+        for of in 0..4 {
+            made.starter(of, side, 10);
+            for member in 1..=4 {
+                made.answer(of, side, 1, (member, None, 5 + member));
+            }
+        }
+        made.end();
+    }
+    day("specialists of four strategies", &made.events)
+}
+
+/// Specialists that are named before an auction and in it, before their sweep and
+/// behind it; and one that takes another's place.
+fn specialist_names() -> Day {
+    let mut made = Made::strategies(&[PAIR, &[(0, BUY, 1), (2, SELL, 1)]]);
+    let answers: [Answer; 3] = [(1, None, 7), (NAMED, None, 7), (3, None, 7)];
+    for side in [BUY, SELL] {
+        for first in 0..=3 {
+            for last in 0..=3 {
+                for place in 0..=answers.len() {
+                    if first > 0 {
+                        made.push(specialist(first, 0, 70));
+                    }
+                    made.starter(0, side, 10);
+                    for (at, answer) in answers.into_iter().enumerate() {
+                        if at == place && last > 0 {
+                            made.push(specialist(last, 0, 50));
+                        }
+                        made.answer(0, side, 1, answer);
+                    }
+                    // Of another strategy, and refused.
+                    made.push(specialist(1, 1, 100));
+                    made.push(specialist(1, 2, 100));
+                    if place == answers.len() && last > 0 {
+                        made.push(specialist(last, 0, 60));
+                    }
+                    made.end();
+                    // What is refused leaves the one that is named.
+                    made.push(specialist(3, 0, 101));
+                    made.push(specialist(0, 0, 100));
+                    made.shared(side, 10, &answers);
+                }
+            }
+        }
+    }
+    // A halt in an auction, and a series that opens.
+    for state in [0, 1] {
+        made.starter(0, BUY, 10);
+        made.answer(0, BUY, 1, answers[1]);
+        made.push(series(0, state));
+        made.push(specialist(3, 0, 90));
+        made.push(series(0, 1));
+        made.shared(BUY, 10, &answers);
+    }
+    // A strategy that is defined again.
+    made.push(strategy(&[(1, SELL, 3), (0, BUY, 3)]));
+    made.shared(SELL, 10, &answers);
+    day("specialists named in turn", &made.events)
+}
+
+/// A specialist, a day end, and the same strategy without one; and one that was refused
+/// for a strategy that is defined then.
+fn specialist_day_ends() -> Day {
+    let answers: [Answer; 2] = [(1, None, 9), (NAMED, None, 9)];
+    let mut events = Vec::new();
+    for named in [1, NAMED, 3, 1] {
+        for refused in [true, false] {
+            let mut market: Vec<Event> = vec![series(0, 1), series(1, 1)];
+            if refused {
+                market.extend([specialist(named, 0, 100), specialist(named, 1, 100)]);
+            }
+            market.push(strategy(PAIR));
+            for leg in [0, 1] {
+                market.push(leg_order(1, leg, BUY, 9, 300));
+                market.push(leg_order(1, leg, SELL, 9, 310));
+            }
+            events.extend(market);
+            for turn in 0..2 {
+                if turn == 1 {
+                    events.push(specialist(named, 0, 80));
+                }
+                events.push(order(9, BUY, CUSTOMER, IMMEDIATE, 10, 10));
+                for (member, _, units) in answers {
+                    events.push(sweep(member, SELL, units, 9));
+                }
+                events.push(clock(5_000 * (1 + turn)));
+            }
+            events.push(order(9, BUY, CUSTOMER, IMMEDIATE, 10, 10));
+            events.push(sweep(NAMED, SELL, 9, 9));
+            events.push(day_end(5_000));
+        }
+    }
+    day("day ends after a specialist was named", &events)
+}
+
+/// Market makers' day orders at one limit, which an arriving order shares by the old
+/// rule: some of them are the specialist's. Then the same in an auction.
+fn specialist_arrivals() -> Day {
+    let mut made = Made::strategies(&[PAIR]);
+    for side in [BUY, SELL] {
+        for named in 1..=3 {
+            for percentage in [0, 60, 100] {
+                made.push(specialist(named, 0, percentage));
+                let net = made.net(1 - side).unwrap_or(0);
+                let limit = if side == BUY { net - 1 } else { net + 1 };
+                for member in 1..=3 {
+                    made.push(order(member, 1 - side, MARKET_MAKER, DAY, 7, limit));
+                }
+                made.push(order(8, side, MARKET_MAKER, IMMEDIATE, 10, limit));
+                made.shared(side, 5, &[(named, None, 4)]);
+                made.push(order(8, side, MARKET_MAKER, IMMEDIATE, 99, limit));
+            }
+        }
+    }
+    day("orders of a specialist's member on arrival", &made.events)
+}
+
+/// Full tables: 16 sweeps, with and without 15 orders of market makers, of up to 9,999
+/// units each, and the specialist at each place of the sweeps.
+fn specialist_tables() -> Day {
+    let mut made = Made::strategies(&[PAIR]);
+    for size in [3, 1_000, 9_999] {
+        for place in 1..=SWEEPS as u16 {
+            made.push(specialist(
+                place,
+                0,
+                [0, 1, 7, 50, 99][usize::from(place) % 5],
+            ));
+            let mut answers: Vec<Answer> = Vec::new();
+            for member in 1..=SWEEPS as u16 {
+                if place % 4 == 0 && member < COMPLEX_ORDERS as u16 {
+                    answers.push((place, Some(MARKET_MAKER), size - member % 3));
+                }
+                answers.push((member, None, size - member % 2));
+            }
+            for units in [9, 9_999] {
+                made.shared((place % 2) as u8, units, &answers);
+            }
+        }
+    }
+    day("full tables with a specialist", &made.events)
 }

@@ -3,6 +3,7 @@
 use std::fs;
 use std::path::{Path, PathBuf};
 use std::process::Command;
+use std::thread;
 
 /// An edit of the reckoning: what it does, the file, and its text before and
 /// after, where the text stands once.
@@ -53,4 +54,32 @@ pub fn built(folder: &Path, program: &str, slip: &Slip) -> PathBuf {
     let said = String::from_utf8_lossy(&output.stderr);
     assert!(output.status.success(), "{}: {said}", slip.0);
     folder.join("target/debug").join(program)
+}
+
+/// The slips that nothing shows: two at a time each is built, in a folder of its
+/// hand, and `shown` says how its program differs.
+pub fn missed(
+    folder: &Path,
+    program: &str,
+    slips: &[Slip],
+    shown: impl Fn(PathBuf) -> Option<String> + Sync,
+) -> Vec<&'static str> {
+    let shown = &shown;
+    let missed_by = |hand: usize| {
+        let folder = folder.join(hand.to_string());
+        let mut missed = Vec::new();
+        for slip in slips.iter().skip(hand).step_by(2) {
+            match shown(built(&folder, program, slip)) {
+                None => missed.push(slip.0),
+                Some(different) => println!("{}: {different}", slip.0),
+            }
+        }
+        missed
+    };
+    thread::scope(|scope| {
+        let other = scope.spawn(|| missed_by(1));
+        let mut missed = missed_by(0);
+        missed.extend(other.join().expect("the other half ends"));
+        missed
+    })
 }

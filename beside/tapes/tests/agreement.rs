@@ -12,7 +12,9 @@ use tapes::agree::agrees;
 use tapes::days::{
     any_frames, damaged_frames, every_number, generated, inputs_of_any_bytes, several_days, Day,
 };
-use tapes::hand::{best_prices, ends, extremes, full_tables, long_frames, national, near_nets};
+use tapes::hand::{
+    best_prices, ends, extremes, full_tables, long_frames, national, near_nets, specialists,
+};
 use tapes::program::{Delivery, Program};
 use tapes::tally::{Tally, OTHER};
 
@@ -54,6 +56,7 @@ const ANSWERS: &[(u32, &[u32])] = &[
     (8, &[0, 2]),
     (9, &[0, 2, 3, 14]),
     (10, &[0, 2, 3]),
+    (11, &[0, 2, 3, 4]),
     (OTHER, &[2]),
 ];
 
@@ -76,11 +79,11 @@ fn generated_days() {
         let count = tally.written(kind);
         assert!(count >= 20_000, "records of kind {kind}: {count}");
     }
-    for kind in [9, 10] {
+    for kind in [9, 10, 11] {
         let count = tally.of(kind, 0);
         assert!(count >= 20_000, "accepted events of kind {kind}: {count}");
     }
-    assert!(SITUATIONS.len() >= 165);
+    assert!(SITUATIONS.len() >= 219);
     for situation in SITUATIONS {
         let count = tally.reached(situation);
         assert!(count >= 100, "{situation}: {count}");
@@ -97,7 +100,7 @@ fn days_that_give_every_number() {
         let count = tally.of(kind, 13);
         assert!(count >= 50, "kind {kind}, answer 13: {count}");
     }
-    for kind in [3, 5, 9, 10] {
+    for kind in [3, 5, 9, 10, 11] {
         let count = tally.of(kind, 0);
         assert!(count >= 100, "accepted events of kind {kind}: {count}");
     }
@@ -120,6 +123,9 @@ fn several_days_in_a_row() {
     let stopped = tally.reached("complex: the pass stops at the range");
     let set = tally.reached("day end: national prices and a range are set");
     assert!(stopped >= 20 && set >= 20, "{stopped}, {set}");
+    let named = tally.reached("day end: a specialist is named");
+    let portions = tally.reached("portion: more than by the old rule");
+    assert!(named >= 20 && portions >= 20, "{named}, {portions}");
 }
 
 #[test]
@@ -310,6 +316,55 @@ fn sweeps_near_the_net_of_their_side() {
     for (situation, least) in [
         ("end: a sweep fills that the net has passed", 10),
         ("end: a sweep that the net has passed is cancelled", 10),
+    ] {
+        let count = tally.reached(situation);
+        assert!(count >= least, "{situation}: {count}");
+    }
+}
+
+#[test]
+fn specialists_and_their_portions() {
+    let days = specialists();
+    let tally = agreed("specialists", &days);
+    assert!(days.len() >= 18 && tally.written(1) >= 5_000);
+    for (answer, least) in [(0, 1_000), (3, 500), (4, 200)] {
+        let count = tally.of(11, answer);
+        assert!(count >= least, "answer {answer}: {count}");
+    }
+    let own =
+        |situation: &&&str| situation.contains("specialist") || situation.starts_with("portion: ");
+    let missing: Vec<&&str> = (SITUATIONS.iter().filter(own))
+        .filter(|situation| tally.reached(situation) < 2)
+        .collect();
+    assert!(missing.is_empty(), "{missing:#?}");
+    for (situation, least) in [
+        ("end: a later pass meets the specialist's sweep", 20),
+        (
+            "end: the specialist's sweep in full, then its portion at another limit",
+            20,
+        ),
+        ("portion: a percentage that is rounded down", 200),
+        (
+            "portion: after customers, less than the percentage of all",
+            20,
+        ),
+        ("portion: all that remains, beside others", 20),
+        ("portion: behind a market maker's order of its member", 20),
+        ("portion: before a market maker's order of its member", 20),
+        (
+            "portion: beside a sweep of another strategy's specialist",
+            20,
+        ),
+        ("portion: by its size", 200),
+        ("portion: by the percentage", 200),
+        ("portion: by the share", 200),
+        ("portion: nothing of what remains", 20),
+        ("portion: one unit less than by the old rule", 200),
+        ("portion: the rest alone would not be shared", 200),
+        ("portion: the rest is filled in full", 20),
+        ("portion: the rest shares, several units left over", 20),
+        ("specialist: another member named in an auction", 20),
+        ("specialist: its sweep in a group that is not shared", 20),
     ] {
         let count = tally.reached(situation);
         assert!(count >= least, "{situation}: {count}");

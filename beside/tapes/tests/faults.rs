@@ -7,7 +7,7 @@ use std::time::Duration;
 use tapes::agree::{agrees, difference, reckoned};
 use tapes::days::{every_number, generated, several_days, Day};
 use tapes::faults::{faults, Ending, Fault};
-use tapes::hand::{ends, example, extremes, full_tables, national};
+use tapes::hand::{ends, example, extremes, full_tables, national, specialists};
 use tapes::program::{Delivery, Program};
 
 /// What is said of the program, nothing if it agrees.
@@ -29,6 +29,7 @@ fn days() -> Vec<Day> {
     days.extend(several_days(3));
     days.extend(extremes());
     days.extend(national().into_iter().step_by(10));
+    days.extend(specialists().into_iter().step_by(3));
     days.extend(ends().into_iter().step_by(40));
     days.extend(every_number(1));
     days
@@ -58,7 +59,7 @@ fn every_wrong_tape_is_found() {
     }
     assert!(missed.is_empty(), "wrong tapes not found: {missed:#?}");
     println!("wrong tapes found: {}", faults.len());
-    assert!(faults.len() >= 55);
+    assert!(faults.len() >= 61);
 }
 
 #[test]

@@ -1,7 +1,7 @@
 //! The comparison finds slips in the book itself: the reckoning's sources with
 //! one edit each are built anew, and their tape has to differ from the
 //! reckoning's. Among them are the slips that document 01 names, and those of
-//! requests 2026-01 to 2026-03.
+//! requests 2026-01 to 2026-04.
 
 #![forbid(unsafe_code)]
 #![deny(warnings)]
@@ -11,9 +11,9 @@ use std::path::Path;
 use std::time::Duration;
 use tapes::agree::agrees;
 use tapes::days::{any_frames, every_number, generated, several_days, Day};
-use tapes::hand::{best_prices, ends, extremes, full_tables, national, near_nets};
+use tapes::hand::{best_prices, ends, extremes, full_tables, national, near_nets, specialists};
 use tapes::program::Program;
-use tapes::slips::{built, Slip};
+use tapes::slips::{built, missed, Slip};
 
 const SLIPS: &[Slip] = &[
     // "Which slips tempt?"
@@ -173,14 +173,14 @@ const SLIPS: &[Slip] = &[
     (
         "a starter's pass by number",
         "auctions.rs",
-        "            Holders::Shared,\n",
+        "            Holders::Shared(self.specialists[usize::from(strategy)]),\n",
         "            Holders::Numbered,\n",
     ),
     (
         "shared passes for the other entries",
         "auctions.rs",
         "Holders::Numbered, !is_sweep",
-        "Holders::Shared, !is_sweep",
+        "Holders::Shared(None), !is_sweep",
     ),
     (
         "sweeps that use legs",
@@ -460,7 +460,7 @@ const SLIPS: &[Slip] = &[
         "the starter's pass not tested",
         "passes.rs",
         "            if !allowed {\n",
-        "            if !allowed && !(holders == Holders::Shared && self.auction_runs(active.strategy)) {\n",
+        "            if !allowed && !(matches!(holders, Holders::Shared(_)) && self.auction_runs(active.strategy)) {\n",
     ),
     (
         "a starter's pass that stops ends the others too",
@@ -893,6 +893,442 @@ const SLIPS: &[Slip] = &[
         "                self.accepted_meanwhile(strategy, side);\n                number\n",
         "                self.accepted_meanwhile(strategy, side);\n                let passed: Vec<u32> = self.sweeps().filter(|sweep| self.betters_own_net(sweep.strategy, sweep.side, sweep.limit) == Some(false)).map(|sweep| sweep.number).collect();\n                for old in passed {\n                    self.cancel_live(old, records);\n                }\n                number\n",
     ),
+    // Request 2026-04: the specialist's portion.
+    (
+        "no portion",
+        "auctions.rs",
+        "            Holders::Shared(self.specialists[usize::from(strategy)]),\n",
+        "            Holders::Shared(None),\n",
+    ),
+    (
+        "the share alone",
+        "specialist.rs",
+        "        size.min(part.max(share as u32))\n",
+        "        size.min(share as u32 + 0 * part)\n",
+    ),
+    (
+        "the percentage alone",
+        "specialist.rs",
+        "        size.min(part.max(share as u32))\n",
+        "        size.min(part.max(0 * share as u32))\n",
+    ),
+    (
+        "the lesser of share and percentage",
+        "specialist.rs",
+        "        size.min(part.max(share as u32))\n",
+        "        size.min(part.min(share as u32))\n",
+    ),
+    (
+        "the percentage on top of the share",
+        "specialist.rs",
+        "        size.min(part.max(share as u32))\n",
+        "        size.min(part + share as u32).min(remaining)\n",
+    ),
+    (
+        "above its size",
+        "specialist.rs",
+        "        size.min(part.max(share as u32))\n",
+        "        part.max(share as u32)\n",
+    ),
+    (
+        "one unit at least",
+        "specialist.rs",
+        "        size.min(part.max(share as u32))\n",
+        "        size.min(part.max(share as u32).max(1)).min(remaining)\n",
+    ),
+    (
+        "the percentage rounded up",
+        "specialist.rs",
+        "        let part = u32::from(self.percentage) * remaining / 100;\n",
+        "        let part = (u32::from(self.percentage) * remaining).div_ceil(100);\n",
+    ),
+    (
+        "the percentage rounded to the nearest",
+        "specialist.rs",
+        "        let part = u32::from(self.percentage) * remaining / 100;\n",
+        "        let part = (u32::from(self.percentage) * remaining + 50) / 100;\n",
+    ),
+    (
+        "the share rounded up",
+        "specialist.rs",
+        "        let share = u64::from(remaining) * u64::from(size) / u64::from(total);\n",
+        "        let share = (u64::from(remaining) * u64::from(size)).div_ceil(u64::from(total));\n",
+    ),
+    (
+        "the percentage of its size",
+        "specialist.rs",
+        "        let part = u32::from(self.percentage) * remaining / 100;\n",
+        "        let part = (u32::from(self.percentage) * size / 100).min(remaining);\n",
+    ),
+    (
+        "the percentage of the group",
+        "specialist.rs",
+        "        let part = u32::from(self.percentage) * remaining / 100;\n",
+        "        let part = (u32::from(self.percentage) * total / 100).min(remaining);\n",
+    ),
+    (
+        "the percentage of the rest of the group",
+        "specialist.rs",
+        "        let part = u32::from(self.percentage) * remaining / 100;\n",
+        "        let part = (u32::from(self.percentage) * (total - size) / 100).min(remaining);\n",
+    ),
+    (
+        "the percentage of what remains after the shares of the rest",
+        "specialist.rs",
+        "        let part = u32::from(self.percentage) * remaining / 100;\n",
+        "        let others = u64::from(remaining) * u64::from(total - size) / u64::from(total);\n        let part = u32::from(self.percentage) * (remaining - others as u32) / 100;\n",
+    ),
+    (
+        "the percentage before customers",
+        "passes.rs",
+        "                        specialist.share(remaining, members, place);\n",
+        "                        let percentage = (u32::from(specialist.percentage) * units / remaining.max(1)).min(100) as u8;\n                        Specialist { percentage, ..specialist }.share(remaining, members, place);\n",
+    ),
+    (
+        "the portion before customers",
+        "passes.rs",
+        "            if group == 0 {\n                in_turn(remaining, members);\n",
+        "            if group == 0 {\n                let own = specialist.and_then(|specialist| holders.iter().find(|holder| specialist.holds(holder)).map(|sweep| sweep.units.min(u32::from(specialist.percentage) * remaining / 100)));\n                in_turn(remaining - own.unwrap_or(0), members);\n",
+    ),
+    (
+        "0 per cent as no specialist",
+        "auctions.rs",
+        "            Holders::Shared(self.specialists[usize::from(strategy)]),\n",
+        "            Holders::Shared(self.specialists[usize::from(strategy)].filter(|named| named.percentage > 0)),\n",
+    ),
+    (
+        "nothing at 0 per cent",
+        "specialist.rs",
+        "        size.min(part.max(share as u32))\n",
+        "        if self.percentage == 0 {\n            return 0;\n        }\n        size.min(part.max(share as u32))\n",
+    ),
+    // Request 2026-04: the leftovers, the rest, the order of the fills.
+    (
+        "a part in the leftovers of the whole group",
+        "specialist.rs",
+        "        let portion = self.portion(remaining, group[place].units, sum(group));\n",
+        "        let mut old = group.to_vec();\n        share(remaining, &mut old);\n        let portion = self.portion(remaining, group[place].units, sum(group)).max(old[place].units);\n",
+    ),
+    (
+        "the leftovers of the rest to the specialist",
+        "specialist.rs",
+        "        let portion = self.portion(remaining, group[place].units, sum(group));\n        group[place].units = portion;\n        // The sweep stands last while the rest shares.\n        group[place..].rotate_left(1);\n        let rest = group.len() - 1;\n        share(remaining - portion, &mut group[..rest]);\n",
+        "        let size = group[place].units;\n        let portion = self.portion(remaining, group[place].units, sum(group));\n        group[place..].rotate_left(1);\n        let rest = group.len() - 1;\n        let (left, total) = (remaining - portion, sum(&group[..rest]));\n        group[rest].units = portion;\n        if total > left {\n            let mut floors = group[..rest].to_vec();\n            for given in &mut floors {\n                given.units = (u64::from(left) * u64::from(given.units) / u64::from(total)) as u32;\n            }\n            let own = (portion + left - sum(&floors)).min(size);\n            group[rest].units = own;\n            share(remaining - own, &mut group[..rest]);\n        }\n",
+    ),
+    (
+        "the rest shares with the sweep in its total",
+        "specialist.rs",
+        "        let portion = self.portion(remaining, group[place].units, sum(group));\n        group[place].units = portion;\n        // The sweep stands last while the rest shares.\n        group[place..].rotate_left(1);\n        let rest = group.len() - 1;\n        share(remaining - portion, &mut group[..rest]);\n",
+        "        let total = sum(group);\n        let portion = self.portion(remaining, group[place].units, sum(group));\n        group[place].units = portion;\n        group[place..].rotate_left(1);\n        let rest = group.len() - 1;\n        let mut left = remaining - portion;\n        let shared = left;\n        for given in &mut group[..rest] {\n            given.units = (u64::from(shared) * u64::from(given.units) / u64::from(total)) as u32;\n            left -= given.units;\n        }\n        for given in &mut group[..rest] {\n            given.units += u32::from(left > 0);\n            left = left.saturating_sub(1);\n        }\n",
+    ),
+    (
+        "the rest shares all that remains",
+        "specialist.rs",
+        "        share(remaining - portion, &mut group[..rest]);\n",
+        "        share(remaining, &mut group[..rest]);\n",
+    ),
+    (
+        "the rest by number",
+        "specialist.rs",
+        "        share(remaining - portion, &mut group[..rest]);\n",
+        "        let mut left = remaining - portion;\n        for given in &mut group[..rest] {\n            given.units = given.units.min(left);\n            left -= given.units;\n        }\n",
+    ),
+    (
+        "the rest without the leftovers",
+        "specialist.rs",
+        "        share(remaining - portion, &mut group[..rest]);\n",
+        "        let (left, total) = (remaining - portion, sum(&group[..rest]));\n        if total > left {\n            for given in &mut group[..rest] {\n                given.units = (u64::from(left) * u64::from(given.units) / u64::from(total)) as u32;\n            }\n        }\n",
+    ),
+    (
+        "the leftovers of the rest from its last on",
+        "specialist.rs",
+        "        share(remaining - portion, &mut group[..rest]);\n",
+        "        group[..rest].reverse();\n        share(remaining - portion, &mut group[..rest]);\n        group[..rest].reverse();\n",
+    ),
+    (
+        "the specialist first",
+        "specialist.rs",
+        "        group[place..].rotate_right(1);\n",
+        "        group.rotate_right(1);\n",
+    ),
+    (
+        "the specialist last",
+        "specialist.rs",
+        "        group[place..].rotate_right(1);\n",
+        "",
+    ),
+    (
+        "asked without the sweep whether the group must be shared",
+        "passes.rs",
+        "                    Some((specialist, place)) if sum(members) > remaining => {\n",
+        "                    Some((specialist, place)) if sum(members) - members[place].units > remaining => {\n",
+    ),
+    (
+        "asked with what the starter wants before customers",
+        "passes.rs",
+        "                    Some((specialist, place)) if sum(members) > remaining => {\n",
+        "                    Some((specialist, place)) if sum(members) > units => {\n",
+    ),
+    // Request 2026-04: whose sweep, and in which pass.
+    (
+        "a market maker's order taken for the sweep",
+        "specialist.rs",
+        "        holder.life.is_none() && holder.member == self.member\n",
+        "        holder.member == self.member\n",
+    ),
+    (
+        "the last entry of its member taken for the sweep",
+        "passes.rs",
+        "                let place = own().position(|holder| specialist.holds(holder))?;\n",
+        "                own().position(|holder| specialist.holds(holder))?;\n                let last = own().filter(|holder| holder.member == specialist.member).last()?;\n                let place = own().position(|holder| holder.number == last.number)?;\n",
+    ),
+    (
+        "only a market maker's order taken for the sweep",
+        "specialist.rs",
+        "        holder.life.is_none() && holder.member == self.member\n",
+        "        holder.life.is_some() && holder.group == 1 && holder.member == self.member\n",
+    ),
+    (
+        "any sweep taken for the specialist's",
+        "specialist.rs",
+        "        holder.life.is_none() && holder.member == self.member\n",
+        "        holder.life.is_none()\n",
+    ),
+    (
+        "a member of one byte",
+        "specialist.rs",
+        "        holder.life.is_none() && holder.member == self.member\n",
+        "        holder.life.is_none() && holder.member as u8 == self.member as u8\n",
+    ),
+    (
+        "the portion at the first limit alone",
+        "passes.rs",
+        "                _ => self.whole_turn(&active, price, holders, records),\n",
+        "                _ => {\n                    let how = match holders {\n                        Holders::Shared(_) if records.len() > first => Holders::Shared(None),\n                        other => other,\n                    };\n                    self.whole_turn(&active, price, how, records)\n                }\n",
+    ),
+    (
+        "the portion at a limit of several alone",
+        "passes.rs",
+        "                _ => self.whole_turn(&active, price, holders, records),\n",
+        "                _ => {\n                    let how = match holders {\n                        Holders::Shared(_) if records.len() == first => Holders::Shared(None),\n                        other => other,\n                    };\n                    self.whole_turn(&active, price, how, records)\n                }\n",
+    ),
+    (
+        "the specialist in the numbered passes",
+        "auctions.rs",
+        "Holders::Numbered, !is_sweep",
+        "Holders::Shared(self.specialists[usize::from(strategy)]), !is_sweep",
+    ),
+    (
+        "a market maker's order of its member in an arriving order's pass",
+        "passes.rs",
+        "            .copied()\n            .collect();\n        let fills = allot(&holders, how, active.units);\n",
+        "            .copied()\n            .collect();\n        let named = self.specialists[usize::from(active.strategy)];\n        let mut holders = holders;\n        let how = match how {\n            Holders::Shared(None) if !self.auction_runs(active.strategy) => {\n                for holder in holders.iter_mut().filter(|holder| holder.group == 1) {\n                    holder.life = None;\n                }\n                Holders::Shared(named)\n            }\n            other => other,\n        };\n        let fills = allot(&holders, how, active.units);\n",
+    ),
+    (
+        "no portion to a starter of its own member",
+        "auctions.rs",
+        "            Holders::Shared(self.specialists[usize::from(strategy)]),\n",
+        "            Holders::Shared(self.specialists[usize::from(strategy)].filter(|named| self.entry(auction.starter).is_some_and(|starter| starter.member != named.member))),\n",
+    ),
+    (
+        "no portion to a selling starter",
+        "auctions.rs",
+        "            Holders::Shared(self.specialists[usize::from(strategy)]),\n",
+        "            Holders::Shared(self.specialists[usize::from(strategy)].filter(|_| auction.side == 0)),\n",
+    ),
+    (
+        "no portion to a broker-dealer's starter",
+        "auctions.rs",
+        "            Holders::Shared(self.specialists[usize::from(strategy)]),\n",
+        "            Holders::Shared(self.specialists[usize::from(strategy)].filter(|_| self.entry(auction.starter).is_some_and(|starter| starter.group == 0))),\n",
+    ),
+    (
+        "the specialist of strategy 0 for all",
+        "auctions.rs",
+        "            Holders::Shared(self.specialists[usize::from(strategy)]),\n",
+        "            Holders::Shared(self.specialists[0]),\n",
+    ),
+    // Request 2026-04: kind 11.
+    (
+        "the first one named holds",
+        "events.rs",
+        "                self.specialists[usize::from(strategy)] = Some(Specialist { member, percentage });\n",
+        "                let named = &mut self.specialists[usize::from(strategy)];\n                named.get_or_insert(Specialist { member, percentage });\n",
+    ),
+    (
+        "the highest percentage holds",
+        "events.rs",
+        "                self.specialists[usize::from(strategy)] = Some(Specialist { member, percentage });\n",
+        "                let old = self.specialists[usize::from(strategy)];\n                if old.is_none_or(|old| old.percentage <= percentage) {\n                    self.specialists[usize::from(strategy)] = Some(Specialist { member, percentage });\n                }\n",
+    ),
+    (
+        "another percentage of the same member not heard",
+        "events.rs",
+        "                self.specialists[usize::from(strategy)] = Some(Specialist { member, percentage });\n",
+        "                let old = self.specialists[usize::from(strategy)];\n                if old.is_none_or(|old| old.member != member) {\n                    self.specialists[usize::from(strategy)] = Some(Specialist { member, percentage });\n                }\n",
+    ),
+    (
+        "another member at the old percentage",
+        "events.rs",
+        "                self.specialists[usize::from(strategy)] = Some(Specialist { member, percentage });\n",
+        "                let old = self.specialists[usize::from(strategy)];\n                let percentage = old.map_or(percentage, |old| old.percentage);\n                self.specialists[usize::from(strategy)] = Some(Specialist { member, percentage });\n",
+    ),
+    (
+        "one specialist of all strategies",
+        "events.rs",
+        "                self.specialists[usize::from(strategy)] = Some(Specialist { member, percentage });\n",
+        "                self.specialists = [Some(Specialist { member, percentage }); STRATEGIES];\n",
+    ),
+    (
+        "a member in one strategy at a time",
+        "events.rs",
+        "                self.specialists[usize::from(strategy)] = Some(Specialist { member, percentage });\n",
+        "                for old in self.specialists.iter_mut() {\n                    *old = old.filter(|old| old.member != member);\n                }\n                self.specialists[usize::from(strategy)] = Some(Specialist { member, percentage });\n",
+    ),
+    (
+        "not heard while an auction runs",
+        "events.rs",
+        "                self.specialists[usize::from(strategy)] = Some(Specialist { member, percentage });\n",
+        "                if !self.auction_runs(strategy) {\n                    self.specialists[usize::from(strategy)] = Some(Specialist { member, percentage });\n                }\n",
+    ),
+    (
+        "heard while an auction runs alone",
+        "events.rs",
+        "                self.specialists[usize::from(strategy)] = Some(Specialist { member, percentage });\n",
+        "                if self.auction_runs(strategy) {\n                    self.specialists[usize::from(strategy)] = Some(Specialist { member, percentage });\n                }\n",
+    ),
+    (
+        "not heard beside a shut series",
+        "events.rs",
+        "                self.specialists[usize::from(strategy)] = Some(Specialist { member, percentage });\n",
+        "                if self.all_open(strategy) {\n                    self.specialists[usize::from(strategy)] = Some(Specialist { member, percentage });\n                }\n",
+    ),
+    (
+        "0 per cent takes the specialist away",
+        "events.rs",
+        "                self.specialists[usize::from(strategy)] = Some(Specialist { member, percentage });\n",
+        "                self.specialists[usize::from(strategy)] = Some(Specialist { member, percentage }).filter(|named| named.percentage > 0);\n",
+    ),
+    (
+        "kept over the day end",
+        "events.rs",
+        "        *self = Book::fresh(timer);\n",
+        "        let specialists = self.specialists;\n        *self = Book::fresh(timer);\n        self.specialists = specialists;\n",
+    ),
+    (
+        "forgotten when an auction ends",
+        "auctions.rs",
+        "            records.push(Record::auction_ended(auction.starter, strategy));\n",
+        "            records.push(Record::auction_ended(auction.starter, strategy));\n            self.specialists[usize::from(strategy)] = None;\n",
+    ),
+    (
+        "forgotten when a series shuts",
+        "events.rs",
+        "            self.end_shut_auctions(series, records);\n",
+        "            self.end_shut_auctions(series, records);\n            for strategy in self.strategies_holding(series) {\n                self.specialists[usize::from(strategy)] = None;\n            }\n",
+    ),
+    (
+        "forgotten when the strategy is defined again",
+        "events.rs",
+        "            Some(number) => number as u32,\n",
+        "            Some(number) => {\n                self.specialists[number] = None;\n                number as u32\n            }\n",
+    ),
+    (
+        "a strategy that is not defined accepted",
+        "events.rs",
+        "            Event::Specialist { strategy, .. } => {\n                if !self.defined(strategy) {\n",
+        "            Event::Specialist { strategy, .. } => {\n                if strategy as usize > STRATEGIES {\n",
+    ),
+    (
+        "a strategy that is not defined refused 3",
+        "events.rs",
+        "            Event::Specialist { strategy, .. } => {\n                if !self.defined(strategy) {\n                    causes.add(4);\n",
+        "            Event::Specialist { strategy, .. } => {\n                if !self.defined(strategy) {\n                    causes.add(3);\n",
+    ),
+    (
+        "refused 4 and kept",
+        "events.rs",
+        "            (first, _) => {\n",
+        "            (first, event) => {\n                if let (Some(4), Ok(Event::Specialist { member, strategy, percentage })) = (first, event) {\n                    self.specialists[usize::from(strategy)] = Some(Specialist { member, percentage });\n                }\n",
+    ),
+    (
+        "4 checked before 3",
+        "events.rs",
+        "            Err(refusal) => causes.add(*refusal),\n",
+        "            Err(3) if frame[2] == 11 && usize::from(frame[6]) >= self.strategies.len() => causes.add(4),\n            Err(refusal) => causes.add(*refusal),\n",
+    ),
+    (
+        "percentage 101 accepted",
+        "frames.rs",
+        "member >= 1 && strategy <= 15 && percentage <= 100",
+        "member >= 1 && strategy <= 15 && percentage <= 101",
+    ),
+    (
+        "percentage 100 refused",
+        "frames.rs",
+        "member >= 1 && strategy <= 15 && percentage <= 100",
+        "member >= 1 && strategy <= 15 && percentage < 100",
+    ),
+    (
+        "percentage 0 refused",
+        "frames.rs",
+        "member >= 1 && strategy <= 15 && percentage <= 100",
+        "member >= 1 && strategy <= 15 && percentage <= 100 && percentage > 0",
+    ),
+    (
+        "a specialist of member 0",
+        "frames.rs",
+        "member >= 1 && strategy <= 15 && percentage <= 100",
+        "strategy <= 15 && percentage <= 100",
+    ),
+    (
+        "strategy 16 refused 4",
+        "frames.rs",
+        "member >= 1 && strategy <= 15 && percentage <= 100",
+        "member >= 1 && strategy <= 16 && percentage <= 100",
+    ),
+    (
+        "strategy 15 refused 3",
+        "frames.rs",
+        "member >= 1 && strategy <= 15 && percentage <= 100",
+        "member >= 1 && strategy <= 14 && percentage <= 100",
+    ),
+    (
+        "kind 11 of 9 bytes",
+        "frames.rs",
+        "        11 => Ok(8),\n",
+        "        11 => Ok(if frame.len() == 9 { 9 } else { 8 }),\n",
+    ),
+    (
+        "the strategy number answered",
+        "events.rs",
+        "                self.specialists[usize::from(strategy)] = Some(Specialist { member, percentage });\n                0\n",
+        "                self.specialists[usize::from(strategy)] = Some(Specialist { member, percentage });\n                u32::from(strategy)\n",
+    ),
+    (
+        "passes after a specialist is named",
+        "events.rs",
+        "                self.specialists[usize::from(strategy)] = Some(Specialist { member, percentage });\n",
+        "                self.specialists[usize::from(strategy)] = Some(Specialist { member, percentage });\n                for leg in self.legs(strategy).to_vec() {\n                    self.legs_only_passes(leg.series, records);\n                }\n",
+    ),
+    (
+        "matches after a specialist is named",
+        "events.rs",
+        "                self.specialists[usize::from(strategy)] = Some(Specialist { member, percentage });\n",
+        "                self.specialists[usize::from(strategy)] = Some(Specialist { member, percentage });\n                if self.all_open(strategy) && !self.auction_runs(strategy) {\n                    self.opening_match(strategy, records);\n                }\n",
+    ),
+    (
+        "an auction that ends when a specialist is named",
+        "events.rs",
+        "                self.specialists[usize::from(strategy)] = Some(Specialist { member, percentage });\n",
+        "                self.specialists[usize::from(strategy)] = Some(Specialist { member, percentage });\n                if self.auction_runs(strategy) {\n                    self.close_auction(strategy, records);\n                }\n",
+    ),
+    (
+        "a number taken by kind 11",
+        "events.rs",
+        "                self.specialists[usize::from(strategy)] = Some(Specialist { member, percentage });\n",
+        "                self.specialists[usize::from(strategy)] = Some(Specialist { member, percentage });\n                self.given = (self.given + 1).min(LAST_NUMBER);\n",
+    ),
 ];
 
 /// A part of the days that the proved tape is compared on.
@@ -905,6 +1341,7 @@ fn days() -> Vec<Day> {
     days.extend(national());
     days.extend(best_prices());
     days.extend(near_nets());
+    days.extend(specialists());
     days.extend(ends().into_iter().step_by(40));
     days.extend(every_number(1));
     days
@@ -920,16 +1357,12 @@ fn slips_in_the_book_are_found() {
     if let Err(different) = agrees(&program, &days) {
         panic!("without an edit: {different}");
     }
-    let mut missed = Vec::new();
-    for slip in SLIPS {
-        let mut program = Program::new(built(&folder, "tape", slip), &[]);
+    let missed = missed(&folder, "tape", SLIPS, |built| {
+        let mut program = Program::new(built, &[]);
         program.limit = Duration::from_secs(20);
-        match agrees(&program, &days) {
-            Ok(_) => missed.push(slip.0),
-            Err(different) => println!("{}: {different}", slip.0),
-        }
-    }
+        agrees(&program, &days).err().map(|different| different.to_string())
+    });
     assert!(missed.is_empty(), "slips not found: {missed:#?}");
     println!("slips found: {}", SLIPS.len());
-    assert!(SLIPS.len() >= 144);
+    assert!(SLIPS.len() >= 216);
 }

@@ -99,6 +99,15 @@ pub fn range(cents: u16) -> Event {
     Event::ExecutionRange { cents }
 }
 
+/// Kind 11: the specialist of a strategy.
+pub fn specialist(member: u16, of: u8, percentage: u8) -> Event {
+    Event::Specialist {
+        member,
+        strategy: of,
+        percentage,
+    }
+}
+
 /// A book under test.
 pub struct Bench {
     pub book: Book,
