@@ -16,7 +16,7 @@
 extern "C" {
 #endif
 
-/* How many numbers an event is: its kind (1 to 10), then its 19 values. The
+/* How many numbers an event is: its kind (1 to 11), then its 19 values. The
  * values are the fields in frame order; in the place of a limit stands the limit
  * and 10,000,000 more; the values past the fields are 0 where they are read, and
  * are not looked at where they are written, but for the legs of a strategy. */
@@ -33,6 +33,7 @@ extern "C" {
 #define COMPLEX_BOOK_DAY_END 8          /* 6: next day's timer */
 #define COMPLEX_BOOK_NATIONAL_PRICES 9  /* 13: series, national bid, offer; 0 is a missing one */
 #define COMPLEX_BOOK_EXECUTION_RANGE 10 /* 6: range in cents */
+#define COMPLEX_BOOK_SPECIALIST 11      /* 8: member, strategy, percentage */
 
 /* The length of the longest frame that is written: a strategy of six legs. */
 #define COMPLEX_BOOK_LONGEST 23
@@ -40,10 +41,11 @@ extern "C" {
 /* Whether a frame may be queued:
  *   0  it carries an event, every field in its range;
  *   2  it is under 4 bytes, `length` is not the length in its first two bytes,
- *      its kind is not one of 1 to 10, or its length is wrong for its kind;
+ *      its kind is not one of 1 to 11, or its length is wrong for its kind;
  *   3  its length is right and a field is outside its range.
  * There is no other answer. Where both 2 and 3 apply, the answer is 2. Other
- * refusals are the book's: a national bid above its offer is judged 0. */
+ * refusals are the book's: a national bid above its offer is judged 0, and so is
+ * the specialist of a strategy that is not defined. */
 uint32_t complex_book_judge(const uint8_t *frame, size_t length);
 
 /* Reads a frame into numbers:
@@ -55,7 +57,7 @@ uint32_t complex_book_read(const uint8_t *frame, size_t length, uint32_t *values
 
 /* Writes the frame of the event that the first 20 values are. Answers its
  * length, 6 to 23; or
- *   3  `count` is under 20, the kind is not one of 1 to 10, a field is outside its
+ *   3  `count` is under 20, the kind is not one of 1 to 11, a field is outside its
  *      range, or a leg past a strategy's count is not 0;
  *   1  `length`, that of the space, is under the frame's.
  * The space past the frame stays, and all of it at a refusal. */

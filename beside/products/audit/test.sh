@@ -110,6 +110,9 @@ check "sweeps: a buy at the bid net after a fill enters" fails sweeps 's/^E 21 1
     'day 1, number 27: entered 2, but filled 0 + cancelled 0 + live 0 = 0' \
     'day 1, number 27: a sweep that buys at 92, not above the bid net 92 of its arrival'
 check "it is seen in the table" in_table
+check "specialist: what its portion leaves is not cancelled" fails specialist 's/^R 3 14 0 0 3 0$/R 3 14 0 0 2 0/' \
+    'day 1, number 14: entered 7, but filled 4 + cancelled 2 + live 0 = 6'
+check "it is seen in the table" in_table
 check "paid: one price for each party" fails auction 's/^R 1 5 0 0 2 94$/R 1 5 0 0 2 93/' \
     'day 1, cash: paid 2673, but received 2675'
 check "it is seen in the table" in_table

@@ -10,7 +10,7 @@
 #include <sys/mman.h>
 #include <unistd.h>
 
-enum { LENGTHS = 800, KINDS = 12 };
+enum { LENGTHS = 800, KINDS = 13 };
 
 static uint8_t *room; /* one page between two that may not be read */
 static size_t page;

@@ -39,7 +39,6 @@ static void national(void) {
     const uint32_t range[COMPLEX_BOOK_NUMBERS] = {COMPLEX_BOOK_EXECUTION_RANGE, 9999};
     const uint8_t range_frame[6] = {6, 0, 10, 0, 0x0f, 0x27};
     const uint32_t high[COMPLEX_BOOK_NUMBERS] = {COMPLEX_BOOK_EXECUTION_RANGE, 10000};
-    const uint32_t unknown[COMPLEX_BOOK_NUMBERS] = {11, 1};
     uint8_t space[COMPLEX_BOOK_LONGEST];
 
     both_ways("national prices", prices, prices_frame, 13);
@@ -47,7 +46,29 @@ static void national(void) {
     both_ways("a national bid above its offer", crossed, crossed_frame, 13);
     both_ways("execution range", range, range_frame, 6);
     check("range 10,000", complex_book_write(high, COMPLEX_BOOK_NUMBERS, space, sizeof space), 3);
-    check("kind 11", complex_book_write(unknown, COMPLEX_BOOK_NUMBERS, space, sizeof space), 3);
+}
+
+/* Kind 11. Whether its strategy is defined is for the book to say. */
+static void specialist(void) {
+    const uint32_t named[COMPLEX_BOOK_NUMBERS] = {COMPLEX_BOOK_SPECIALIST, 258, 3, 40};
+    const uint8_t named_frame[8] = {8, 0, 11, 0, 2, 1, 3, 40};
+    const uint32_t most[COMPLEX_BOOK_NUMBERS] = {COMPLEX_BOOK_SPECIALIST, 65535, 15, 100};
+    const uint8_t most_frame[8] = {8, 0, 11, 0, 255, 255, 15, 100};
+    const uint32_t member[COMPLEX_BOOK_NUMBERS] = {COMPLEX_BOOK_SPECIALIST, 0, 3, 40};
+    const uint32_t strategy[COMPLEX_BOOK_NUMBERS] = {COMPLEX_BOOK_SPECIALIST, 258, 16, 40};
+    const uint32_t high[COMPLEX_BOOK_NUMBERS] = {COMPLEX_BOOK_SPECIALIST, 258, 3, 101};
+    const uint32_t wide[COMPLEX_BOOK_NUMBERS] = {COMPLEX_BOOK_SPECIALIST, 258, 3, 256 + 40};
+    const uint32_t unknown[COMPLEX_BOOK_NUMBERS] = {12, 258, 3, 40};
+    uint8_t space[COMPLEX_BOOK_LONGEST];
+
+    both_ways("specialist", named, named_frame, 8);
+    both_ways("the highest specialist", most, most_frame, 8);
+    check("member 0", complex_book_write(member, COMPLEX_BOOK_NUMBERS, space, 8), 3);
+    check("strategy 16", complex_book_write(strategy, COMPLEX_BOOK_NUMBERS, space, 8), 3);
+    check("101 per cent", complex_book_write(high, COMPLEX_BOOK_NUMBERS, space, 8), 3);
+    check("296 per cent", complex_book_write(wide, COMPLEX_BOOK_NUMBERS, space, 8), 3);
+    check("a space of 7", complex_book_write(named, COMPLEX_BOOK_NUMBERS, space, 7), 1);
+    check("kind 12", complex_book_write(unknown, COMPLEX_BOOK_NUMBERS, space, sizeof space), 3);
 }
 
 int main(void) {
@@ -76,5 +97,6 @@ int main(void) {
     check("judge, a side of 2", complex_book_judge(space, 14), 3);
     check("read, a side of 2", complex_book_read(space, 14, values, COMPLEX_BOOK_NUMBERS), 3);
     national();
+    specialist();
     return failures == 0 ? 0 : 1;
 }

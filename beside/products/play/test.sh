@@ -31,7 +31,7 @@ prints() {
     shift
     ./play "$@" >"$out/printed" && diff "$stored" "$out/printed"
 }
-several() { [ "$(find days -name '*.txt' | wc -l)" -ge 8 ]; }
+several() { [ "$(find days -name '*.txt' | wc -l)" -ge 9 ]; }
 has_text() { [ -f "${1%.out}.txt" ]; }
 has_stored() { [ -f "${1%.txt}.out" ] && [ -f "${1%.txt}.words" ] && [ -f "${1%.txt}.audit" ]; }
 # reckoned DAY: the reckoning's tape prints the stored lines for its frames.
@@ -41,7 +41,7 @@ reckoned() {
         diff "${1%.txt}.out" "$out/reckoned"
 }
 
-check "eight days or more" several
+check "nine days or more" several
 for day in days/*.txt; do
     check "$day" prints "${day%.txt}.out" "$day"
     check "$day in words" prints "${day%.txt}.words" --words "$day"
@@ -88,6 +88,19 @@ same_refusals() {
     [ "$(./play --help | grep -cE '^  1?[0-9]   ? ?[a-z]')" -ge 15 ] && [ "$(grep -cE '^\| 1?[0-9] \| ' README.md)" -ge 15 ]
 }
 check "refusals in --help and README.md" same_refusals
+same_lines() {
+    local word words
+    words=$("$CARGO_TARGET_DIR/release/assemble" --help | sed -nE 's/^  ([a-z-]+) .*/\1/p')
+    [ "$(wc -w <<<"$words")" -ge 13 ] || return
+    ./play --help >"$out/help" || return
+    for word in $words; do
+        if ! grep -q "^  $word " "$out/help" || ! grep -qE "^\| .*\`$word " README.md; then
+            echo "play: no line '$word' in --help or README.md"
+            return 1
+        fi
+    done
+}
+check "lines of a day in --help and README.md" same_lines
 
 # ends STATUS WORDS COMMAND...: the command ends with that status, prints nothing
 # and says the words on standard error.

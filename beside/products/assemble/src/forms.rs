@@ -193,6 +193,19 @@ pub const FORMS: &[Form] = &[
         parts: &[Number(field("cents", 1))],
         fixed: &[],
     },
+    Form {
+        word: "specialist",
+        kind: 11,
+        parts: &[
+            Word("member"),
+            Number(field("member", 1)),
+            Word("strategy"),
+            Number(field("strategy", 2)),
+            Word("percentage"),
+            Number(field("percentage", 3)),
+        ],
+        fixed: &[],
+    },
 ];
 
 impl Form {

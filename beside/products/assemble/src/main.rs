@@ -21,10 +21,11 @@ fn usage() -> String {
 
 Writes the frames that the text of FILE stands for to standard output. A line of
 the text is one event; '#' starts a comment:
-{shapes}Prices and limits are whole cents; a national price that is missing is 'none' or
-0. The proved writer writes each frame, and a number outside its field's range is
-an error with its line. 'bytes' takes any bytes, in hex: '00*300' is the byte 00
-three hundred times; a warning says where they are not one frame.
+{shapes}Prices and limits are whole cents, and a percentage is a whole number; a national
+price that is missing is 'none' or 0. The proved writer writes each frame, and a
+number outside its field's range is an error with its line. 'bytes' takes any
+bytes, in hex: '00*300' is the byte 00 three hundred times; a warning says where
+they are not one frame.
 
 Every bad line is told, and then nothing is written. With --as, messages begin
 with NAME instead of 'assemble'.

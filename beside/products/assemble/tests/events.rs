@@ -8,7 +8,7 @@ use assemble::assemble;
 use assemble::codec::{read, write, Row};
 
 /// Each form, with its frame written by hand from document 01's table, and from
-/// request 2026-01.
+/// requests 2026-01 and 2026-04.
 const FRAMES: &[(&str, &[u8])] = &[
     ("open 0", &[6, 0, 6, 0, 0, 1]),
     ("open 31", &[6, 0, 6, 0, 31, 1]),
@@ -80,6 +80,18 @@ const FRAMES: &[(&str, &[u8])] = &[
     ),
     ("execution-range 25", &[6, 0, 10, 0, 25, 0]),
     ("execution-range 9999", &[6, 0, 10, 0, 0x0f, 0x27]),
+    (
+        "specialist member 7 strategy 3 percentage 40",
+        &[8, 0, 11, 0, 7, 0, 3, 40],
+    ),
+    (
+        "specialist member 65535 strategy 15 percentage 100",
+        &[8, 0, 11, 0, 255, 255, 15, 100],
+    ),
+    (
+        "specialist member 256 strategy 0 percentage 0",
+        &[8, 0, 11, 0, 0, 1, 0, 0],
+    ),
 ];
 
 #[test]
@@ -116,7 +128,7 @@ fn commas_stand_with_or_without_blanks() {
 }
 
 /// Each number of each form as `@`, with its name and its range in document 01 or
-/// in request 2026-01.
+/// in requests 2026-01 and 2026-04.
 const RANGES: &[(&str, &str, i64, i64)] = &[
     ("open @", "series", 0, 31),
     ("shut @", "series", 0, 31),
@@ -211,6 +223,24 @@ const RANGES: &[(&str, &str, i64, i64)] = &[
         99_999,
     ),
     ("execution-range @", "cents", 0, 9_999),
+    (
+        "specialist member @ strategy 0 percentage 40",
+        "member",
+        1,
+        65_535,
+    ),
+    (
+        "specialist member 1 strategy @ percentage 40",
+        "strategy",
+        0,
+        15,
+    ),
+    (
+        "specialist member 1 strategy 0 percentage @",
+        "percentage",
+        0,
+        100,
+    ),
 ];
 
 #[test]
@@ -377,6 +407,52 @@ const BAD: &[(&str, &str)] = &[
         "'none' is no whole number for the cents; the form is: execution-range CENTS",
     ),
     ("execution-range 25 cents", "'cents' stands after the end"),
+    ("specialist", "the line ends before 'member'"),
+    (
+        "specialist 7 strategy 0 percentage 40",
+        "'7' stands in the place of 'member'",
+    ),
+    ("specialist member", "the line ends before the member"),
+    (
+        "specialist member none strategy 0 percentage 40",
+        "'none' is no whole number for the member",
+    ),
+    (
+        "specialist member 7 of strategy 0 percentage 40",
+        "'of' stands in the place of 'strategy'",
+    ),
+    (
+        "specialist strategy 0 member 7 percentage 40",
+        "'strategy' stands in the place of 'member'",
+    ),
+    (
+        "specialist member 7 strategy 0 40",
+        "'40' stands in the place of 'percentage'",
+    ),
+    (
+        "specialist member 7 strategy 0",
+        "the line ends before 'percentage'",
+    ),
+    (
+        "specialist member 7 strategy 0 percentage",
+        "the line ends before the percentage",
+    ),
+    (
+        "specialist member 7 strategy 0 percentage 40%",
+        "'40%' is no whole number for the percentage; the form is: specialist member MEMBER strategy STRATEGY percentage PERCENTAGE",
+    ),
+    (
+        "specialist member 7 strategy 0 percentage 0.4",
+        "'0.4' is no whole number for the percentage",
+    ),
+    (
+        "specialist member 7 strategy 0 percentage 40 60",
+        "'60' stands after the end of the event",
+    ),
+    (
+        "specialists member 7 strategy 0 percentage 40",
+        "'specialists' begins no event; one of these does: strategy, open, shut, leg-order, complex-order, sweep, cancel, clock, day-end, national-prices, execution-range, specialist, bytes",
+    ),
 ];
 
 #[test]
@@ -458,7 +534,11 @@ fn line(row: &Row) -> String {
             national(row[2]),
             national(row[3])
         ),
-        _ => format!("execution-range {}", row[1]),
+        10 => format!("execution-range {}", row[1]),
+        _ => format!(
+            "specialist member {} strategy {} percentage {}",
+            row[1], row[2], row[3]
+        ),
     }
 }
 
@@ -497,11 +577,11 @@ fn random(state: &mut u64) -> u32 {
 #[test]
 fn what_is_read_from_a_frame_is_written_as_its_line_and_back() {
     let mut state = 1;
-    let mut counts = [0; 11];
+    let mut counts = [0; 12];
     while counts[1..].iter().any(|count| *count < 500) {
         // Any row; the writer says which are events.
         let mut row: Row = [0; 20];
-        row[0] = 1 + random(&mut state) % 10;
+        row[0] = 1 + random(&mut state) % 11;
         let legs = 2 + random(&mut state) as usize % 5;
         for number in &mut row[1..2 + 3 * legs] {
             *number = random(&mut state) >> (random(&mut state) % 31);

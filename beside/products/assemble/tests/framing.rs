@@ -138,7 +138,7 @@ fn lines_that_are_no_frame_are_warned_of() {
     let cases: &[(&str, &[&str])] = &[
         ("bytes 06 00 06 00 00 01\nopen 0", &[]),
         // Of a wrong kind or out of range, but a frame.
-        ("bytes 05 00 0b 00 ff", &[]),
+        ("bytes 05 00 0c 00 ff", &[]),
         (
             "bytes 06 00 06 00 00 01 06 00 06 00 01 01",
             &["line 1: warning: the length field is 6 and the line has 12 bytes: tape begins another frame inside the line, after 6 bytes"],

@@ -164,6 +164,8 @@ pub enum Event {
     },
     /// The execution range.
     Range(u32),
+    /// What enters nothing, and of which no claim speaks: a cancel, a series, the clock,
+    /// and kind 11, which names a specialist.
     Other,
     Refused(u32),
 }

@@ -20,10 +20,11 @@ usage: audit FRAMES LINES ENDED
 Prints the totals of a list of events, as document 01 has them in \"The totals
 after a list\", for each of its days, the fills that national nets bound (request
 2026-01), and the limit of each sweep against the leg net of its own side at its
-arrival (request 2026-03). FRAMES is a file of frames, LINES what the program `tape`
-prints for it, ENDED what it prints for the output of the second form: the same
-frames with a day end after them. What that day end cancels was live. Nothing else
-is read.
+arrival (request 2026-03). What members enter ends as filled, cancelled or live where
+specialists are named, too (request 2026-04). FRAMES is a file of frames, LINES what
+the program `tape` prints for it, ENDED what it prints for the output of the second
+form: the same frames with a day end after them. What that day end cancels was live.
+Nothing else is read.
 
 The last line is 'totals hold'; or what does not hold is listed and the exit
 status is 1. The list has the first 1,000 and, if there are more, ends with the

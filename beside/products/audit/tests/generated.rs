@@ -5,11 +5,13 @@
 #![deny(warnings)]
 
 mod common;
+mod specialists;
 
 use audit::frames::with_day_end;
 use common::audited;
 use reckoning::generate::{long_list, stream, Random};
 use reckoning::tape::tape;
+use specialists::{named, with_another, with_specialists};
 
 fn lines(input: &[u8]) -> Vec<String> {
     let mut printed = Vec::new();
@@ -66,6 +68,25 @@ fn the_totals_hold_on_generated_days() {
         let day = Played::new(stream(seed, 1_500));
         assert_eq!(day.failures(), [""; 0], "seed {seed}");
     }
+}
+
+/// "What members enter still ends as filled, cancelled or live": also where the sweeps
+/// of specialists have their portions, without which the lines would be others.
+#[test]
+fn the_totals_hold_where_specialists_are_named() {
+    let mut random = Random::new(19);
+    let (mut specialists, mut portions) = (0, 0);
+    for seed in 1..=40 {
+        let day = Played::new(with_specialists(&stream(seed, 1_500), &mut random));
+        assert_eq!(day.failures(), [""; 0], "seed {seed}");
+        specialists += named(&day.input, &day.lines);
+        portions += usize::from(lines(&with_another(&day.input)) != day.lines);
+    }
+    println!("{specialists} specialists, {portions} lists with portions");
+    assert!(
+        specialists > 1_000 && portions > 10,
+        "{specialists} {portions}"
+    );
 }
 
 #[test]

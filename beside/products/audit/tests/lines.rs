@@ -339,13 +339,20 @@ fn events_are_read_with_their_terms() {
         }
     );
     assert_eq!(read("execution-range 25"), Event::Range(25));
-    for line in ["open 0", "cancel member 1 number 1", "clock 0"] {
+    for line in [
+        "open 0",
+        "cancel member 1 number 1",
+        "clock 0",
+        "specialist member 7 strategy 0 percentage 40",
+    ] {
         assert_eq!(read(line), Event::Other);
     }
     assert_eq!(read("bytes 06 00 06 00 20 01"), Event::Refused(3));
     assert_eq!(read("bytes 04 00 0b 00"), Event::Refused(2));
+    assert_eq!(read("bytes 04 00 0c 00"), Event::Refused(2));
     assert_eq!(read("bytes 04 00 09 00"), Event::Refused(2));
     assert_eq!(read("bytes 06 00 0a 00 10 27"), Event::Refused(3));
+    assert_eq!(read("bytes 08 00 0b 00 07 00 00 65"), Event::Refused(3));
     assert_eq!(event(Part::Stop), Event::Refused(2));
 }
 

@@ -165,9 +165,9 @@ fn a_stop_beside_something_wrong() {
 #[test]
 fn a_stop_at_the_end_leaves_the_status_0() {
     let [day, lines, printed] = REFUSALS;
-    let (before, _) = lines.split_once("E 45 ").expect("the last event");
+    let (before, _) = lines.split_once("E 47 ").expect("the last event");
     let live = "R 3 1 0 0 5 0\nR 3 2 0 1 15 0\nR 3 3 0 0 3 0\nR 3 4 0 0 2 0\nR 3 5 0 1 2 0\n";
-    let end = format!("E 45 0 0 6\nR 5 3 0 0 0 0\n{live}");
+    let end = format!("E 47 0 0 6\nR 5 3 0 0 0 0\n{live}");
     let words = files("refusals", day, lines, &format!("{before}{end}"));
     let at = fs::metadata(&words[0]).expect("a file").len() - 5;
     let said = format!("audit: tape stopped at byte {at} of the frames, whose length field is 6 (past the end of the input); nothing stands after it\n");

@@ -6,12 +6,14 @@
 #![deny(warnings)]
 
 mod common;
+mod specialists;
 
 use audit::frames::with_day_end;
 use common::audited;
 use reckoning::frames::{read, values};
 use reckoning::generate::{stream, Random};
 use reckoning::tape::tape;
+use specialists::{named, with_another, with_specialists};
 use std::collections::BTreeSet;
 
 /// Kind, number, place, side, quantity, price.
@@ -552,6 +554,30 @@ fn the_tables_of_generated_days() {
         sweeps += known;
     }
     assert!(numbers > 100 && sweeps > 100, "{numbers} {sweeps}");
+}
+
+/// The tables where specialists are named, and the same lines for frames that name
+/// another member: the claims do not ask who is the specialist.
+#[test]
+fn the_tables_where_specialists_are_named() {
+    let mut random = Random::new(23);
+    let (mut specialists, mut portions) = (0, 0);
+    for seed in 1..=48 {
+        let input = with_specialists(&stream(seed, 250), &mut random);
+        let (lines, ended) = (played(&input), played(&with_end(&input)));
+        let another = with_another(&input);
+        for frames in [&input, &another] {
+            let failures = compared(frames, &lines, &ended, &format!("seed {seed}"));
+            assert_eq!(failures, 0, "seed {seed}");
+        }
+        specialists += named(&input, &lines);
+        portions += usize::from(played(&another) != lines);
+    }
+    println!("{specialists} specialists, {portions} lists with portions");
+    assert!(
+        specialists > 500 && portions > 10,
+        "{specialists} {portions}"
+    );
 }
 
 /// Another value in a field of a record 1, 2 or 3.

@@ -19,6 +19,10 @@ const SETS: &[(u32, &str)] = &[
         "national prices of series {series}: bid {bid}, offer {offer}",
     ),
     (10, "execution range {cents}"),
+    (
+        11,
+        "specialist of strategy {strategy}: member {member}, {percentage} per cent",
+    ),
 ];
 
 /// An answer in words, `new` where its number was not given before. The count is

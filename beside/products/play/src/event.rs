@@ -17,6 +17,7 @@ pub const KINDS: &[(u32, &str)] = &[
     (8, "day end"),
     (9, "national prices"),
     (10, "execution range"),
+    (11, "specialist"),
 ];
 
 /// The kinds that other modules speak of.

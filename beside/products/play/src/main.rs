@@ -24,8 +24,9 @@ as document 01 says. ANSWER is 0, or the number of the refusal. With --words it
 prints each line of the day with what came of it in words, and totals.
 
 DAY is a text file with one event a line; '#' starts a comment. The lines:
-{shapes}Prices and limits are whole cents; a national price that is missing is 'none' or
-0. Every bad line is told, and then nothing is played.
+{shapes}Prices and limits are whole cents, and a percentage is a whole number; a national
+price that is missing is 'none' or 0. Every bad line is told, and then nothing is
+played.
 
 The status is 0; 1 where something fails; 2 for a wrong use; 3 where lines of
 events were not played, as the program stopped before them or took them into the

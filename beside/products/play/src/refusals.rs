@@ -1,5 +1,5 @@
 //! The causes of refusals in words: those of document 01's table and of requests
-//! 2026-01 and 2026-03, said for the event at hand where its fields are known.
+//! 2026-01, 2026-03 and 2026-04, said for the event at hand where its fields are known.
 
 use crate::event::{kind_name, Event};
 use assemble::framing::Why;
@@ -53,7 +53,7 @@ const CAUSES: &[(i64, Of, &str)] = &[
         "a field of this frame of kind {kind}, {what}, is outside its range",
     ),
     (3, All, "a field is outside its range"),
-    (4, Kinds(&[2, 3]), "strategy {strategy} is not defined"),
+    (4, Kinds(&[2, 3, 11]), "strategy {strategy} is not defined"),
     (4, All, "the strategy is not defined"),
     (5, Kinds(&[1]), "series {twice} stands twice"),
     (

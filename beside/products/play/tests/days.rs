@@ -19,7 +19,7 @@ fn days() -> Vec<PathBuf> {
         .filter(|path| path.extension().is_some_and(|end| end == "txt"))
         .collect();
     days.sort();
-    assert!(days.len() >= 8, "{days:?}");
+    assert!(days.len() >= 9, "{days:?}");
     days
 }
 

@@ -78,7 +78,7 @@ fn same(back: &str, lines: &[u8], what: &str) {
 
 #[test]
 fn words_turn_back_into_the_lines() {
-    let (mut events, mut records, mut several) = (0, 0, 0);
+    let (mut events, mut records, mut several, mut named) = (0, 0, 0, 0);
     for seed in 1..=80 {
         let input = stream(seed, 1_000);
         let lines = played(&input);
@@ -91,10 +91,11 @@ fn words_turn_back_into_the_lines() {
         let words = words(&day, &lines);
         assert!(!words.contains("\n  record "), "seed {seed}");
         several += words.matches(") and ").count();
+        named += words.matches(": accepted, specialist of strategy ").count();
     }
-    println!("{events} events, {records} records, {several} leg orders beside others");
+    println!("{events} events, {records} records, {several} leg orders beside others, {named} specialists");
     assert!(events > 50_000 && records > 20_000, "{events} {records}");
-    assert!(several > 100, "{several}");
+    assert!(several > 100 && named > 100, "{several} {named}");
 }
 
 #[test]

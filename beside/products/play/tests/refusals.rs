@@ -18,7 +18,8 @@ const CAUSES: &[(&str, i64, &str)] = &[
         "its length field is 255, past the end of the input",
     ),
     ("bytes 04", 2, "it is a lone last byte"),
-    ("bytes 04 00 0b 00", 2, "kind 11 is unknown"),
+    ("bytes 04 00 0c 00", 2, "kind 12 is unknown"),
+    ("bytes 08 00 0b 01 07 00 00 28", 2, "kind 267 is unknown"),
     ("bytes 04 00 00 01", 2, "kind 256 is unknown"),
     (
         "bytes 05 00 06 00 00",
@@ -46,6 +47,16 @@ const CAUSES: &[(&str, i64, &str)] = &[
         "13 bytes are a wrong length for kind 10, execution range",
     ),
     (
+        "bytes 04 00 0b 00",
+        2,
+        "4 bytes are a wrong length for kind 11, specialist",
+    ),
+    (
+        "bytes 09 00 0b 00 07 00 00 28 00",
+        2,
+        "9 bytes are a wrong length for kind 11, specialist",
+    ),
+    (
         "bytes 06 00 06 00 20 01",
         3,
         "a field of this frame of kind 6, series, is outside its range",
@@ -55,7 +66,12 @@ const CAUSES: &[(&str, i64, &str)] = &[
         3,
         "a field of this frame of kind 10, execution range, is outside its range",
     ),
-    ("bytes 04 00 0b 00", 3, "a field is outside its range"),
+    (
+        "bytes 08 00 0b 00 07 00 00 65",
+        3,
+        "a field of this frame of kind 11, specialist, is outside its range",
+    ),
+    ("bytes 04 00 0c 00", 3, "a field is outside its range"),
     (
         "complex-order member 1 customer buy 1 of strategy 3 day at 5",
         4,
@@ -65,6 +81,22 @@ const CAUSES: &[(&str, i64, &str)] = &[
         "sweep member 1 buy 1 of strategy 15 at 5",
         4,
         "strategy 15 is not defined",
+    ),
+    (
+        "specialist member 7 strategy 9 percentage 40",
+        4,
+        "strategy 9 is not defined",
+    ),
+    (
+        "bytes 08 00 0b 00 ff ff 0f 64",
+        4,
+        "strategy 15 is not defined",
+    ),
+    // A specialist's frame that cannot be read, and an event without a strategy.
+    (
+        "bytes 08 00 0b 00 07 00 10 28",
+        4,
+        "the strategy is not defined",
     ),
     ("clock 1", 4, "the strategy is not defined"),
     (

@@ -306,6 +306,61 @@ totals of day 1, event 0
     );
 }
 
+/// Whom kind 11 names is said where it is accepted.
+#[test]
+fn the_specialist_of_a_strategy() {
+    tells(
+        "\
+strategy 0 buy 1, 1 sell 1
+specialist member 7 strategy 0 percentage 40
+specialist member 65535 strategy 0 percentage 0
+specialist member 7 strategy 1 percentage 100
+bytes 08 00 0b 00 08 00 00 64 08 00 0b 00 08 00 00 65
+specialist member 9 strategy 0 percentage 1
+",
+        "E 0 0 0 0\nE 1 0 0 0\nE 2 0 0 0\nE 3 4 0 0\nE 4 0 0 0\nE 5 3 0 0\nE 6 0 5 1\n",
+        "\
+line 1: strategy 0 buy 1, 1 sell 1
+  event 0: accepted, strategy 0
+line 2: specialist member 7 strategy 0 percentage 40
+  event 1: accepted, specialist of strategy 0: member 7, 40 per cent
+line 3: specialist member 65535 strategy 0 percentage 0
+  event 2: accepted, specialist of strategy 0: member 65535, 0 per cent
+line 4: specialist member 7 strategy 1 percentage 100
+  event 3: refused 4, strategy 1 is not defined
+line 5: bytes 08 00 0b 00 08 00 00 64 08 00 0b 00 08 00 00 65
+  event 4 (specialist member 8 strategy 0 percentage 100): accepted, specialist of strategy 0: member 8, 100 per cent
+line 5, from its byte 9 on
+  event 5: refused 3, a field of this frame of kind 11, specialist, is outside its range
+line 6: specialist member 9 strategy 0 percentage 1
+  event 6: accepted, specialist of strategy 0: member 9, 1 per cent; value 5; counts 1 records
+totals of day 1, events 0 to 6
+  5 events accepted, 2 refused: 1 with 3, 1 with 4
+  no auctions
+  no fills
+  no cancels
+  cash in cents: 0 paid, 0 received
+  nothing is live
+",
+    );
+    // A frame that cannot be read names nobody.
+    tells(
+        "bytes 04 00 0b 00",
+        "E 0 0 0 0\n",
+        "\
+line 1: bytes 04 00 0b 00
+  event 0: accepted
+totals of day 1, event 0
+  1 event accepted, none refused
+  no auctions
+  no fills
+  no cancels
+  cash in cents: 0 paid, 0 received
+  nothing is live
+",
+    );
+}
+
 #[test]
 fn numbers_begin_anew_after_a_day_end() {
     tells(

@@ -255,6 +255,15 @@ fn range(rest: &mut Rest) -> Option<()> {
     rest.number().map(|_| ())
 }
 
+/// Who is named, after ", specialist ".
+fn specialist(rest: &mut Rest) -> Option<()> {
+    for before in ["of strategy ", ": member ", ", "] {
+        rest.text(before)?;
+        rest.number()?;
+    }
+    rest.text(" per cent")
+}
+
 fn event(sentence: &str) -> Option<Event> {
     let mut rest = Rest(sentence);
     rest.text("event ")?;
@@ -268,11 +277,19 @@ fn event(sentence: &str) -> Option<Event> {
     let mut value = 0;
     let answer = match first.one_of(&["accepted", "refused "])? {
         0 => {
-            match first.one_of(&[", number ", ", strategy ", ", national ", ", execution "]) {
+            let said = [
+                ", number ",
+                ", strategy ",
+                ", national ",
+                ", execution ",
+                ", specialist ",
+            ];
+            match first.one_of(&said) {
                 None => {}
                 Some(0 | 1) => value = first.number()?,
                 Some(2) => national(&mut first)?,
-                Some(_) => range(&mut first)?,
+                Some(3) => range(&mut first)?,
+                Some(_) => specialist(&mut first)?,
             }
             first.end()?;
             0
