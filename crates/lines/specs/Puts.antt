@@ -14,7 +14,6 @@ use lib.Seq.{sets, length-sets, take-suc}
 use borrow.Author.Tests.{lt-ltb, le-ltb, ltb-true}
 use Rattle.base.specs.Pick.{pick, pick-by, pick-true, pick-false}
 use Rattle.rules.specs.declared.Answer.{Answer}
-use Rattle.rules.specs.declared.Answer.the-variants.{Accepted, Refused}
 use Rattle.rules.specs.Step.{answerNumber, answerValue, answerCount}
 use Rattle.lines.specs.Lines.{digits, decimal, signed, spaced, textLine, recordLines, eventLine, eventText}
 
@@ -230,19 +229,9 @@ listing-next sp {i} l x = record { put = rw (add-one i) (put-then (l .put) (x .p
 pub listing-done : (sp : List ℤ) (n : ℕ) {s q : List ℕ} {a m i : ℕ} → Listing sp s q a m i → i ≡ n → Within (74 * n) s q a m (recordLines n sp)
 listing-done sp n l e = record { put = rw e at (l .put); few = rw e at (l .few) }
 
-pub count-accepted : {a : Answer} {v n : ℕ} → a ≡ Accepted v n → answerCount a ≡ n
-unfolding answerCount
-count-accepted e = ap answerCount e
-
-pub put-accepted :
-    (i : ℕ) (sp : List ℤ) {x : Answer} {v n : ℕ} → x ≡ Accepted v n → {s q r : List ℕ} {a m k : ℕ} →
-    Within 86 s q a m (textLine 69 (pos i ∷ (pos 0 ∷ (pos v ∷ (pos n ∷ []))))) → Within (74 * n) q r m k (recordLines n sp) →
+pub put-event :
+    (i : ℕ) (sp : List ℤ) (x : Answer) {o v n : ℕ} → o ≡ answerNumber x → v ≡ answerValue x → n ≡ answerCount x → {s q r : List ℕ} {a m k : ℕ} →
+    Within 86 s q a m (textLine 69 (pos i ∷ (pos o ∷ (pos v ∷ (pos n ∷ []))))) → Within (74 * n) q r m k (recordLines n sp) →
     Within (86 + 74 * answerCount x) s r a k (eventText i x sp)
-unfolding eventText eventLine answerNumber answerValue answerCount
-put-accepted i sp e p q = rw e (record { put = put-then (p .put) (q .put); few = omega (arith, p .few, q .few) })
-
-pub put-refused :
-    (i : ℕ) (sp : List ℤ) {x : Answer} {v : ℕ} → x ≡ Refused v → {s q : List ℕ} {a m : ℕ} →
-    Within 86 s q a m (textLine 69 (pos i ∷ (pos v ∷ (pos 0 ∷ (pos 0 ∷ []))))) → Within (86 + 74 * answerCount x) s q a m (eventText i x sp)
-unfolding eventText eventLine answerNumber answerValue answerCount recordLines
-put-refused i sp e p = rw e (record { put = put-then (p .put) (put-nil _ _); few = omega (arith, p .few) })
+unfolding eventText eventLine
+put-event i sp x d e f p q = rw (← d, ← e, ← f) (record { put = put-then (p .put) (q .put); few = omega (arith, p .few, q .few) })

@@ -5,7 +5,7 @@ ghost use mathlib.Core.List.{[], _∷_};
 ghost use lib.IntN.{pos, natAbs};
 ghost use lib.ListN.{length, take, drop};
 ghost use Rattle.frames.specs.Number.{number};
-ghost use Rattle.rules.specs.Step.{answerCount};
+ghost use Rattle.rules.specs.Step.{answerNumber, answerValue, answerCount};
 ghost use Rattle.lines.specs.Lines.{decimal, signed, spaced, textLine, recordLines, eventText};
 ghost use Rattle.lines.specs.Cuts.{toldLength, neededOf, cutOf};
 ghost use Rattle.lines.specs.Puts.{lastTwo, Put, Within};
@@ -267,17 +267,50 @@ fn put_records(out: &mut [u8], at: usize, space: &[i32], n: usize) -> usize
     m
 }
 
+// The numbers of an answer.
+struct Numbers {
+    answer: u32,
+    value: u32,
+    count: usize,
+}
+
+fn numbers_of(answer: Answer) -> Numbers
+    ensures { λ x. ⌜ (x .answer ≡ answerNumber answer) × (x .value ≡ answerValue answer) × (x .count ≡ answerCount answer) ⌝ }
+{
+    match answer {
+        Answer::Accepted(value, count) => {
+            Numbers {
+                answer: 0,
+                value: value,
+                count: count,
+            }
+        }
+        Answer::Refused(number) => {
+            Numbers {
+                answer: number,
+                value: 0,
+                count: 0,
+            }
+        }
+    }
+}
+
 // What is printed of an event: its line, and the lines of its records, which stand in the space.
 pub fn put_event(out: &mut [u8], at: usize, index: u64, answer: Answer, space: &[i32]) -> usize
     requires { ⌜ at + (86 + 74 * answerCount answer) ≤ length (now out) ⌝ }
     requires { ⌜ answerCount answer * 6 ≤ length (now space) ⌝ }
     ensures { λ m. ⌜ Within (86 + 74 * answerCount answer) (now (out .entry)) (now (out .exit)) at m (eventText index answer (now (space .entry))) ⌝ }
 {
-    match answer {
-        Answer::Accepted(value, count) => {
-            let m = put_four(out, at, b'E', index, 0, value as u64, count as u64);
-            put_records(out, m, space, count)
-        }
-        Answer::Refused(number) => put_four(out, at, b'E', index, number as u64, 0, 0),
-    }
+    let x = numbers_of(answer);
+    let count = x.count;
+    let m = put_four(
+        out,
+        at,
+        b'E',
+        index,
+        x.answer as u64,
+        x.value as u64,
+        count as u64,
+    );
+    put_records(out, m, space, count)
 }
