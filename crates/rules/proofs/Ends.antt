@@ -54,7 +54,7 @@ module _ (a level : ℕ) (qs : List ℕ) (b : State) where
   gives-none : (k : ℕ) → sumN (slot qs) k ≡ 0 → each (giveAt a level qs) k b .state ≡ b
   unfolding each and-then sumN
   gives-none zero h = refl
-  gives-none (suc k) h = rw (gives-none k (omega arith), whole-none b a k level (slot qs k) (omega arith))
+  gives-none (suc k) h = ap (λ (c : State). giveAt a level qs k c .state) (gives-none k (omega arith)) ∙ ap (λ (m : Moved). m .state) (whole-none b a k level (slot qs k) (omega arith))
 
 -- A GROUP of the holders of a limit, and what it holds in all
 abbrev total : State → ℕ → ℕ → ℕ → ℕ

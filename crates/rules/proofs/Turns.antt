@@ -1,5 +1,5 @@
 -- What is repeated up to a bound is never cut short by it.
-use mathlib.Core.Path.{_≡_, refl, sym}
+use mathlib.Core.Path.{_≡_, refl, sym, ap, _∙_}
 use mathlib.Core.Bool.{Bool, true, false}
 use mathlib.Core.List.{List, append-nil}
 use mathlib.Core.Logic.{_⊎_, inl, inr, ⊎-elim}
@@ -29,8 +29,9 @@ then-still x f e = rw (e, append-nil)
 -- where nothing moves at any later slot
 pub idle : (f : ℕ → State → Moved) (b : State) (i : ℕ) → ((j : ℕ) → f j (each f i b .state) ≡ still (each f i b .state)) → (d : ℕ) → each f (d + i) b ≡ each f i b
 unfolding each
-idle f b i h zero = rw zero-add
-idle f b i h (suc d) = let e = idle f b i h d in rw (suc-add, e) (then-still (each f i b) (f (d + i)) (h (d + i)))
+idle f b i h zero = ap (λ (k : ℕ). each f k b) (zero-add i)
+idle f b i h (suc d) =
+    ap (λ (k : ℕ). each f k b) (suc-add d i) ∙ ap (λ (x : Moved). and-then x (f (d + i))) (idle f b i h d) ∙ then-still (each f i b) (f (d + i)) (h (d + i))
 
 -- A turn repeated: it stops, and then moves nothing, or it lowers a number that is left.
 module _ (turn : ℕ → State → Moved) (stops : State → Bool) (left : State → ℕ)
