@@ -232,7 +232,7 @@ shown() {
     printf '%s\n' 'fn base::x: proved' 'rt: base proved (unchanged since it was last proved)' 'rt: events proved (23 s)' \
         'rt: frames NOT PROVED (exit 1, 2 s)' 'rt: FAILED: frames' |
         (root=$PWD name=made-up && . beside/proved.sh && progress 'the writer' "$(crates_below exports)") 2>&1 |
-        diff - <(printf '%s\n' 'made-up: proved for the writer: crate 2 of 4, events (23 s)' \
+        diff - <(printf '%s\n' 'made-up: proved for the writer: crate 2 of 5, events (23 s)' \
             'rt: frames NOT PROVED (exit 1, 2 s)' 'rt: FAILED: frames')
 }
 check "progress" shown

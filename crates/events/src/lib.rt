@@ -1,6 +1,5 @@
 // Events, their kinds, and the fields of their frames.
 pub mod kinds; // the number and the length of each kind
-pub mod rows; // events as rows of numbers
 pub mod table; // the fields of each kind
 
 // The kinds of frames.

@@ -7,6 +7,7 @@ ghost use Rattle.base.specs.Pick.{pick};
 ghost use Rattle.frames.specs.Carried.{carriedOf, Whole, testedOf};
 use super::bodies::decode;
 use super::bodies::value;
+use event_rows::event_of;
 use events::Cancel;
 use events::Clock;
 use events::DayEnd;
@@ -21,7 +22,6 @@ use events::Reading;
 use events::Series;
 use events::Specialist;
 use events::Sweep;
-use events::rows::event_of;
 use events::table;
 
 // The value of a field, and whether it and those before it are in their ranges.

@@ -13,15 +13,15 @@ pub mod numbers; // numbers of some bytes
 
 use bodies::encode;
 use carried::carried;
+use event_rows::fits;
+use event_rows::kind_in;
+use event_rows::length_in;
+use event_rows::row_of;
 use events::Event;
 use events::Reading;
 use events::kinds::code_of;
 use events::kinds::kind_of;
 use events::kinds::length_of;
-use events::rows::fits;
-use events::rows::kind_in;
-use events::rows::length_in;
-use events::rows::row_of;
 use events::table::fields_of;
 use numbers::number;
 use numbers::put;

@@ -1,8 +1,8 @@
 use Prim.Native.Nat.{_-_}
 use borrow.Author.Needs.{needs}
 use Rattle.events.specs.Rows.{lengthIn}
-use Rattle.events.proofs.rows.length_in.Statement.{statement}
-use Rattle.events.proofs.rows.length_in.Tie as tie
+use Rattle.event_rows.proofs.length_in.Statement.{statement}
+use Rattle.event_rows.proofs.length_in.Tie as tie
 
 row-of-requires : tie.Need-row-of-requires
 row-of-requires c κs = search needs

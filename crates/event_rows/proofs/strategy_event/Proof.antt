@@ -1,6 +1,6 @@
 use borrow.Author.Needs.{needs}
-use Rattle.events.proofs.rows.strategy_event.Statement.{statement}
-use Rattle.events.proofs.rows.strategy_event.Tie as tie
+use Rattle.event_rows.proofs.strategy_event.Statement.{statement}
+use Rattle.event_rows.proofs.strategy_event.Tie as tie
 
 array-read-t5 : tie.Need-array-read-t5
 array-read-t5 c = search needs

@@ -1,26 +1,26 @@
 // Events as rows of 19 numbers: the values of the fields in order, and zeros after them.
 ghost use mathlib.Core.Path.{_≡_};
 ghost use Prim.Native.Nat.{_+_, _<_};
 ghost use Rattle.events.specs.Rows.{kindIn, rowOf, legFrom, eventOf, lengthIn, fitting};
-use super::Cancel;
-use super::Clock;
-use super::DayEnd;
-use super::Event;
-use super::Kind;
-use super::Leg;
-use super::LegOrder;
-use super::Legs;
-use super::National;
-use super::Order;
-use super::Range;
-use super::Reading;
-use super::Series;
-use super::Specialist;
-use super::Strategy;
-use super::Sweep;
-use super::kinds::length_of;
-use super::table::fields_of;
-use super::table::fit;
+use events::Cancel;
+use events::Clock;
+use events::DayEnd;
+use events::Event;
+use events::Kind;
+use events::Leg;
+use events::LegOrder;
+use events::Legs;
+use events::National;
+use events::Order;
+use events::Range;
+use events::Reading;
+use events::Series;
+use events::Specialist;
+use events::Strategy;
+use events::Sweep;
+use events::kinds::length_of;
+use events::table::fields_of;
+use events::table::fit;
 
 pub fn kind_in(event: Event) -> Kind
     ensures { λ r. ⌜ r ≡ kindIn event ⌝ }

@@ -1,10 +1,10 @@
 use mathlib.Core.Path.{_∙_}
 use Prim.Native.Nat.{_-_}
 use borrow.Author.Needs.{needs}
 use Rattle.events.specs.Rows.{fitting}
 use Rattle.events.specs.Laws.{four-in, layout-in}
-use Rattle.events.proofs.rows.fits.Statement.{statement}
-use Rattle.events.proofs.rows.fits.Tie as tie
+use Rattle.event_rows.proofs.fits.Statement.{statement}
+use Rattle.event_rows.proofs.fits.Tie as tie
 
 kind-in-requires : tie.Need-kind-in-requires
 kind-in-requires c κs = search needs

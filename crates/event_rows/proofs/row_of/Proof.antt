@@ -1,6 +1,6 @@
 use borrow.Author.Needs.{needs}
-use Rattle.events.proofs.rows.row_of.Statement.{statement}
-use Rattle.events.proofs.rows.row_of.Tie as tie
+use Rattle.event_rows.proofs.row_of.Statement.{statement}
+use Rattle.event_rows.proofs.row_of.Tie as tie
 
 -- each arm stores its fields; then what each returns, at the event that the arm is of
 pub row-of-spec : {M : Type 1} → statement M

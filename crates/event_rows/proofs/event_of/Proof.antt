@@ -1,6 +1,6 @@
 use borrow.Author.Needs.{needs}
-use Rattle.events.proofs.rows.event_of.Statement.{statement}
-use Rattle.events.proofs.rows.event_of.Tie as tie
+use Rattle.event_rows.proofs.event_of.Statement.{statement}
+use Rattle.event_rows.proofs.event_of.Tie as tie
 
 -- for each arm what its call asks; then what each gives, at the kind that the arm is of
 pub event-of-spec : {M : Type 1} → statement M
