@@ -80,7 +80,7 @@ fn begun_record(e: Entry) -> Record
         number: e.number,
         place: e.strategy,
         side: e.side,
-        quantity: e.units,
+        quantity: e.units as u32,
         level: e.level,
     }
 }

@@ -33,7 +33,7 @@ fn entry_of(es: [Entry; State::ROWS], number: u32) -> usize
     let mut i: usize = 0;
     while i < State::ROWS {
         let e = es[i];
-        if has_live(e.number, e.units, number) {
+        if has_live(e.number, e.units as u32, number) {
             return i;
         }
         i += 1;
@@ -69,7 +69,7 @@ pub fn cancel_number(b: State, number: u32, space: &mut [i32], n: usize) -> Afte
         let e = c.entries[i];
         let r = cancel_record(e);
         let m = push(space, n, r);
-        c.entries[i] = cut_entry(e, e.units);
+        c.entries[i] = cut_entry(e, e.units as u32);
         return After { state: c, count: m };
     }
     let os = c.orders;

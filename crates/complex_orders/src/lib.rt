@@ -173,7 +173,7 @@ pub fn on_order(e: Entry, b: State, space: &mut [i32], n: usize) -> After
         Arrival::Cancelled => {
             let r = cancel_record(e);
             m = push(space, n, r);
-            c.entries[i] = cut_entry(e, e.units);
+            c.entries[i] = cut_entry(e, e.units as u32);
         }
         Arrival::Answers => {
             c.strategies[k] = with_auction(s, s.starter, s.begun, true);

@@ -51,7 +51,7 @@ fn lowest_live(b: State) -> u32
     while i < State::ROWS {
         let e = b.entries[i];
         let o = b.orders[i];
-        n = lower_live(n, e.number, e.units);
+        n = lower_live(n, e.number, e.units as u32);
         n = lower_live(n, o.number, o.contracts);
         i += 1;
     }

@@ -104,7 +104,7 @@ pub fn cut_entry(e: Entry, q: u32) -> Entry
     ensures { λ f. ⌜ f ≡ cutEntry e q ⌝ }
 {
     let mut f = e;
-    f.units = less(e.units, q);
+    f.units = less(e.units as u32, q) as u16;
     f
 }
 
@@ -213,7 +213,7 @@ pub fn give_in_turn(
 {
     let e = es[a];
     let xs = sizes(es, e, level, g);
-    let qs = in_turn(e.units, xs);
+    let qs = in_turn(e.units as u32, xs);
     give(es, s, a, level, qs, space, n)
 }
 
@@ -235,7 +235,7 @@ fn give_group(
 {
     let e = es[a];
     let xs = sizes(es, e, level, g);
-    let qs = share_beside(k, s.specialist.percentage, e.units, xs);
+    let qs = share_beside(k, s.specialist.percentage, e.units as u32, xs);
     give(es, s, a, level, qs, space, n)
 }
 
@@ -302,7 +302,7 @@ pub fn cancel_record(e: Entry) -> Record
         number: e.number,
         place: 0,
         side: e.side,
-        quantity: e.units,
+        quantity: e.units as u32,
         level: ZERO_LEVEL,
     }
 }
@@ -315,11 +315,12 @@ pub fn cancel_entry(b: State, i: usize, space: &mut [i32], n: usize) -> After
 {
     let mut c = b;
     let e = c.entries[i];
-    if e.units == 0 {
+    let units = e.units as u32;
+    if units == 0 {
         return After { state: c, count: n };
     }
     let r = cancel_record(e);
     let m = push(space, n, r);
-    c.entries[i] = cut_entry(e, e.units);
+    c.entries[i] = cut_entry(e, units);
     After { state: c, count: m }
 }

@@ -24,12 +24,12 @@ pub fn sweep_given(b: State, e: events::Sweep) -> Entry
 {
     Entry {
         number: b.last + 1,
-        member: e.member,
+        member: e.member as u16,
         strategy: e.strategy as u8,
         side: e.side as u8,
         class: 0,
         life: 4,
-        units: e.units,
+        units: e.units as u16,
         level: e.level,
     }
 }
@@ -41,12 +41,12 @@ pub fn order_given(b: State, e: events::Order) -> Entry
 {
     Entry {
         number: b.last + 1,
-        member: e.member,
+        member: e.member as u16,
         strategy: e.strategy as u8,
         side: e.side as u8,
         class: e.class as u8,
         life: e.life as u8,
-        units: e.units,
+        units: e.units as u16,
         level: e.level,
     }
 }

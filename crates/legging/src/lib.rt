@@ -151,7 +151,7 @@ pub fn leg_fill(
     ensures { λ t. ⌜ FilledByLegs (now (space .entry)) (now (space .exit)) n t e os s ⌝ }
 {
     let ps = p.prices;
-    let q = least(p.units, e.units);
+    let q = least(p.units, e.units as u32);
     let m = party_records(space, n, e, s, q, p.net, ps);
     let c = all_legs(os, e.side, q, s, ps, space, m);
     let rows = c.rows;

@@ -35,7 +35,7 @@ pub fn live_quantity(b: State, n: u32) -> u32
     while i < State::LEG_ORDERS {
         let e = b.entries[i];
         let o = b.orders[i];
-        let units = held_by(e.number, e.units, n);
+        let units = held_by(e.number, e.units as u32, n);
         let contracts = held_by(o.number, o.contracts, n);
         quantity += units + contracts;
         i += 1;

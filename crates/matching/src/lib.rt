@@ -221,11 +221,13 @@ fn match_once(b: State, x: usize, y: usize, space: &mut [i32], n: usize) -> Afte
 {
     let e = b.entries[x];
     let f = b.entries[y];
+    let bought = e.units as u32;
+    let sold = f.units as u32;
     if e.number < f.number {
-        let q = least(e.units, f.units);
+        let q = least(bought, sold);
         return whole_fill(b, x, y, e.level, q, space, n);
     }
-    let p = least(f.units, e.units);
+    let p = least(sold, bought);
     whole_fill(b, y, x, f.level, p, space, n)
 }
 

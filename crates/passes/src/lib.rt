@@ -188,7 +188,7 @@ pub fn pass(way: Allocation, legs: bool, b: State, a: usize, space: &mut [i32], 
 {
     let mut c = b;
     let e = c.entries[a];
-    let units = e.units;
+    let units = e.units as u32;
     let k = e.strategy as usize;
     let s = c.strategies[k];
     let qs = c.national;

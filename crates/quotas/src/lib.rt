@@ -164,7 +164,7 @@ fn holding(e: Entry, level: u32, g: u8, f: Entry) -> u32
     if opposes(e, f) {
         if f.level == level {
             if within(g, f) {
-                return f.units;
+                return f.units as u32;
             }
             return 0;
         }

@@ -56,7 +56,7 @@ fn is_order_of(m: u32, n: u32, e: Entry) -> bool
     if e.life == 4 {
         return false;
     }
-    is_live_of(m, n, e.member, e.number, e.units)
+    is_live_of(m, n, e.member as u32, e.number, e.units as u32)
 }
 
 fn is_leg_order_of(m: u32, n: u32, o: LegOrder) -> bool

@@ -29,13 +29,13 @@ pub struct Strategy {
 // A complex order, or a sweep (life 4). An entry of 0 units is empty. Its level is the limit in cents and 10,000,000 more.
 pub struct Entry {
     pub number: u32,
-    pub member: u32,
+    pub level: u32,
     pub strategy: u8,
     pub side: u8,
     pub class: u8,
     pub life: u8,
-    pub units: u32,
-    pub level: u32,
+    pub member: u16,
+    pub units: u16,
 }
 
 // A leg order. One of 0 contracts is empty.

@@ -89,7 +89,7 @@ pub fn share_beside(k: usize, percentage: u16, r: u32, xs: [u32; State::ROWS]) -
 }
 
 // Whether f is a sweep of that member, opposite e at that limit.
-fn is_sweep_of(member: u32, e: Entry, level: u32, f: Entry) -> bool
+fn is_sweep_of(member: u16, e: Entry, level: u32, f: Entry) -> bool
     ensures { λ r. ⌜ r ≡ isSweepOf member e level f ⌝ }
 {
     if opposes(e, f) {
@@ -111,11 +111,10 @@ pub fn specialist_slot(member: u16, es: [Entry; State::ROWS], e: Entry, level: u
     if member == 0 {
         return State::ROWS;
     }
-    let m = member as u32;
     let mut i: usize = 0;
     while i < State::ROWS {
         let f = es[i];
-        if is_sweep_of(m, e, level, f) {
+        if is_sweep_of(member, e, level, f) {
             return i;
         }
         i += 1;

@@ -30,7 +30,7 @@ pub fn on_sweep(e: Entry, b: State, space: &mut [i32], n: usize) -> After
         let f = c.entries[i];
         let r = cancel_record(f);
         m = push(space, m, r);
-        c.entries[i] = cut_entry(f, f.units);
+        c.entries[i] = cut_entry(f, f.units as u32);
     }
     if live(e) {
         let fs = c.entries;

@@ -26,6 +26,9 @@ push-requires c κs =
     let p = k .before .before .pre in
     rw (c .before .cancel-record .ensures) (room-of (number-at-entry _ _ (p .0) (k .entry-of .ensures) (c .before .before .before .if1 .taken)) (p .1))
 
+cast-cut-entry : tie.Need-cast-cut-entry
+cast-cut-entry c = search needs
+
 cut-entry-requires : tie.Need-cut-entry-requires
 cut-entry-requires c κs = search needs
 
@@ -41,9 +44,9 @@ same-length c = search needs
 returns : tie.Need-returns
 unfolding cancelled cut withEntries
 returns c =
-    let r = c .before .before .before .before in
+    let r = c .before .before .before .before .before in
     let k = r .before .before .before in
-    let w = rw (r .cancel-record .ensures) at (c .before .before .push .ensures) in
+    let w = rw (r .cancel-record .ensures) at (c .before .before .before .push .ensures) in
     done-of (number-at-entry _ _ (k .before .before .pre .0) (k .entry-of .ensures) (r .before .before .if1 .taken)) (record { wrote = w; state = rw (c .cut-entry .ensures) })
 
 order-of-requires : tie.Need-order-of-requires
@@ -68,8 +71,8 @@ push-requires-2 c κs =
 cut-order-requires : tie.Need-cut-order-requires
 cut-order-requires c κs = search needs
 
-mul-t26 : tie.Need-mul-t26
-mul-t26 c = search needs
+mul-t27 : tie.Need-mul-t27
+mul-t27 c = search needs
 
 element-set-from-c-2 : tie.Need-element-set-from-c-2
 element-set-from-c-2 c = search needs
@@ -99,6 +102,7 @@ cancel-number-spec =
     element-copy-out-e
     cancel-record-requires
     push-requires
+    cast-cut-entry
     cut-entry-requires
     mul-t17
     element-set-from-c
@@ -110,7 +114,7 @@ cancel-number-spec =
     cancel-leg-record-requires
     push-requires-2
     cut-order-requires
-    mul-t26
+    mul-t27
     element-set-from-c-2
     same-length-2
     returns-2

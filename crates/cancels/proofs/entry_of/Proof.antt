@@ -23,12 +23,15 @@ mul-e c = omega arith
 array-copy-out-e : tie.Need-array-copy-out-e Inv-loop μ-loop
 array-copy-out-e c = omega arith
 
+cast-has-live : tie.Need-cast-has-live Inv-loop μ-loop
+cast-has-live c = search needs
+
 has-live-requires : tie.Need-has-live-requires Inv-loop μ-loop
 has-live-requires c κs = search needs
 
 returns : tie.Need-returns Inv-loop μ-loop
 unfolding entrySlot
-returns c = passed-here _ _ 32 (c .before .before .before .before .loop .inv .1) (c .before .before .before .loop-test .taken) (told (c .before .has-live .ensures) (c .if1 .taken))
+returns c = passed-here _ _ 32 (c .before .before .before .before .before .loop .inv .1) (c .before .before .before .before .loop-test .taken) (told (c .before .has-live .ensures) (c .if1 .taken))
 
 add-i : tie.Need-add-i Inv-loop μ-loop
 add-i c = omega arith
@@ -37,7 +40,7 @@ loop-less : tie.Need-loop-less Inv-loop μ-loop
 loop-less c = omega arith
 
 loop-again : tie.Need-loop-again Inv-loop μ-loop
-loop-again c = (omega arith, passed-next _ _ (c .before .before .before .before .loop .inv .1) (told (c .before .has-live .ensures) (c .if1 .left)))
+loop-again c = (omega arith, passed-next _ _ (c .before .before .before .before .before .loop .inv .1) (told (c .before .has-live .ensures) (c .if1 .left)))
 
 returns-2 : tie.Need-returns-2 Inv-loop μ-loop
 unfolding entrySlot
@@ -52,6 +55,7 @@ entry-of-spec =
     loop-holds
     mul-e
     array-copy-out-e
+    cast-has-live
     has-live-requires
     returns
     add-i

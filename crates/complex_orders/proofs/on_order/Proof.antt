@@ -44,14 +44,17 @@ push-requires : tie.Need-push-requires
 unfolding does
 push-requires c κs = cancels-room _ _ (c .before .before .before .before .before .before .before .before .before .insert .ensures .0) (c .before .before .before .before .before .before .before .before .before .insert .ensures .1) (c .before .before .before .before .before .before .before .before .before .before .before .pre .0 .0) (c .before .before .before .before .before .before .before .before .before .before .before .pre .0 .2) (c .before .cancel-record .ensures) (room-of (arrived (c .before .before .before .before) (c .before .before .enum-told2 .given .1)) (c .before .before .before .before .before .before .before .before .before .before .before .pre .1))
 
+cast-cut-entry : tie.Need-cast-cut-entry
+cast-cut-entry c = search needs
+
 cut-entry-requires : tie.Need-cut-entry-requires
 cut-entry-requires c κs = search needs
 
-mul-t24 : tie.Need-mul-t24
-mul-t24 c = let k = slot-within _ _ (c .before .before .before .before .before .before .before .before .before .before .before .before .insert .ensures .0) (c .before .before .before .before .before .before .before .before .before .before .before .before .insert .ensures .1) (c .before .before .before .before .before .before .before .before .before .before .before .before .before .before .pre .0 .0) in omega arith
+mul-t25 : tie.Need-mul-t25
+mul-t25 c = let k = slot-within _ _ (c .before .before .before .before .before .before .before .before .before .before .before .before .before .insert .ensures .0) (c .before .before .before .before .before .before .before .before .before .before .before .before .before .insert .ensures .1) (c .before .before .before .before .before .before .before .before .before .before .before .before .before .before .before .pre .0 .0) in omega arith
 
 element-set-from-c : tie.Need-element-set-from-c
-element-set-from-c c = slot-within _ _ (c .before .before .before .before .before .before .before .before .before .before .before .before .insert .ensures .0) (c .before .before .before .before .before .before .before .before .before .before .before .before .insert .ensures .1) (c .before .before .before .before .before .before .before .before .before .before .before .before .before .before .pre .0 .0)
+element-set-from-c c = slot-within _ _ (c .before .before .before .before .before .before .before .before .before .before .before .before .before .insert .ensures .0) (c .before .before .before .before .before .before .before .before .before .before .before .before .before .insert .ensures .1) (c .before .before .before .before .before .before .before .before .before .before .before .before .before .before .before .pre .0 .0)
 
 enum-told-3 : tie.Need-enum-told-3
 enum-told-3 c = search needs
@@ -59,8 +62,8 @@ enum-told-3 c = search needs
 with-auction-requires : tie.Need-with-auction-requires
 with-auction-requires c κs = search needs
 
-mul-t28 : tie.Need-mul-t28
-mul-t28 c = search needs
+mul-t29 : tie.Need-mul-t29
+mul-t29 c = search needs
 
 element-set-from-c-2 : tie.Need-element-set-from-c-2
 element-set-from-c-2 c = c .before .before .before .before .before .before .before .before .before .before .pre .0 .1 .strategy
@@ -102,7 +105,7 @@ same-length-3 c = search needs
 
 returns-4 : tie.Need-returns-4
 unfolding does
-returns-4 c = done-of (arrived (c .before .before .before .before .before .before .before) (c .before .before .before .before .before .enum-told2 .given .1)) (cancels-done _ _ (c .before .before .before .before .before .before .before .before .before .before .before .before .insert .ensures .0) (c .before .before .before .before .before .before .before .before .before .before .before .before .insert .ensures .1) (c .before .before .before .before .before .before .before .before .before .before .before .before .before .before .pre .0 .0) (c .before .before .before .before .before .before .before .before .before .before .before .before .before .before .pre .0 .2) (c .before .before .before .before .cancel-record .ensures) (c .cut-entry .ensures) (c .before .before .push .ensures))
+returns-4 c = done-of (arrived (c .before .before .before .before .before .before .before .before) (c .before .before .before .before .before .before .enum-told2 .given .1)) (cancels-done _ _ (c .before .before .before .before .before .before .before .before .before .before .before .before .before .insert .ensures .0) (c .before .before .before .before .before .before .before .before .before .before .before .before .before .insert .ensures .1) (c .before .before .before .before .before .before .before .before .before .before .before .before .before .before .before .pre .0 .0) (c .before .before .before .before .before .before .before .before .before .before .before .before .before .before .before .pre .0 .2) (c .before .before .before .before .before .cancel-record .ensures) (c .cut-entry .ensures) (c .before .before .before .push .ensures))
 
 returns-5 : tie.Need-returns-5
 returns-5 c = done-of (arrived (c .before .before .before) (c .before .enum-told3 .given .1) ∙ answers-is _ _ (c .before .before .before .before .before .before .before .before .insert .ensures .0) (c .before .before .before .before .before .before .before .before .insert .ensures .1) (c .before .before .before .before .before .before .before .before .before .before .pre .0 .0) (c .with-auction .ensures)) (done-still _ _ _)
@@ -120,12 +123,13 @@ on-order-spec =
     enum-told-2
     cancel-record-requires
     push-requires
+    cast-cut-entry
     cut-entry-requires
-    mul-t24
+    mul-t25
     element-set-from-c
     enum-told-3
     with-auction-requires
-    mul-t28
+    mul-t29
     element-set-from-c-2
     enum-told-4
     begin-requires

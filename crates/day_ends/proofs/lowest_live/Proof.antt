@@ -28,6 +28,9 @@ mul-o c = omega arith
 element-copy-out-o : tie.Need-element-copy-out-o Inv-loop μ-loop
 element-copy-out-o c = omega arith
 
+cast-lower-live : tie.Need-cast-lower-live Inv-loop μ-loop
+cast-lower-live c = search needs
+
 lower-live-requires : tie.Need-lower-live-requires Inv-loop μ-loop
 lower-live-requires c κs = search needs
 
@@ -41,7 +44,7 @@ loop-less : tie.Need-loop-less Inv-loop μ-loop
 loop-less c = omega arith
 
 loop-again : tie.Need-loop-again Inv-loop μ-loop
-loop-again c = (omega arith, lower-next (c .before .before .before .before .before .before .args .t1) _ (c .before .before .before .before .before .loop .inv .1) (c .before .lower-live .ensures) (c .lower-live2 .ensures))
+loop-again c = (omega arith, lower-next (c .before .before .before .before .before .before .before .args .t1) _ (c .before .before .before .before .before .before .loop .inv .1) (c .before .lower-live .ensures) (c .lower-live2 .ensures))
 
 returns : tie.Need-returns Inv-loop μ-loop
 returns c = lowest-is (c .before .before .args .t1) (omega arith) (c .before .loop .inv .1)
@@ -57,6 +60,7 @@ lowest-live-spec =
     element-copy-out-e
     mul-o
     element-copy-out-o
+    cast-lower-live
     lower-live-requires
     lower-live-requires-2
     add-i

@@ -12,6 +12,9 @@ mul-e c = search needs
 element-copy-out-e : tie.Need-element-copy-out-e
 element-copy-out-e c = search needs
 
+cast-units : tie.Need-cast-units
+cast-units c = search needs
+
 returns : tie.Need-returns
 returns c = done-of (cancel-none _ _ (c .if1 .taken)) (done-still _ _ _)
 
@@ -25,8 +28,8 @@ push-requires c κs = rw (c .before .cancel-record .ensures) (room-of (cancel-li
 cut-entry-requires : tie.Need-cut-entry-requires
 cut-entry-requires c κs = search needs
 
-mul-t9 : tie.Need-mul-t9
-mul-t9 c = search needs
+mul-t10 : tie.Need-mul-t10
+mul-t10 c = search needs
 
 element-set-from-c : tie.Need-element-set-from-c
 element-set-from-c c = search needs
@@ -44,11 +47,12 @@ cancel-entry-spec =
     (tie.spec
     mul-e
     element-copy-out-e
+    cast-units
     returns
     cancel-record-requires
     push-requires
     cut-entry-requires
-    mul-t9
+    mul-t10
     element-set-from-c
     same-length
     returns-2)

@@ -16,20 +16,23 @@ array-copy-out-e c = search needs
 sizes-requires : tie.Need-sizes-requires
 sizes-requires c κs = search needs
 
+cast-share-beside : tie.Need-cast-share-beside
+cast-share-beside c = search needs
+
 share-beside-requires : tie.Need-share-beside-requires
-share-beside-requires c κs = let k = c .before .before in
+share-beside-requires c κs = let k = c .before .before .before in
     let few = entries-fit (k .pre .1) in
-    (fit-entry few (k .args .a) .units, rw (c .sizes .ensures) (sizes-most _ _ _ _ few))
+    (fit-entry few (k .args .a) .units, rw (c .before .sizes .ensures) (sizes-most _ _ _ _ few))
 
 give-requires : tie.Need-give-requires
-give-requires c κs = let k = c .before .before .before .before in
-    (k .pre .0, in-room (group-is (shareBeside _ _) _ _ _ (rw (c .before .before .sizes .ensures) at (c .before .share-beside .ensures))) (k .pre .1))
+give-requires c κs = let k = c .before .before .before .before .before in
+    (k .pre .0, in-room (group-is (shareBeside _ _) _ _ _ (rw (c .before .before .before .sizes .ensures) at (c .before .share-beside .ensures))) (k .pre .1))
 
 same-length : tie.Need-same-length
 same-length c = search needs
 
 returns : tie.Need-returns
-returns c = in-done (group-is (shareBeside _ _) _ _ _ (rw (c .before .before .before .before .sizes .ensures) at (c .before .before .before .share-beside .ensures))) (c .before .give .ensures)
+returns c = in-done (group-is (shareBeside _ _) _ _ _ (rw (c .before .before .before .before .before .sizes .ensures) at (c .before .before .before .share-beside .ensures))) (c .before .give .ensures)
 
 pub give-group-spec : {M : Type 1} → statement M
 give-group-spec =
@@ -38,6 +41,7 @@ give-group-spec =
     mul-e
     array-copy-out-e
     sizes-requires
+    cast-share-beside
     share-beside-requires
     give-requires
     same-length

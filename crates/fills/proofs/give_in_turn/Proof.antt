@@ -14,18 +14,21 @@ array-copy-out-e c = search needs
 sizes-requires : tie.Need-sizes-requires
 sizes-requires c κs = search needs
 
+cast-in-turn : tie.Need-cast-in-turn
+cast-in-turn c = search needs
+
 in-turn-requires : tie.Need-in-turn-requires
 in-turn-requires c κs = search needs
 
 give-requires : tie.Need-give-requires
-give-requires c κs = let k = c .before .before .before .before in
-    (k .pre .0, in-room (group-is inTurn _ _ _ (rw (c .before .before .sizes .ensures) at (c .before .in-turn .ensures))) (k .pre .1))
+give-requires c κs = let k = c .before .before .before .before .before in
+    (k .pre .0, in-room (group-is inTurn _ _ _ (rw (c .before .before .before .sizes .ensures) at (c .before .in-turn .ensures))) (k .pre .1))
 
 same-length : tie.Need-same-length
 same-length c = search needs
 
 returns : tie.Need-returns
-returns c = in-done (group-is inTurn _ _ _ (rw (c .before .before .before .before .sizes .ensures) at (c .before .before .before .in-turn .ensures))) (c .before .give .ensures)
+returns c = in-done (group-is inTurn _ _ _ (rw (c .before .before .before .before .before .sizes .ensures) at (c .before .before .before .in-turn .ensures))) (c .before .give .ensures)
 
 pub give-in-turn-spec : {M : Type 1} → statement M
 give-in-turn-spec =
@@ -34,6 +37,7 @@ give-in-turn-spec =
     mul-e
     array-copy-out-e
     sizes-requires
+    cast-in-turn
     in-turn-requires
     give-requires
     same-length

@@ -19,9 +19,15 @@ cast-t6 c = search needs
 cast-t7 : tie.Need-cast-t7
 cast-t7 c = search needs
 
+cast-t8 : tie.Need-cast-t8
+cast-t8 c = search needs
+
+cast-t9 : tie.Need-cast-t9
+cast-t9 c = search needs
+
 returns : tie.Need-returns
 unfolding orderGiven
 returns c = refl
 
 pub order-given-spec : {M : Type 1} → statement M
-order-given-spec = tie.close (tie.spec add-t3 cast-t4 cast-t5 cast-t6 cast-t7 returns)
+order-given-spec = tie.close (tie.spec add-t3 cast-t4 cast-t5 cast-t6 cast-t7 cast-t8 cast-t9 returns)

@@ -13,9 +13,15 @@ cast-t4 c = search needs
 cast-t5 : tie.Need-cast-t5
 cast-t5 c = search needs
 
+cast-t6 : tie.Need-cast-t6
+cast-t6 c = search needs
+
+cast-t7 : tie.Need-cast-t7
+cast-t7 c = search needs
+
 returns : tie.Need-returns
 unfolding sweepGiven
 returns c = refl
 
 pub sweep-given-spec : {M : Type 1} → statement M
-sweep-given-spec = tie.close (tie.spec add-t3 cast-t4 cast-t5 returns)
+sweep-given-spec = tie.close (tie.spec add-t3 cast-t4 cast-t5 cast-t6 cast-t7 returns)

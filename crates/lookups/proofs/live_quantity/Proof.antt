@@ -27,6 +27,9 @@ mul-o c = omega arith
 element-copy-out-o : tie.Need-element-copy-out-o Inv-loop μ-loop
 element-copy-out-o c = omega arith
 
+cast-held-by : tie.Need-cast-held-by Inv-loop μ-loop
+cast-held-by c = search needs
+
 held-by-requires : tie.Need-held-by-requires Inv-loop μ-loop
 held-by-requires c κs = search needs
 
@@ -34,11 +37,11 @@ held-by-requires-2 : tie.Need-held-by-requires-2 Inv-loop μ-loop
 held-by-requires-2 c κs = search needs
 
 -- what is held so far and at this slot
-most : (c : tie.After-held-by2 Inv-loop μ-loop) → c .before .before .before .before .before .loop .quantity + (c .before .held-by .result + c .held-by2 .result) ≤ 639936
+most : (c : tie.After-held-by2 Inv-loop μ-loop) → c .before .before .before .before .before .before .loop .quantity + (c .before .held-by .result + c .held-by2 .result) ≤ 639936
 most c =
-    let s = c .before .before .before .before .before .before in
-    let l = c .before .before .before .before .before .loop in
-    live-most (s .args .t1) (s .args .n) (s .pre .sound .entries) (s .pre .sound .orders) (l .i) (c .before .held-by .ensures) (c .held-by2 .ensures) (l .inv .1) (c .before .before .before .before .loop-test .taken)
+    let s = c .before .before .before .before .before .before .before in
+    let l = c .before .before .before .before .before .before .loop in
+    live-most (s .args .t1) (s .args .n) (s .pre .sound .entries) (s .pre .sound .orders) (l .i) (c .before .held-by .ensures) (c .held-by2 .ensures) (l .inv .1) (c .before .before .before .before .before .loop-test .taken)
 
 add-quantity : tie.Need-add-quantity Inv-loop μ-loop
 add-quantity c = omega (arith, most c)
@@ -53,7 +56,7 @@ loop-less : tie.Need-loop-less Inv-loop μ-loop
 loop-less c = omega arith
 
 loop-again : tie.Need-loop-again Inv-loop μ-loop
-loop-again c = (omega arith, live-next _ _ _ (c .before .before .before .before .before .loop .inv .1) (c .before .held-by .ensures) (c .held-by2 .ensures))
+loop-again c = (omega arith, live-next _ _ _ (c .before .before .before .before .before .before .loop .inv .1) (c .before .held-by .ensures) (c .held-by2 .ensures))
 
 returns : tie.Need-returns Inv-loop μ-loop
 returns c = live-last _ _ (omega arith) (c .before .loop .inv .1)
@@ -69,6 +72,7 @@ live-quantity-spec =
     element-copy-out-e
     mul-o
     element-copy-out-o
+    cast-held-by
     held-by-requires
     held-by-requires-2
     add-quantity

@@ -16,11 +16,17 @@ mul-f c = search needs
 element-copy-out-f : tie.Need-element-copy-out-f
 element-copy-out-f c = search needs
 
+cast-bought : tie.Need-cast-bought
+cast-bought c = search needs
+
+cast-sold : tie.Need-cast-sold
+cast-sold c = search needs
+
 least-requires : tie.Need-least-requires
 least-requires c κs = search needs
 
 whole-fill-requires : tie.Need-whole-fill-requires
-whole-fill-requires c κs = let p = c .before .before .before .before .before .before .before .pre in (p .0, room-of (match-buy _ _ _ (c .before .before .if1 .taken) (c .before .least .ensures)) (p .1))
+whole-fill-requires c κs = let p = c .before .before .before .before .before .before .before .before .before .pre in (p .0, room-of (match-buy _ _ _ (c .before .before .if1 .taken) (c .before .least .ensures)) (p .1))
 
 same-length : tie.Need-same-length
 same-length c = search needs
@@ -32,7 +38,7 @@ least-requires-2 : tie.Need-least-requires-2
 least-requires-2 c κs = search needs
 
 whole-fill-requires-2 : tie.Need-whole-fill-requires-2
-whole-fill-requires-2 c κs = let p = c .before .before .before .before .before .before .before .pre in ((p .0 .1, p .0 .0, p .0 .2), room-of (match-sell _ _ _ (c .before .before .if1 .left) (c .before .least2 .ensures)) (p .1))
+whole-fill-requires-2 c κs = let p = c .before .before .before .before .before .before .before .before .before .pre in ((p .0 .1, p .0 .0, p .0 .2), room-of (match-sell _ _ _ (c .before .before .if1 .left) (c .before .least2 .ensures)) (p .1))
 
 same-length-2 : tie.Need-same-length-2
 same-length-2 c = search needs
@@ -48,6 +54,8 @@ match-once-spec =
     element-copy-out-e
     mul-f
     element-copy-out-f
+    cast-bought
+    cast-sold
     least-requires
     whole-fill-requires
     same-length

@@ -20,7 +20,7 @@ abbrev μ-loop : tie.MeasureT-loop
 
 -- where the function with that loop starts
 abbrev first : tie.At-loop Inv-loop μ-loop → tie.Start Inv-loop μ-loop
-first l = l .before .before .before .before .before .before .before .before
+first l = l .before .before .before .before .before .before .before .before .before
 
 -- the ranges of the book in the loop
 fits : (l : tie.At-loop Inv-loop μ-loop) → Fit (l .loop .c)
@@ -48,6 +48,9 @@ mul-e c = search needs
 element-copy-out-e : tie.Need-element-copy-out-e Inv-loop μ-loop
 element-copy-out-e c = c .pre .0 .0
 
+cast-units : tie.Need-cast-units Inv-loop μ-loop
+cast-units c = search needs
+
 cast-k : tie.Need-cast-k Inv-loop μ-loop
 cast-k c = search needs
 
@@ -55,13 +58,13 @@ mul-s : tie.Need-mul-s Inv-loop μ-loop
 mul-s c = search needs
 
 element-copy-out-s : tie.Need-element-copy-out-s Inv-loop μ-loop
-element-copy-out-s c = fit-entry (c .before .before .pre .0 .1 .entries) (c .before .before .args .a) .strategy
+element-copy-out-s c = fit-entry (c .before .before .before .pre .0 .1 .entries) (c .before .before .before .args .a) .strategy
 
 bounds-requires : tie.Need-bounds-requires Inv-loop μ-loop
-bounds-requires c κs = (c .before .before .before .before .pre .0 .1 .quotes, fit-legs (c .before .before .before .before .pre .0 .1 .strategies) _)
+bounds-requires c κs = (c .before .before .before .before .before .pre .0 .1 .quotes, fit-legs (c .before .before .before .before .before .pre .0 .1 .strategies) _)
 
 legs-for-requires : tie.Need-legs-for-requires Inv-loop μ-loop
-legs-for-requires c κs = (c .before .before .before .before .before .before .pre .0 .1 .orders, c .before .before .before .before .before .before .pre .0 .1 .priced, fit-legs (c .before .before .before .before .before .before .pre .0 .1 .strategies) _)
+legs-for-requires c κs = (c .before .before .before .before .before .before .before .pre .0 .1 .orders, c .before .before .before .before .before .before .before .pre .0 .1 .priced, fit-legs (c .before .before .before .before .before .before .before .pre .0 .1 .strategies) _)
 
 loop-holds : tie.Need-loop-holds Inv-loop μ-loop
 loop-holds c = turning-none _ _ _ _ _ _ _ (c .legs-for .ensures)
@@ -167,6 +170,7 @@ pass-spec =
     μ-loop
     mul-e
     element-copy-out-e
+    cast-units
     cast-k
     mul-s
     element-copy-out-s

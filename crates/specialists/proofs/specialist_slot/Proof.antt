@@ -9,10 +9,10 @@ use Rattle.specialists.proofs.specialist_slot.Statement.{statement}
 use Rattle.specialists.proofs.specialist_slot.Tie as tie
 
 abbrev Inv-loop : tie.InvT-loop
-Inv-loop member e level es m i₀ i = (i ≤ 32) × Passed (sweepAt member es e level) i
+Inv-loop member e level es i₀ i = (i ≤ 32) × Passed (sweepAt member es e level) i
 
 abbrev μ-loop : tie.MeasureT-loop
-μ-loop member e level es m i₀ i = 32 - i
+μ-loop member e level es i₀ i = 32 - i
 
 returns : tie.Need-returns Inv-loop μ-loop
 returns c = slot-none _ _ _ _ (c .if1 .taken)

@@ -15,7 +15,7 @@ use Rattle.sweeps.proofs.on_sweep.Tie as tie
 -- the sweep that is replaced, where there is one
 replaced : (k : tie.Joined1) → let s = k .before .before in Done (s .before .args .space .now) (k .if1 .space) (s .before .args .n) (k .if1 .m) (k .if1 .c) (cancelEntry (k .before .old-sweep .result) (s .before .args .b))
 replaced k = ⊎-elim
-    (λ w. rw (w .7, w .8, w .9) (cancel-stores _ _ (old-live _ (k .before .before .before .args .b) (k .before .old-sweep .ensures) (w .0 .taken)) (w .2 .ensures) (w .6 .ensures) (w .4 .ensures)))
+    (λ w. rw (w .8, w .9, w .10) (cancel-stores _ _ (old-live _ (k .before .before .before .args .b) (k .before .old-sweep .ensures) (w .0 .taken)) (w .2 .ensures) (w .7 .ensures) (w .4 .ensures)))
     (λ w. rw (w .1, w .2, w .3) (done-of (cancel-past _ _ (k .before .before .before .pre .0 .1 .entryRows) (w .0 .left)) (done-still _ _ _)))
     (k .if1 .came)
 
@@ -34,6 +34,9 @@ cancel-record-requires c κs = search needs
 push-requires : tie.Need-push-requires
 unfolding onSweep
 push-requires c κs = cancel-room _ _ (old-live _ (c .before .before .before .before .before .before .args .b) (c .before .before .before .before .old-sweep .ensures) (c .before .before .before .if1 .taken)) (c .before .cancel-record .ensures) (room-of (old-is _ (c .before .before .before .before .before .before .args .b) (c .before .before .before .before .old-sweep .ensures)) (room-then _ _ (c .before .before .before .before .before .before .pre .1)))
+
+cast-cut-entry : tie.Need-cast-cut-entry
+cast-cut-entry c = search needs
 
 cut-entry-requires : tie.Need-cut-entry-requires
 cut-entry-requires c κs = search needs
@@ -65,8 +68,8 @@ answers-requires c κs = search needs
 with-auction-requires : tie.Need-with-auction-requires
 with-auction-requires c κs = search needs
 
-mul-t32 : tie.Need-mul-t32
-mul-t32 c = search needs
+mul-t33 : tie.Need-mul-t33
+mul-t33 c = search needs
 
 element-set-from-c-2 : tie.Need-element-set-from-c-2
 element-set-from-c-2 c = c .before .before .before .before .before .before .before .before .before .before .before .before .before .pre .0 .0 .fit (told (c .before .before .before .before .before .before .before .before .before .live .ensures) (c .before .before .before .before .before .before .before .before .if2 .taken)) .strategy
@@ -101,6 +104,7 @@ on-sweep-spec =
     element-copy-out-f
     cancel-record-requires
     push-requires
+    cast-cut-entry
     cut-entry-requires
     mul-t17
     element-set-from-c
@@ -111,7 +115,7 @@ on-sweep-spec =
     element-copy-out-s
     answers-requires
     with-auction-requires
-    mul-t32
+    mul-t33
     element-set-from-c-2
     same-length
     returns
