@@ -15,10 +15,10 @@ use Rattle.rules.specs.declared.Strategy.{Strategy}
 use Rattle.rules.specs.declared.Record.{Record}
 use Rattle.rules.specs.declared.State.{State}
 use Rattle.rules.specs.declared.Allocation.the-variants.{Shared}
-use Rattle.rules.specs.State.{noEntry, entryAt, strategyOf}
+use Rattle.rules.specs.State.{noEntry, entryAt, strategyOf, legNet}
 use Rattle.rules.specs.Moves.{Moved, still, and-then}
 use Rattle.rules.specs.Sides.{other}
-use Rattle.rules.specs.Nets.{prices, netOf, betters, legNet}
+use Rattle.rules.specs.Nets.{prices, netOf, betters}
 use Rattle.rules.specs.Strategies.{shutSet, allOpen}
 use Rattle.rules.specs.Passes.{turnAt}
 use Rattle.rules.specs.Fills.{cancelRecord, cutEntry, cancelEntry}

@@ -13,9 +13,9 @@ use Rattle.events.specs.declared.Sweep.{Sweep as GivenSweep}
 use Rattle.rules.specs.declared.Entry.{Entry}
 use Rattle.rules.specs.declared.LegOrder.{LegOrder}
 use Rattle.rules.specs.declared.State.{State}
-use Rattle.rules.specs.State.{noOrder, strategyAt}
+use Rattle.rules.specs.State.{noOrder, strategyAt, legNet}
 use Rattle.rules.specs.Sides.{other}
-use Rattle.rules.specs.Nets.{prices, netOf, legNet, betters}
+use Rattle.rules.specs.Nets.{prices, netOf, betters}
 use Rattle.rules.specs.Events.{live, liveOrder, freeOrderSlot}
 use Rattle.rules.specs.Refusals.{Cause, _if_, firstCause, isOrderOf, orderAtIs, legOrderAtIs, notFound, isLegOrder, legOrdersFull, bettersNothing}
 use Rattle.rules.proofs.Tables.{keep-length, sum-tally}

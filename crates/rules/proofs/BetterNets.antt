@@ -15,9 +15,9 @@ use Rattle.rules.specs.declared.Leg.{Leg}
 use Rattle.rules.specs.declared.Strategy.{Strategy}
 use Rattle.rules.specs.declared.LegOrder.{LegOrder}
 use Rattle.rules.specs.declared.State.{State}
-use Rattle.rules.specs.State.{noLeg, noOrder, orderAt, strategyAt, legAt}
+use Rattle.rules.specs.State.{noLeg, noOrder, orderAt, strategyAt, legAt, legNet, offerNet, bidNet, ownNet}
 use Rattle.rules.specs.Sides.{other, legSide, better, bestPrice}
-use Rattle.rules.specs.Nets.{stands, priceWith, priceStep, priceOf, legPrice, prices, netOf, legNet, offerNet, bidNet, ownNet, betters}
+use Rattle.rules.specs.Nets.{stands, priceWith, priceStep, priceOf, legPrice, prices, netOf, betters}
 use Rattle.rules.specs.Valid.{FitStrategy, FitOrder, Sound}
 use Rattle.rules.specs.Sentences.{Any, BetterThanNet, above-bid, below-offer, NoBetterThanNet, not-above-bid, not-below-offer, NetUnknown}
 use Rattle.rules.proofs.Tables.{positive, live-row}

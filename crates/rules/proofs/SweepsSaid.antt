@@ -18,9 +18,9 @@ use Rattle.events.specs.declared.Sweep.{Sweep as GivenSweep}
 use Rattle.frames.specs.Frames.{readOf}
 use Rattle.rules.specs.declared.Leg.{Leg}
 use Rattle.rules.specs.declared.State.{State}
-use Rattle.rules.specs.State.{noLeg, noStrategy, fresh, strategyAt, legAt}
+use Rattle.rules.specs.State.{noLeg, noStrategy, fresh, strategyAt, legAt, ownNet}
 use Rattle.rules.specs.Sides.{other, legSide}
-use Rattle.rules.specs.Nets.{priceOf, netOf, ownNet, betters}
+use Rattle.rules.specs.Nets.{priceOf, netOf, betters}
 use Rattle.rules.specs.Given.{legsGiven, strategyGiven}
 use Rattle.rules.specs.Step.{Outcome, valueOf, refused}
 use Rattle.rules.specs.Records.{cents}

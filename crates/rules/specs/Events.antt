@@ -12,10 +12,10 @@ use Rattle.rules.specs.declared.Entry.{Entry}
 use Rattle.rules.specs.declared.LegOrder.{LegOrder}
 use Rattle.rules.specs.declared.State.{State}
 use Rattle.rules.specs.declared.Allocation.the-variants.{Shared}
-use Rattle.rules.specs.State.{noEntry, noOrder, fresh, entryAt, orderAt, withEntries, withOrders, withOpened, withClock, withLast}
+use Rattle.rules.specs.State.{noEntry, noOrder, fresh, entryAt, orderAt, withEntries, withOrders, withOpened, withClock, withLast, ownNet}
 use Rattle.rules.specs.Moves.{Moved, still, and-then, each}
 use Rattle.rules.specs.Sides.{other, meets, better}
-use Rattle.rules.specs.Nets.{stands, ownNet, betters}
+use Rattle.rules.specs.Nets.{stands, betters}
 use Rattle.rules.specs.Strategies.{allOpen}
 use Rattle.rules.specs.Fills.{legTrade, cancelEntry, cancelOrder}
 use Rattle.rules.specs.Passes.{pass}

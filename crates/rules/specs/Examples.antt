@@ -62,7 +62,7 @@ unfolding
     Quotas.inTurnAt Quotas.inTurn Quotas.portion Quotas.oneOf Quotas.holderAt Quotas.sharedAt Quotas.share
     Quotas.specialistPortion Quotas.restAt Quotas.besideAt Quotas.beside Quotas.shareBeside
     Nets.stands Nets.priceWith Nets.priceOf Nets.lot Nets.lots Nets.legPrice Nets.prices Nets.known Nets.weight
-    Nets.weighed Nets.netOf Nets.legNet Nets.betters Nets.legUnits Nets.unitsOf
+    Nets.weighed Nets.netOf State.legNet Nets.betters Nets.legUnits Nets.unitsOf
     National.nationalPrice National.nationalPrices National.nationalNet National.boundsOf National.mayBuy
     National.maySell National.mayFill National.onNational National.onRange
     Specialists.onSpecialist
@@ -168,7 +168,7 @@ rows =
     ∷ (shared 10 (7 ∷ (7 ∷ (7 ∷ []))) gives (4 ∷ (3 ∷ (3 ∷ []))))
     ∷ (shared 5 (1 ∷ (9 ∷ (0 ∷ []))) gives (1 ∷ (4 ∷ (0 ∷ []))))
     -- "nets 94 bid, 105 offer; a customer's buy at 94 starts nothing, at 95 an auction"
-    ∷ ((Nets.bidNet market 0 ∷ (Nets.offerNet market 0 ∷ [])) gives (10_000_094 ∷ (10_000_105 ∷ [])))
+    ∷ ((State.bidNet market 0 ∷ (State.offerNet market 0 ∷ [])) gives (10_000_094 ∷ (10_000_105 ∷ [])))
     ∷ (kinds market (customerBuy 10_000_094) gives [])
     ∷ (kinds market (customerBuy 10_000_095) gives (4 ∷ []))
     -- "Five contracts at ratio 2 give 2 units, one gives none."

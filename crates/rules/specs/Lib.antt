@@ -1,10 +1,11 @@
 pub mod Sizes
+pub mod Rows
+pub mod Sides
+pub mod Nets
 pub mod Specialists
 pub mod State
 pub mod Moves
-pub mod Sides
 pub mod Quotas
-pub mod Nets
 pub mod National
 pub mod Strategies
 pub mod Fills

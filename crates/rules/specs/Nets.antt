@@ -11,8 +11,7 @@ use Rattle.rules.specs.declared.Leg.{Leg}
 use Rattle.rules.specs.declared.Strategy.{Strategy}
 use Rattle.rules.specs.declared.LegOrder.{LegOrder}
 use Rattle.rules.specs.declared.Best.{Best}
-use Rattle.rules.specs.declared.State.{State}
-use Rattle.rules.specs.State.{noLeg, noOrder, strategyAt}
+use Rattle.rules.specs.Rows.{noLeg, noOrder}
 use Rattle.rules.specs.Sides.{other, legSide, better, bestPrice}
 
 -- whether a leg order stands in that series and side
@@ -107,24 +106,7 @@ weighed w legs ps count = sumN (weightAt w legs ps) count
 unfoldable pub netOf : Strategy → List ℕ → ℕ
 netOf s ps = pick (known ps (s .count)) (zeroLevel + weighed 0 (s .legs) ps (s .count) - weighed 1 (s .legs) ps (s .count)) 0
 
--- the leg net that a complex party of that side meets: "offer net for a buy, bid net for a sell"
-unfoldable pub legNet : State → ℕ → ℕ → ℕ
-legNet b side k = netOf (strategyAt b k) (prices (b .orders) side (strategyAt b k .legs))
-
--- "Offer net takes offers for buy legs, bids for sell legs"
-abbrev pub offerNet : State → ℕ → ℕ
-offerNet b k = legNet b 0 k
-
--- "bid net the reverse"
-abbrev pub bidNet : State → ℕ → ℕ
-bidNet b k = legNet b 1 k
-
--- "the .. leg net of its own side": that of an entry of a side, "bid net" for a buy, "offer net" for a sell. The net that starts an auction and the
--- net that a sweep must better (2026-03) are this one.
-abbrev pub ownNet : State → ℕ → ℕ → ℕ
-ownNet b side k = legNet b (other side) k
-
--- whether a limit of a side is strictly better than that net: "buy above bid net, sell below offer net"; 2026-03: "above the bid net when it buys,
+-- whether a limit of a side is strictly better than the leg net of its own side: "buy above bid net, sell below offer net"; 2026-03: "above the bid net when it buys,
 -- below the offer net when it sells". Both ask this one test, with two answers where the net is unknown: an order starts an auction by "the known
 -- leg net" alone, so there `unknown` is no; of a sweep "Where that net is unknown, every price betters it", so there it is yes.
 unfoldable pub betters : Bool → ℕ → ℕ → ℕ → Bool

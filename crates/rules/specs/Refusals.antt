@@ -17,9 +17,9 @@ use Rattle.rules.specs.Sizes.{strategySlots, orderSlots, sweepSlots, leg
 use Rattle.rules.specs.declared.Entry.{Entry}
 use Rattle.rules.specs.declared.LegOrder.{LegOrder}
 use Rattle.rules.specs.declared.State.{State}
-use Rattle.rules.specs.State.{entryAt, orderAt, strategyAt}
+use Rattle.rules.specs.State.{entryAt, orderAt, strategyAt, ownNet}
 use Rattle.rules.specs.Strategies.{twice, overThreefold, held}
-use Rattle.rules.specs.Nets.{ownNet, betters}
+use Rattle.rules.specs.Nets.{betters}
 use Rattle.rules.specs.Auctions.{running}
 use Rattle.rules.specs.Events.{live, liveOrder, oldSweep}
 use Rattle.rules.specs.Given.{legsGiven, strategyGiven, sweepGiven}

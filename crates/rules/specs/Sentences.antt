@@ -35,11 +35,11 @@ use Rattle.rules.specs.declared.Bounds.{Bounds}
 use Rattle.rules.specs.declared.Turn.{Turn}
 use Rattle.rules.specs.declared.Turn.the-variants.{Stop, ByLegs, AtLimit}
 use Rattle.rules.specs.declared.Kind.the-variants.{LegFill, LegOrderFill, Cancelled, LegOrderCancelled, AuctionBegun, AuctionEnded}
-use Rattle.rules.specs.State.{noLeg, noOrder, noQuote, fresh, entryAt, orderAt, strategyAt, strategyOf, legAt, withStrategies, withOpened, withClock, withNational, withRange}
+use Rattle.rules.specs.State.{noLeg, noOrder, noQuote, fresh, entryAt, orderAt, strategyAt, strategyOf, legAt, withStrategies, withOpened, withClock, withNational, withRange, offerNet, bidNet}
 use Rattle.rules.specs.Moves.{Moved, still, each}
 use Rattle.rules.specs.Records.{kindNumber}
 use Rattle.rules.specs.Sides.{other, legSide, meets, better}
-use Rattle.rules.specs.Nets.{stands, bestOf, noBest, bestAfter, offerNet, bidNet}
+use Rattle.rules.specs.Nets.{stands, bestOf, noBest, bestAfter}
 use Rattle.rules.specs.Fills.{partyRecords}
 use Rattle.rules.specs.National.{boundsAt, mayBuy, maySell, mayFill, mayTake, mayMeet}
 use Rattle.rules.specs.declared.Allocation.the-variants.{Shared, ForStarter}

@@ -1,44 +1,17 @@
--- The state of the book: empty rows, the fresh state, rows by their place, and a setter for each part that changes.
-use mathlib.Core.Bool.{false}
-use mathlib.Core.List.{List, []}
+-- The state of the book: the fresh state, rows by their place, and a setter for each part that changes.
+use mathlib.Core.List.{List}
 use Prim.Native.Nat.{ℕ}
 use lib.ListN.{getD, replicate}
 use Rattle.rules.specs.Sizes.{strategySlots, seriesCount}
 use Rattle.rules.specs.declared.Leg.{Leg}
-use Rattle.rules.specs.declared.Specialist.{Specialist}
 use Rattle.rules.specs.declared.Strategy.{Strategy}
 use Rattle.rules.specs.declared.Entry.{Entry}
 use Rattle.rules.specs.declared.LegOrder.{LegOrder}
 use Rattle.rules.specs.declared.State.{State}
 use Rattle.rules.specs.declared.Quote.{Quote}
-
--- an empty leg
-abbrev pub noLeg : Leg
-noLeg = record { series = 0; side = 0; ratio = 0 }
-
--- an empty entry
-abbrev pub noEntry : Entry
-noEntry = record { number = 0; member = 0; strategy = 0; side = 0; class = 0; life = 0; units = 0; level = 0 }
-
--- an empty leg order
-abbrev pub noOrder : LegOrder
-noOrder = record { number = 0; member = 0; series = 0; side = 0; contracts = 0; price = 0 }
-
--- a series without national prices
-abbrev pub noQuote : Quote
-noQuote = record { bid = 0; offer = 0 }
-
--- no specialist is named
-abbrev pub noSpecialist : Specialist
-noSpecialist = record { member = 0; percentage = 0 }
-
--- what stands past the table's end
-abbrev pub noStrategy : Strategy
-noStrategy = record { legs = []; count = 0; series = 0; starter = 0; begun = 0; answered = false; specialist = noSpecialist }
-
--- a free row of the table
-abbrev pub freeStrategy : Strategy
-freeStrategy = record { legs = replicate 6 noLeg; count = 0; series = 0; starter = 0; begun = 0; answered = false; specialist = noSpecialist }
+use Rattle.rules.specs.Sides.{other}
+use Rattle.rules.specs.Nets.{prices, netOf}
+unfoldable pub use Rattle.rules.specs.Rows.{noLeg, noEntry, noOrder, noQuote, noSpecialist, noStrategy, freeStrategy}
 
 -- a fresh book of a timer: clock 0, all shut, its tables empty and no number given. 2026-01: "a fresh book has 9,999", and "misses all" national
 -- prices
@@ -111,3 +84,20 @@ withNational b qs = record { strategies = b .strategies; entries = b .entries; o
 -- the state with that execution range
 unfoldable pub withRange : State → ℕ → State
 withRange b r = record { strategies = b .strategies; entries = b .entries; orders = b .orders; defined = b .defined; opened = b .opened; clock = b .clock; timer = b .timer; last = b .last; national = b .national; range = r }
+
+-- the leg net that a complex party of that side meets: "offer net for a buy, bid net for a sell"
+unfoldable pub legNet : State → ℕ → ℕ → ℕ
+legNet b side k = netOf (strategyAt b k) (prices (b .orders) side (strategyAt b k .legs))
+
+-- "Offer net takes offers for buy legs, bids for sell legs"
+abbrev pub offerNet : State → ℕ → ℕ
+offerNet b k = legNet b 0 k
+
+-- "bid net the reverse"
+abbrev pub bidNet : State → ℕ → ℕ
+bidNet b k = legNet b 1 k
+
+-- "the .. leg net of its own side": that of an entry of a side, "bid net" for a buy, "offer net" for a sell. The net that starts an auction and the
+-- net that a sweep must better (2026-03) are this one.
+abbrev pub ownNet : State → ℕ → ℕ → ℕ
+ownNet b side k = legNet b (other side) k
