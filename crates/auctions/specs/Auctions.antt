@@ -44,6 +44,7 @@ side-past es i n h = rw (List·getD-eq-default es noEntry {n = i} (omega arith))
 abbrev pub auctioned : State → ℕ → Strategy → State
 auctioned b k s = record {
   strategies = set (b .strategies) k s;
+  nets = b .nets;
   entries = b .entries;
   orders = b .orders;
   defined = b .defined;

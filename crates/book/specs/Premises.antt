@@ -36,11 +36,13 @@ use Rattle.rules.specs.Specialists.{onSpecialist}
 use Rattle.rules.specs.Given.{strategyGiven, orderGiven, sweepGiven, legOrderGiven, specialistGiven, quoteGiven}
 use Rattle.rules.specs.Refusals.{firstCause, causes, illFormed, strategiesFull}
 use Rattle.rules.specs.Step.{valueOf, accept}
-use Rattle.rules.specs.Fits.{FitOrderGiven, FitSweepGiven, FitLegOrderGiven}
+use Rattle.rules.specs.Fits.{FitGiven, FitOrderGiven, FitSweepGiven, FitLegOrderGiven}
+use Rattle.rules.specs.State.{strategyAt}
 use Rattle.rules.specs.Valid.{FitEntry, FitOrder, Priced, Valid}
 use Rattle.rules.proofs.Entering.{enterOrder-room, live-pos}
-use Rattle.rules.proofs.Validity.{order-clear, sweep-clear, legOrder-clear}
-use Rattle.ranges.specs.Fit.{Fit, fit-sound}
+use Rattle.rules.proofs.Strategies.{defined-fit}
+use Rattle.rules.proofs.Validity.{given-definition, order-clear, sweep-clear, legOrder-clear}
+use Rattle.ranges.specs.Fit.{FitLegs, Fit, fit-sound}
 use Rattle.records.specs.Space.{Room}
 use Rattle.records.specs.Done.{Done}
 use Rattle.sweeps.specs.Sweeps.{MayEnter}
@@ -72,6 +74,13 @@ module _ (b : State) (e : GivenStrategy) {t : Strategy} {k : ℕ} (well : illFor
   pub strategy-new : b .defined ≤ k → b .defined < 16 → {c : State} → c ≡ added t b → (0 ≡ firstCause (causes b (E.Strategy e))) × (accept b (E.Strategy e) ≡ still c)
   unfolding causes firstCause strategiesFull accept define
   strategy-new h f c = rw (well, missing h, c, g) (search tests, search tests)
+
+-- the legs of a definition that is not ill-formed are in range
+pub strategy-legs : (e : GivenStrategy) {t : Strategy} → FitGiven e → illFormed e ≡ false → t ≡ strategyGiven e → FitLegs t
+unfolding strategyGiven
+strategy-legs e f h g =
+    let k = defined-fit _ _ (given-definition e f h) in
+    rw g (record { count = k .count; legs = k .legs; used = k .used; rising = k .rising; held = k .held })
 
 -- what is accepted, by the rows that the code has made
 module _ (b : State) where
@@ -179,10 +188,10 @@ number-most b t g h = omega (arith, g, first-le (sameAt b t) (b .defined))
 
 -- an order that nothing refuses, as a row: its slot, the ranges and the room; and what is handed back after its rule
 module _ (b : State) (e : GivenOrder) (s : List ℤ) {n : ℕ} (c : n ≡ firstCause (causes b (E.Order e))) (q : Valid b × FitOrderGiven e × (15_360 ≤ length s)) (z : n ≡ 0) {r : Entry} (g : r ≡ orderGiven b e) where
-  pub order-asks : ((freeSlot b < 32) × FitEntry r × (0 < r .units) × Fit b) × Room s 0 (onOrder r b .records)
+  pub order-asks : ((freeSlot b < 32) × FitEntry r × (0 < r .units) × (0 < strategyAt b (r .strategy) .count) × Fit b) × Room s 0 (onOrder r b .records)
   order-asks =
       let k = order-clear b e (q .0 .sound) (q .1) (sym c ∙ z) in
-      ((order-slot b _ (q .0 .sound) k, rw g (k .fit), rw g (k .live), fit-sound (q .0 .sound)), room-event b (E.Order e) s c q z (order-accepts b e g))
+      ((order-slot b _ (q .0 .sound) k, rw g (k .fit), rw g (k .live), rw g (let l = q .0 .sound .legs _ (k .strategy) in omega arith), fit-sound (q .0 .sound)), room-event b (E.Order e) s c q z (order-accepts b e g))
 
   pub order-took : {t : List ℤ} {m : ℕ} {d : State} {x : Taken} → Done s t 0 m d (onOrder r b) → x ≡ admit d (r .number) m → Took b (E.Order e) s t x
   order-took w h = took b (E.Order e) s c q z (order-accepts b e g) w (order-value b e g) h

@@ -1,7 +1,7 @@
 // The book of complex orders. Its state is private, so that no other crate can make a book.
 ghost use mathlib.Core.Path.{_≡_};
 ghost use mathlib.Core.List.{[], _∷_};
-ghost use Rattle.rules.specs.Lookups.{liveQuantity, shutLegs, depthTells, shutTells};
+ghost use Rattle.rules.specs.Lookups.{liveQuantity, shutLegs, legNets, depthTells, shutTells, netsTells};
 ghost use Rattle.rules.specs.Valid.{Valid};
 ghost use Rattle.lookups.specs.Lookups.{bookDepth, lentRow};
 ghost use Rattle.events.specs.declared.Event.the-variants as E;
@@ -43,6 +43,7 @@ use rules::Entry;
 use rules::OrderEntry;
 use rules::Shut;
 use rules::State;
+use rules::StrategyNets;
 use series::on_series;
 use specialists::set_specialist;
 use strategies::add;
@@ -333,6 +334,15 @@ impl Book {
     {
         let state = self.state;
         lookups::shut_legs(state, strategy)
+    }
+
+    // The bid and offer net of a strategy, each in cents or unknown.
+    pub fn nets(self, strategy: u32) -> StrategyNets
+        requires { ⌜ Valid (self .state) ⌝ }
+        ensures { λ r. ⌜ netsTells r ≡ legNets (self .state) strategy ⌝ }
+    {
+        let state = self.state;
+        lookups::nets(state, strategy)
     }
 
     // The best price of a series and side, and its contracts.

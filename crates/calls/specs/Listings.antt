@@ -5,8 +5,11 @@ use mathlib.Core.List.{List, [], _∷_, _++_, map}
 use Prim.Native.Nat.{ℕ, _+_, _/_, _%_, _≤_}
 use native.Mathlib.Omega.{arith}
 use lib.Dec.{eqb}
-use lib.IntN.{pos}
+use lib.IntN.{ℤ, pos}
 use lib.ListN.{getD}
+use mir.Syntax.{w32}
+use mir.Val.{SFits, toZ, ofZ}
+use mir.Facts.{toZ-ofZ}
 use Rattle.base.specs.Pick.{pick, pick-true, pick-false, tests}
 use Rattle.base.specs.Walks.{joinN, clash}
 use borrow.Author.Tests.{eq-eqb, ne-eqb}
@@ -17,11 +20,14 @@ use Rattle.rules.specs.declared.Depth.the-variants as D
 use Rattle.rules.specs.declared.OrderEntry.{OrderEntry}
 use Rattle.rules.specs.declared.Shut.{Shut}
 use Rattle.rules.specs.declared.Shut.the-variants as S
-use Rattle.rules.specs.Lookups.{LookedUp, values, refusedBy, liveQuantity, shutLegs, rowDepth, depthTells, shutTells}
+use Rattle.rules.specs.declared.StrategyNets.{StrategyNets}
+use Rattle.rules.specs.declared.StrategyNets.the-variants as N
+use Rattle.rules.specs.Lookups.{LookedUp, values, nets, refusedBy, liveQuantity, shutLegs, legNets, rowDepth, depthTells, shutTells, netsTells}
 use Rattle.rules.specs.Valid.{Valid}
 use Rattle.lookups.specs.Lookups.{bookDepth, lentRow}
 use Rattle.depths.specs.Rows.{row-depth-book}
-use Rattle.lines.specs.Lines.{textLine}
+use Rattle.lines.specs.declared.Net.the-variants as L
+use Rattle.lines.specs.Lines.{textLine, toldLine, netTells}
 use Rattle.lines.specs.Puts.{Put, Within, put-nil, put-then}
 
 -- `L` number quantity, of a number with something live
@@ -31,16 +37,28 @@ liveLine b n = pick (eqb (liveQuantity b n) 0) [] (textLine 76 (pos n ∷ (pos (
 -- `S` strategy count lowest, of a lookup that is not refused
 unfoldable pub shutText : ℕ → LookedUp → List ℕ
 shutText k (values ns) = textLine 83 (pos k ∷ map pos ns)
+shutText k (nets x y) = []
 shutText k (refusedBy n) = []
 
 -- .. of a strategy
 unfoldable pub shutLine : State → ℕ → List ℕ
 shutLine b k = shutText k (shutLegs b k)
 
+-- 2026-05: `N` strategy bid offer, each net in cents or `-` where it is unknown, of a lookup that is not refused
+unfoldable pub netsText : ℕ → LookedUp → List ℕ
+netsText k (values ns) = []
+netsText k (nets x y) = toldLine 78 k x y
+netsText k (refusedBy n) = []
+
+-- .. of a strategy
+unfoldable pub netsLine : State → ℕ → List ℕ
+netsLine b k = netsText k (legNets b k)
+
 -- `D` series side price contracts, of a depth that is not empty
 unfoldable pub depthText : ℕ → ℕ → LookedUp → List ℕ
 depthText s side (values []) = []
 depthText s side (values (n ∷ ns)) = textLine 68 (pos s ∷ (pos side ∷ map pos (n ∷ ns)))
+depthText s side (nets x y) = []
 depthText s side (refusedBy n) = []
 
 -- .. of a series and side
@@ -59,6 +77,10 @@ liveLines b = joinN (liveAt b) 100000
 unfoldable pub shutLines : State → List ℕ
 shutLines b = joinN (shutLine b) strategySlots
 
+-- .. and their nets
+unfoldable pub netsLines : State → List ℕ
+netsLines b = joinN (netsLine b) strategySlots
+
 -- the line of a side of a series, two places a series
 abbrev pub depthAt : State → ℕ → List ℕ
 depthAt b i = depthLine b (i / 2) (i % 2)
@@ -69,7 +91,7 @@ depthLines b = joinN (depthAt b) 64
 
 -- all of them
 unfoldable pub lookupText : State → List ℕ
-lookupText b = liveLines b ++ (shutLines b ++ depthLines b)
+lookupText b = liveLines b ++ (shutLines b ++ (netsLines b ++ depthLines b))
 
 -- `cut`, where some bytes of an item are left
 unfoldable pub cutLine : ℕ → List ℕ
@@ -111,6 +133,35 @@ pub shut-none : (b : State) (k : ℕ) {x : Shut} {n : ℕ} → shutTells x ≡ s
 unfolding shutLine shutText shutTells
 shut-none b k e g s a = rw (← e, g) (within-none s a)
 
+-- the nets by the case that the lookup hands back
+module _ (b : State) (k : ℕ) {r : StrategyNets} (h : netsTells r ≡ legNets b k) where
+  pub nets-both :
+      {x y : ℤ} → r ≡ N.Both x y → SFits w32 x → SFits w32 y → {s q : List ℕ} {a m : ℕ} →
+      Within 47 s q a m (toldLine 78 k (netTells (L.Known (toZ w32 (ofZ w32 x)))) (netTells (L.Known (toZ w32 (ofZ w32 y))))) → Within 86 s q a m (netsLine b k)
+  unfolding netsLine netsText netsTells netTells
+  nets-both g e f w = rw (← h, g) (within-more (omega arith) (rw (toZ-ofZ e, toZ-ofZ f) at w))
+
+  pub nets-bid :
+      {x : ℤ} → r ≡ N.BidAlone x → SFits w32 x → {s q : List ℕ} {a m : ℕ} →
+      Within 47 s q a m (toldLine 78 k (netTells (L.Known (toZ w32 (ofZ w32 x)))) (netTells L.Unknown)) → Within 86 s q a m (netsLine b k)
+  unfolding netsLine netsText netsTells netTells
+  nets-bid g e w = rw (← h, g) (within-more (omega arith) (rw (toZ-ofZ e) at w))
+
+  pub nets-offer :
+      {y : ℤ} → r ≡ N.OfferAlone y → SFits w32 y → {s q : List ℕ} {a m : ℕ} →
+      Within 47 s q a m (toldLine 78 k (netTells L.Unknown) (netTells (L.Known (toZ w32 (ofZ w32 y))))) → Within 86 s q a m (netsLine b k)
+  unfolding netsLine netsText netsTells netTells
+  nets-offer g f w = rw (← h, g) (within-more (omega arith) (rw (toZ-ofZ f) at w))
+
+  pub nets-unknown :
+      r ≡ N.Unknown → {s q : List ℕ} {a m : ℕ} → Within 47 s q a m (toldLine 78 k (netTells L.Unknown) (netTells L.Unknown)) → Within 86 s q a m (netsLine b k)
+  unfolding netsLine netsText netsTells netTells
+  nets-unknown g w = rw (← h, g) (within-more (omega arith) w)
+
+  pub nets-none : {n : ℕ} → r ≡ N.Refused n → (s : List ℕ) (a : ℕ) → Within 86 s s a a (netsLine b k)
+  unfolding netsLine netsText netsTells
+  nets-none g s a = rw (← h, g) (within-none s a)
+
 pub best-is : {d : Depth} {p c : ℕ} (price contracts : ℕ) → d ≡ D.Best p c → p ≡ price → eqb c contracts ≡ isBest d price contracts
 unfolding isBest
 best-is price contracts e h = rw e (search tests)
@@ -130,11 +181,13 @@ best-refused price contracts e = rw e
 -- a lookup that tells a price and contracts is of that price and contracts
 valueAt : ℕ → LookedUp → ℕ
 valueAt i (values ns) = getD ns i 0
+valueAt i (nets x y) = 0
 valueAt i (refusedBy n) = 0
 
 tellsSome : LookedUp → Bool
 tellsSome (values []) = false
 tellsSome (values (n ∷ ns)) = true
+tellsSome (nets x y) = false
 tellsSome (refusedBy n) = false
 
 best-told : (x : Depth) {price contracts : ℕ} → depthTells x ≡ values (price ∷ (contracts ∷ [])) → isBest x price contracts ≡ true

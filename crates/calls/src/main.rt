@@ -10,19 +10,22 @@ ghost use Rattle.lookups.specs.Lookups.{lentRow};
 ghost use Rattle.streams.specs.Rests.{Lies, restOf, More};
 ghost use Rattle.turns.specs.Turns.{Tells};
 ghost use Rattle.calls.specs.Items.{itemNeeded, itemOf, lentOf};
-ghost use Rattle.calls.specs.Listings.{liveLine, shutLine, depthLine, isBest, liveLines, shutLines, depthLines, lookupText, cutLine};
+ghost use Rattle.calls.specs.Listings.{liveLine, shutLine, netsLine, depthLine, isBest, liveLines, shutLines, netsLines, depthLines, lookupText, cutLine};
 ghost use Rattle.calls.specs.Printed.{Listed};
 ghost use Rattle.calls.specs.Calls.{ItemsEnded};
 use book::Book;
 use depths::depth_in;
+use lines::Net;
 use lines::put_byte;
 use lines::put_four;
 use lines::put_three;
+use lines::put_told;
 use lines::put_two;
 use lines::two_bytes;
 use rules::Depth;
 use rules::OrderEntry;
 use rules::Shut;
+use rules::StrategyNets;
 use streams::Rest;
 use streams::drain;
 use streams::fill;
@@ -143,6 +146,29 @@ fn put_shut(book: Book, strategy: u32, out: &mut [u8], used: usize) -> usize
     }
 }
 
+// The line of a strategy's nets, if it is defined.
+fn put_nets(book: Book, strategy: u32, out: &mut [u8], used: usize) -> usize
+    requires { ⌜ Valid (book .state) ⌝ }
+    requires { ⌜ used + 86 ≤ length (now out) ⌝ }
+    ensures { λ m. ⌜ Within 86 (now (out .entry)) (now (out .exit)) used m (netsLine (book .state) strategy) ⌝ }
+{
+    let k = strategy as u64;
+    let nets = book.nets(strategy);
+    match nets {
+        StrategyNets::Both(bid, offer) => {
+            put_told(out, used, b'N', k, Net::Known(bid), Net::Known(offer))
+        }
+        StrategyNets::BidAlone(bid) => {
+            put_told(out, used, b'N', k, Net::Known(bid), Net::Unknown)
+        }
+        StrategyNets::OfferAlone(offer) => {
+            put_told(out, used, b'N', k, Net::Unknown, Net::Known(offer))
+        }
+        StrategyNets::Unknown => put_told(out, used, b'N', k, Net::Unknown, Net::Unknown),
+        StrategyNets::Refused(_) => used,
+    }
+}
+
 // Whether a depth is that price with those contracts.
 fn is_best(d: Depth, price: u32, contracts: u32) -> bool
     ensures { λ r. ⌜ r ≡ isBest d price contracts ⌝ }
@@ -227,6 +253,22 @@ fn list_shut(book: Book, out: &mut [u8], used: usize) -> usize
     m
 }
 
+// The lines of the nets of the strategies 0 to 15.
+fn list_nets(book: Book, out: &mut [u8], used: usize) -> usize
+    requires { ⌜ Valid (book .state) ⌝ }
+    requires { ⌜ (used ≤ length (now out)) × (86 ≤ length (now out)) ⌝ }
+    ensures { λ m. ⌜ Listed (now (out .entry)) (now (out .exit)) used m (netsLines (book .state)) ⌝ }
+{
+    let mut m = used;
+    let mut i: u32 = 0;
+    while i < 16 {
+        let text = drain(m, out, LINE);
+        m = put_nets(book, i, out, text.used);
+        i += 1;
+    }
+    m
+}
+
 // The lines of the series 0 to 31, of each the sides 0 and 1.
 fn list_depths(book: Book, out: &mut [u8], used: usize) -> usize
     requires { ⌜ Valid (book .state) ⌝ }
@@ -252,7 +294,8 @@ fn list_lookups(book: Book, out: &mut [u8], used: usize) -> usize
 {
     let a = list_live(book, out, used);
     let b = list_shut(book, out, a);
-    list_depths(book, out, b)
+    let c = list_nets(book, out, b);
+    list_depths(book, out, c)
 }
 
 // The line of an item that is cut short, where some bytes of it are left.

@@ -1,22 +1,33 @@
 -- The cancel of a number by the slot that the code finds: a number is live once.
 use mathlib.Core.Path.{_≡_, refl, _∙_}
 use mathlib.Core.Bool.{Bool, true, false, not}
-use mathlib.Core.List.{[], _∷_}
+use mathlib.Core.List.{List, [], _∷_}
 use Prim.Native.Nat.{ℕ, _≤_, _<_}
 use native.Mathlib.Omega.{arith}
 use borrow.Author.Tests.{eqb-true, eqb-false, not-true}
 use lib.Dec.{eqb}
+use lib.ListN.{set}
 use Rattle.base.specs.Pick.{pick, pick-yes, tests}
+use Rattle.base.specs.All.{All}
 use Rattle.base.specs.Walks.{clash, firstN, first-holds, first-before}
 use Rattle.rules.specs.Sizes.{tableRows}
+use Rattle.rules.specs.declared.LegOrder.{LegOrder}
+use Rattle.rules.specs.declared.LegNets.{LegNets}
 use Rattle.rules.specs.declared.State.{State}
-use Rattle.rules.specs.State.{entryAt, orderAt}
+use Rattle.rules.specs.State.{entryAt, orderAt, withOrders}
 use Rattle.rules.specs.Moves.{Moved, still, and-then}
-use Rattle.rules.specs.Fills.{cutLeg, cancelLegRecord, cancelEntry, cancelOrder}
+use Rattle.rules.specs.Nets.{priceOf, netsOf}
+use Rattle.rules.specs.Fills.{cutOrder, cutLeg, cancelLegRecord, cancelEntry, cancelOrder}
 use Rattle.rules.specs.Events.{cancelEntryOf, cancelOrderOf, cancelNumber}
-use Rattle.rules.specs.Valid.{Sound}
+use Rattle.rules.specs.Valid.{FitOrder, Priced, Sound}
 use Rattle.rules.proofs.DayEnd.{each-still}
 use Rattle.rules.proofs.Cancels.{number-entry, number-order}
+use Rattle.rules.proofs.Shrinks.{cutLeg-shrinks}
+use Rattle.rules.proofs.BetterNets.{price-most}
+use Rattle.rules.proofs.LegPrices.{cut-price}
+use Rattle.ranges.specs.Fit.{FitLegs, fit-order, fit-sound, fit-shrinks}
+use Rattle.stored_nets.specs.Stored.{FitNets, Refreshed}
+use Rattle.stored_nets.specs.Laws.{fit-nets, refreshed-one}
 use Rattle.tables.specs.Only.{onlyEntries, onlyOrders}
 use Rattle.fills.specs.Fills.{cancelled, cancel-live}
 
@@ -94,3 +105,18 @@ module _ (n : ℕ) (b : State) where
         each-still (cancelEntryOf n) b 32 (λ k h. entry-idle k (first-before (entryHas n b) 32 k (omega (arith, e)))),
         each-still (cancelOrderOf n) b 32 (λ k h. order-idle k (first-before (orderHas n b) 32 k (omega (arith, f)))),
       )
+
+-- the nets after q contracts were taken from the leg order at slot j: what `refreshed` asks for, and that it gives those of the rule
+module _ (b : State) (s : Sound b) (j q : ℕ) {o : LegOrder} {p : ℕ} (e : o ≡ cutOrder (orderAt b j) q) (f : p ≡ priceOf (b .orders) (orderAt b j .series) (orderAt b j .side)) where
+  pub cut-asks : All FitLegs (b .strategies) × All FitOrder (set (b .orders) j o) × All Priced (set (b .orders) j o) × All FitNets (b .nets) × (orderAt b j .side ≤ 1) × (p ≤ 99_999)
+  unfolding cutLeg withOrders
+  cut-asks =
+      let g = fit-sound s in
+      let h = fit-shrinks (cutLeg-shrinks b j q) g in
+      rw (e, f) (g .strategies, h .orders, h .priced, rw (g .nets .are) (fit-nets (g .orders) (g .strategies)), fit-order (g .orders) j .side, price-most (b .orders) (g .orders) _ _)
+
+  pub cut-nets : {ns : List LegNets} → Refreshed (b .nets) (b .strategies) (set (b .orders) j o) (orderAt b j .series) (orderAt b j .side) p ns
+      → ns ≡ netsOf (set (b .orders) j (cutOrder (orderAt b j) q)) (b .strategies)
+  cut-nets r =
+      refreshed-one (b .orders) (set (b .orders) j (cutOrder (orderAt b j) q)) (b .strategies) (orderAt b j .series) (orderAt b j .side) (s .orders) (s .nets .are) f
+      (λ x d n. cut-price (b .orders) j q x d n) (rw e at r)

@@ -8,11 +8,13 @@ ghost use Rattle.tables.specs.Only.{onlyEntries, onlyOrders};
 ghost use Rattle.cancels.specs.Cancels.{hasLive, entrySlot, orderSlot};
 use fills::cancel_record;
 use fills::cut_entry;
+use nets::price_of;
 use records::After;
 use records::push;
 use rules::Entry;
 use rules::LegOrder;
 use rules::State;
+use stored_nets::refreshed;
 use trades::cancel_leg_record;
 use trades::cut_order;
 
@@ -78,7 +80,12 @@ pub fn cancel_number(b: State, number: u32, space: &mut [i32], n: usize) -> Afte
         let o = c.orders[j];
         let r = cancel_leg_record(o);
         let m = push(space, n, r);
+        let p = price_of(os, o.series, o.side);
         c.orders[j] = cut_order(o, o.contracts);
+        let rows = c.orders;
+        let ss = c.strategies;
+        let ns = c.nets;
+        c.nets = refreshed(ns, ss, rows, o.series, o.side, p);
         return After { state: c, count: m };
     }
     After { state: c, count: n }

@@ -42,7 +42,7 @@ ranged-each f h i b r d = ranged-done d (each-kept ranged-kept f h i b) r
 
 clock-fit : (b : State) (t : ℕ) → Fit b → Fit (withClock b t)
 unfolding withClock
-clock-fit b t f = record { strategies = f .strategies; entries = f .entries; orders = f .orders; priced = f .priced; strategyRows = f .strategyRows; entryRows = f .entryRows; orderRows = f .orderRows; quotes = f .quotes; quoteRows = f .quoteRows; range = f .range }
+clock-fit b t f = record { strategies = f .strategies; entries = f .entries; orders = f .orders; priced = f .priced; strategyRows = f .strategyRows; entryRows = f .entryRows; orderRows = f .orderRows; quotes = f .quotes; quoteRows = f .quoteRows; range = f .range; nets = record { are = f .nets .are }; live = f .live }
 
 clock-ranged : (b : State) (t : ℕ) → t ≤ 86_400_000 → Ranged b → Ranged (withClock b t)
 unfolding withClock

@@ -2,20 +2,21 @@
 use mathlib.Core.Path.{_≡_, refl, sym, _∙_, ap}
 use mathlib.Core.Bool.{Bool, true, false, not}
 use mathlib.Core.List.{List, [], _∷_}
-use Prim.Native.Nat.{ℕ, _<_}
+use Prim.Native.Nat.{ℕ, _≤_, _<_}
 use native.Mathlib.Omega.{arith}
 use lib.Dec.{eqb}
 use lib.IntN.{ℤ}
 use lib.ListN.{length, getD}
-use Rattle.base.specs.Pick.{pick, both, pick-by, pick-ap, tests}
+use Rattle.base.specs.Pick.{pick, both, pick-all, pick-by, pick-ap, pick-true, tests}
 use Rattle.base.specs.Sets.{minus}
 use Rattle.rules.specs.declared.Entry.{Entry}
 use Rattle.rules.specs.declared.LegOrder.{LegOrder}
 use Rattle.rules.specs.declared.Strategy.{Strategy}
 use Rattle.rules.specs.declared.Record.{Record}
+use Rattle.rules.specs.declared.LegNets.{LegNets}
 use Rattle.rules.specs.declared.State.{State}
 use Rattle.rules.specs.declared.Allocation.the-variants.{Shared}
-use Rattle.rules.specs.State.{noEntry, entryAt, strategyOf, legNet}
+use Rattle.rules.specs.State.{noEntry, noNets, entryAt, strategyAt, strategyOf, legNet}
 use Rattle.rules.specs.Moves.{Moved, still, and-then}
 use Rattle.rules.specs.Sides.{other}
 use Rattle.rules.specs.Nets.{prices, netOf, betters}
@@ -24,21 +25,33 @@ use Rattle.rules.specs.Passes.{turnAt}
 use Rattle.rules.specs.Fills.{cancelRecord, cutEntry, cancelEntry}
 use Rattle.rules.specs.Auctions.{running, withAuction, putAuction, begin, answer}
 use Rattle.rules.specs.Events.{live, keep, behind, freeSlot, restOrCancel, mayStart, starts, waits, trades, arrive, onOrder}
+use Rattle.rules.specs.Valid.{FitEntry}
 use Rattle.rules.proofs.Tables.{behind-slot}
 use Rattle.records.specs.Space.{Appended, Room}
 use Rattle.records.specs.Done.{Done}
 use Rattle.fills.specs.Fills.{withEntry, cancel-room, cancel-stores}
 use Rattle.auctions.specs.Auctions.{answersIn, answer-by, auctioned, put-is}
 use Rattle.entries.specs.Entered.{entered, entered-is}
-use Rattle.nets.specs.declared.LegBests.{LegBests}
-use Rattle.nets.specs.Legs.{legBests, netWhere, net-where}
-use Rattle.passes.specs.Passes.{stopsAt, oppositeIn, netIn, pass-still}
+use Rattle.ranges.specs.Fit.{Fit}
+use Rattle.nets.specs.Legs.{netWhere}
+use Rattle.stored_nets.specs.Stored.{netFor}
+use Rattle.stored_nets.specs.Laws.{net-stored}
+use Rattle.passes.specs.Passes.{stopsAt, oppositeIn, netIn, netOver, legsMet, turn-met, pass-still}
 use Rattle.complex_orders.specs.declared.Arrival.{Arrival}
 use Rattle.complex_orders.specs.declared.Arrival.the-variants as A
 
 -- whether an order of strategy s starts an auction, by the leg orders
 unfoldable pub startsIn : Entry → Strategy → List LegOrder → Bool
 startsIn e s os = both (mayStart e) (betters false (e .side) (e .level) (netOf s (prices os (other (e .side)) (s .legs))))
+
+-- .. by the nets n of the strategy
+unfoldable pub startsBy : Entry → LegNets → Bool
+startsBy e n = both (mayStart e) (betters false (e .side) (e .level) (netFor n (other (e .side))))
+
+-- n are the nets of strategy s, as an order of that side asks for them
+pub record NetsAre (n : LegNets) (os : List LegOrder) (s : Strategy) (side : ℕ) : Type 0 where
+  pub met : netFor n side ≡ netOf s (prices os side (s .legs))
+  pub own : netFor n (other side) ≡ netOf s (prices os (other side) (s .legs))
 
 -- it rests, or is cancelled
 unfoldable pub restsAs : Entry → Arrival
@@ -69,11 +82,36 @@ does i b A.Passes = trades i b
 
 -- laws
 
--- whether its pass does nothing, by what is met on the legs
-pub idle-found : (e : Entry) (s : Strategy) (es : List Entry) (os : List LegOrder) {p : LegBests} {net : ℕ} {r : Bool} → p ≡ legBests os (e .side) s → net ≡ netWhere p
-    → r ≡ stopsAt (turnAt e (oppositeIn Shared es e) net) → r ≡ idleIn e s es os
-unfolding netIn pick
-idle-found e s es os f g h = h ∙ ap (λ (n : ℕ). stopsAt (turnAt e (oppositeIn Shared es e) n)) (g ∙ net-where os (e .side) s f)
+-- the stored nets of a strategy with legs
+pub nets-are : (e : Entry) (b : State) → Fit b → FitEntry e → 0 < strategyAt b (e .strategy) .count → NetsAre (getD (b .nets) (e .strategy) noNets) (b .orders) (strategyOf b e) (e .side)
+nets-are e b f h l = record {
+  met = net-stored (b .nets) (b .orders) (b .strategies) (e .strategy) (e .side) (h .strategy) (h .side) l (f .nets .are);
+  own = net-stored (b .nets) (b .orders) (b .strategies) (e .strategy) (other (e .side)) (h .strategy) (other-most (e .side)) l (f .nets .are);
+}
+  where
+    other-most : (side : ℕ) → other side ≤ 1
+    other-most side = unfold other in pick-all (λ (x : ℕ). x ≤ 1) (eqb side 0) (omega arith) (omega arith)
+
+pub starts-yes : (e : Entry) (n : LegNets) {on net : ℕ} {r : Bool} → mayStart e ≡ true → on ≡ other (e .side) → net ≡ netFor n on → r ≡ betters false (e .side) (e .level) net → r ≡ startsBy e n
+unfolding startsBy
+starts-yes e n m o f h = h ∙ ap (betters false (e .side) (e .level)) (f ∙ ap (netFor n) o) ∙ sym (pick-true _ _ _ m)
+
+-- whether it starts an auction, by these
+pub starts-found : (e : Entry) (s : Strategy) (os : List LegOrder) {n : LegNets} {r : Bool} → NetsAre n os s (e .side) → r ≡ startsBy e n → r ≡ startsIn e s os
+unfolding startsBy startsIn
+starts-found e s os a h = h ∙ ap (λ (x : ℕ). both (mayStart e) (betters false (e .side) (e .level) x)) (a .own)
+
+-- the turn by the stored net is the rule's
+idle-met : (e : Entry) (s : Strategy) (es : List Entry) (os : List LegOrder) {net : ℕ} → net ≡ netOver true os (e .side) s
+    → stopsAt (turnAt e (oppositeIn Shared es e) (netWhere (legsMet e (oppositeIn Shared es e) net os s))) ≡ idleIn e s es os
+idle-met e s es os q =
+    ap (λ (x : ℕ). stopsAt (turnAt e (oppositeIn Shared es e) (netWhere (legsMet e (oppositeIn Shared es e) x os s)))) q ∙ ap stopsAt (turn-met true e (oppositeIn Shared es e) os s)
+
+-- whether its pass does nothing, by the net that is stored
+pub idle-found : (e : Entry) (s : Strategy) (es : List Entry) (os : List LegOrder) {n : LegNets} {net : ℕ} {r : Bool} → NetsAre n os s (e .side) → net ≡ netFor n (e .side)
+    → r ≡ stopsAt (turnAt e (oppositeIn Shared es e) (netWhere (legsMet e (oppositeIn Shared es e) net os s))) → r ≡ idleIn e s es os
+unfolding netOver pick
+idle-found e s es os a g h = h ∙ idle-met e s es os (g ∙ a .met)
 
 -- the arrival by what the code has found
 module _ (e : Entry) (s : Strategy) (opened : ℕ) (es : List Entry) (os : List LegOrder) where
@@ -131,7 +169,7 @@ module _ (i : ℕ) (b : State) where
   unfolding trades does
   trades-is =
       pick-by (λ (a : Arrival). does i b a ≡ trades i b) _
-      (λ h. rests-is ∙ sym (ap (λ (m : Moved). and-then m (restOrCancel i)) (pass-still Shared true i b refl refl refl refl h) ∙ nothing-then))
+      (λ h. rests-is ∙ sym (ap (λ (m : Moved). and-then m (restOrCancel i)) (pass-still Shared true i b refl refl refl refl refl (idle-met (entryAt b i) (strategyOf b (entryAt b i)) (b .entries) (b .orders) refl ∙ h)) ∙ nothing-then))
       (λ h. refl)
 
   starts-is : startsIn (entryAt b i) (strategyOf b (entryAt b i)) (b .orders) ≡ starts b (entryAt b i)

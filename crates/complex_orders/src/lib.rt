@@ -6,12 +6,13 @@ ghost use lib.Dec.{eqb};
 ghost use Rattle.base.specs.Pick.{pick};
 ghost use Rattle.base.specs.All.{All};
 ghost use Rattle.rules.specs.Sizes.{tableRows};
+ghost use Rattle.rules.specs.State.{strategyAt};
 ghost use Rattle.rules.specs.Events.{freeSlot, restOrCancel, mayStart, trades, onOrder};
 ghost use Rattle.rules.specs.Valid.{FitEntry, FitOrder, Priced};
 ghost use Rattle.records.specs.Space.{Room};
 ghost use Rattle.records.specs.Done.{Done};
 ghost use Rattle.ranges.specs.Fit.{FitLegs, Fit};
-ghost use Rattle.complex_orders.specs.ComplexOrders.{startsIn, restsAs, waitsAs, arrivalOf};
+ghost use Rattle.complex_orders.specs.ComplexOrders.{startsBy, NetsAre, restsAs, waitsAs, arrivalOf};
 use auctions::answers;
 use auctions::begin;
 use auctions::with_auction;
@@ -20,19 +21,20 @@ use fills::cancel_entry;
 use fills::cancel_record;
 use fills::cut_entry;
 use nets::betters;
-use nets::leg_bests;
-use nets::ready_net;
 use passes::idle;
 use passes::pass;
 use records::After;
 use records::push;
 use rules::Allocation;
 use rules::Entry;
+use rules::LegNets;
 use rules::LegOrder;
 use rules::State;
 use rules::Strategy;
+use sides::other;
 use states::none_shut;
 use states::runs;
+use stored_nets::net_for;
 
 // What an order does that has entered: it stays, resting or waiting in the auction; it is cancelled; it waits and answers
 // the auction; it starts one; or it has its shared pass.
@@ -64,12 +66,13 @@ fn may_start(e: Entry) -> bool
 }
 
 // Whether it does: its limit is better than the known leg net of its own side.
-fn starts(e: Entry, s: Strategy, os: [LegOrder; State::LEG_ORDERS]) -> bool
-    requires { ⌜ All FitOrder os × All Priced os × FitLegs s ⌝ }
-    ensures { λ r. ⌜ r ≡ startsIn e s os ⌝ }
+fn starts(e: Entry, n: LegNets) -> bool
+    ensures { λ r. ⌜ r ≡ startsBy e n ⌝ }
 {
     if may_start(e) {
-        return betters(false, e.side, e.level, os, s);
+        let on = other(e.side);
+        let net = net_for(n, on);
+        return betters(false, e.side, e.level, net);
     }
     false
 }
@@ -98,27 +101,27 @@ fn waits(e: Entry, s: Strategy, es: [Entry; State::ROWS]) -> Arrival
     Arrival::Rests
 }
 
-// What an order of strategy s does, which stands among these entries and leg orders.
+// What an order of strategy s, which has these nets, does among these entries and leg orders.
 fn arrives(
     e: Entry,
     s: Strategy,
     opened: u32,
     es: [Entry; State::ROWS],
     os: [LegOrder; State::LEG_ORDERS],
+    n: LegNets,
 ) -> Arrival
-    requires { ⌜ All FitOrder os × All Priced os × FitLegs s ⌝ }
+    requires { ⌜ All FitOrder os × All Priced os × FitLegs s × NetsAre n os s (e .side) ⌝ }
     ensures { λ r. ⌜ r ≡ arrivalOf e s opened es os ⌝ }
 {
     if none_shut(s, opened) {
         if runs(s) {
             return waits(e, s, es);
         }
-        if starts(e, s, os) {
+        if starts(e, n) {
             return Arrival::Starts;
         }
-        let p = leg_bests(os, e.side, s);
-        let net = ready_net(p);
-        if idle(Allocation::Shared, e, es, net) {
+        let net = net_for(n, e.side);
+        if idle(Allocation::Shared, e, es, net, os, s) {
             return rests(e);
         }
         return Arrival::Passes;
@@ -152,7 +155,7 @@ fn trades(b: State, i: usize, space: &mut [i32], n: usize) -> After
 
 // A complex order, accepted: it enters, and does what it then finds.
 pub fn on_order(e: Entry, b: State, space: &mut [i32], n: usize) -> After
-    requires { ⌜ (freeSlot b < tableRows) × FitEntry e × (0 < e .units) × Fit b ⌝ }
+    requires { ⌜ (freeSlot b < tableRows) × FitEntry e × (0 < e .units) × (0 < strategyAt b (e .strategy) .count) × Fit b ⌝ }
     requires { ⌜ Room (now space) n (onOrder e b .records) ⌝ }
     ensures { λ t. ⌜ Done (now (space .entry)) (now (space .exit)) n (t .count) (t .state) (onOrder e b) ⌝ }
 {
@@ -166,7 +169,8 @@ pub fn on_order(e: Entry, b: State, space: &mut [i32], n: usize) -> After
     let k = e.strategy as usize;
     let s = c.strategies[k];
     let os = c.orders;
-    let a = arrives(e, s, c.opened, rows, os);
+    let ns = c.nets[k];
+    let a = arrives(e, s, c.opened, rows, os, ns);
     let mut m = n;
     match a {
         Arrival::Rests => {}

@@ -41,6 +41,7 @@ cancel-live i b e = search tests
 abbrev pub withEntry : State → ℕ → Entry → State
 withEntry b i f = record {
   strategies = b .strategies;
+  nets = b .nets;
   entries = set (b .entries) i f;
   orders = b .orders;
   defined = b .defined;

@@ -7,6 +7,9 @@ ghost use Rattle.rules.specs.Fills.{legQuotas, orderRows, orderRecordsAt, cutOr
 ghost use Rattle.records.specs.Space.{Appended, Room};
 ghost use Rattle.ranges.specs.Fit.{FitLegs};
 ghost use Rattle.nets.specs.Legs.{legBests};
+ghost use Rattle.base.specs.All.{All};
+ghost use Rattle.rules.specs.Valid.{FitOrder, Priced};
+ghost use Rattle.legging.specs.Left.{FilledAt, LegsLeft};
 ghost use Rattle.legging.specs.Legging.{OneLeg, AllLegs, recordsByLegs, FilledByLegs};
 use fills::party_records;
 use nets::LegBests;
@@ -15,11 +18,13 @@ use quotas::in_turn;
 use records::least;
 use rules::Entry;
 use rules::Leg;
+use rules::LegNets;
 use rules::LegOrder;
 use rules::State;
 use rules::Strategy;
 use sides::leg_side;
 use sides::other;
+use stored_nets::refreshed;
 use trades::cut_order;
 use trades::order_row;
 
@@ -160,4 +165,31 @@ pub fn leg_fill(
         units: q,
         count: c.count,
     }
+}
+
+// The stored nets after the legs of strategy t were filled at prices ps, and these leg orders are left.
+pub fn nets_left(
+    ns: [LegNets; State::STRATEGIES],
+    ss: [Strategy; State::STRATEGIES],
+    os: [LegOrder; State::LEG_ORDERS],
+    side: u8,
+    t: Strategy,
+    ps: [u32; 6],
+) -> [LegNets; State::STRATEGIES]
+    requires { ⌜ All FitLegs ss × All FitOrder os × All Priced os × FitLegs t × FilledAt ns ss side (t .legs) (t .count) ps ⌝ }
+    ensures { λ ms. ⌜ LegsLeft ns ss os side (t .legs) (t .count) ps (t .count) ms ⌝ }
+{
+    let count = t.count as usize;
+    let legs = t.legs;
+    let mut ms = ns;
+    let mut i: usize = 0;
+    while i < count {
+        let l = legs[i];
+        let on = other(leg_side(side, l));
+        let p = ps[i];
+        let next = refreshed(ms, ss, os, l.series, on, p);
+        ms = next;
+        i += 1;
+    }
+    ms
 }

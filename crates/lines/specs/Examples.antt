@@ -4,10 +4,11 @@ use mathlib.Core.List.{[], _∷_}
 use lib.IntN.{pos, negsuc}
 use Rattle.base.specs.Pick.{pick}
 use Rattle.frames.specs.Number.{number}
+use Rattle.rules.specs.Lookups.{known, unknown}
 use Rattle.rules.specs.Step.{answerNumber, answerValue, answerCount}
 use Rattle.rules.specs.declared.Answer.the-variants.{Accepted, Refused}
 use Rattle.lines.specs.Cuts.{toldLength, cutOf}
-use Rattle.lines.specs.Lines.{digits, decimal, signed, spaced, textLine, eventLine}
+use Rattle.lines.specs.Lines.{digits, decimal, signed, spaced, textLine, eventLine, netText, toldLine}
 
 -- 0, 1024 and -94
 zero-text : decimal 0 ≡ 48 ∷ []
@@ -38,6 +39,15 @@ record-text :
     ≡ 82 ∷ (32 ∷ (50 ∷ (32 ∷ (49 ∷ (32 ∷ (48 ∷ (32 ∷ (49 ∷ (32 ∷ (50 ∷ (32 ∷ (51 ∷ (48 ∷ (48 ∷ (10 ∷ [])))))))))))))))
 unfolding textLine spaced signed decimal digits pick
 record-text = refl
+
+-- `N 0 197 206` and `N 3 -15 -`
+told-text : toldLine 78 0 (known (pos 197)) (known (pos 206)) ≡ 78 ∷ (32 ∷ (48 ∷ (32 ∷ (49 ∷ (57 ∷ (55 ∷ (32 ∷ (50 ∷ (48 ∷ (54 ∷ (10 ∷ [])))))))))))
+unfolding toldLine netText signed decimal digits pick
+told-text = refl
+
+unknown-text : toldLine 78 3 (known (negsuc 14)) unknown ≡ 78 ∷ (32 ∷ (51 ∷ (32 ∷ (45 ∷ (49 ∷ (53 ∷ (32 ∷ (45 ∷ (10 ∷ [])))))))))
+unfolding toldLine netText signed decimal digits pick
+unknown-text = refl
 
 -- a whole frame, a lone last byte, a length under 4, and one past the end
 cut-whole : cutOf (6 ∷ (0 ∷ (6 ∷ (0 ∷ (0 ∷ (1 ∷ (6 ∷ []))))))) ≡ 6

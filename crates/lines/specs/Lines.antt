@@ -7,8 +7,11 @@ use lib.ListN.{take, drop}
 use Rattle.base.specs.Pick.{pick}
 use Rattle.rules.specs.declared.Answer.{Answer}
 use Rattle.rules.specs.declared.Record.{Record}
+use Rattle.rules.specs.Lookups.{ToldNet, known, unknown}
 use Rattle.rules.specs.Records.{lineOf, numbersOf}
 use Rattle.rules.specs.Step.{Outcome, answerOf, answerNumber, answerValue, answerCount}
+use Rattle.lines.specs.declared.Net.{Net}
+use Rattle.lines.specs.declared.Net.the-variants as N
 
 -- the digits of a number, the highest first, at most n and one of them
 unfoldable pub digits : ℕ → ℕ → List ℕ
@@ -54,3 +57,17 @@ recordTexts (r ∷ rs) = textLine 82 (numbersOf (lineOf r)) ++ recordTexts rs
 -- what is printed of an event with this outcome: its line, and its records, as many as its count says
 unfoldable pub outcomeText : ℕ → Outcome → List ℕ
 outcomeText index o = eventLine index (answerOf o) ++ recordTexts (take (answerCount (answerOf o)) (o .moved .records))
+
+-- 2026-05: a net in cents, `-` where it is unknown
+unfoldable pub netText : ToldNet → List ℕ
+netText (known z) = signed z
+netText unknown = 45 ∷ []
+
+-- a letter, a number, two nets as they are told, the end of the line
+unfoldable pub toldLine : ℕ → ℕ → ToldNet → ToldNet → List ℕ
+toldLine letter i x y = letter ∷ ((32 ∷ signed (pos i)) ++ ((32 ∷ netText x) ++ ((32 ∷ netText y) ++ (10 ∷ []))))
+
+-- what each case of a net tells
+unfoldable pub netTells : Net → ToldNet
+netTells (N.Known z) = known z
+netTells N.Unknown = unknown

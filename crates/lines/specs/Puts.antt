@@ -6,6 +6,9 @@ use Prim.Native.Nat.{ℕ, zero, suc, _+_, _*_, _/_, _%_, _^_, _≤_, _<_}
 use native.Mathlib.Nat.{add-zero, add-suc, suc-add, div-add-mod', div-div-eq-div-mul, pow-suc}
 use native.Mathlib.Numerals.{add-one}
 use native.Mathlib.Omega.{arith}
+use mir.Syntax.{w32}
+use mir.Val.{SFits, toZ, ofZ}
+use mir.Facts.{toZ-ofZ}
 use lib.Dec.{ltb}
 use lib.IntN.{ℤ, pos, negsuc, natAbs}
 use lib.Signed.{ltZ}
@@ -14,8 +17,11 @@ use lib.Seq.{sets, length-sets, take-suc}
 use borrow.Author.Tests.{lt-ltb, le-ltb, ltb-true}
 use Rattle.base.specs.Pick.{pick, pick-by, pick-true, pick-false}
 use Rattle.rules.specs.declared.Answer.{Answer}
+use Rattle.rules.specs.Lookups.{ToldNet}
 use Rattle.rules.specs.Step.{answerNumber, answerValue, answerCount}
-use Rattle.lines.specs.Lines.{digits, decimal, signed, spaced, textLine, recordLines, eventLine, eventText}
+use Rattle.lines.specs.declared.Net.{Net}
+use Rattle.lines.specs.declared.Net.the-variants as N
+use Rattle.lines.specs.Lines.{digits, decimal, signed, spaced, textLine, recordLines, eventLine, eventText, netText, toldLine, netTells}
 
 -- the text t was put at place a: the space s became q, the next place is m
 pub record Put (s q : List ℕ) (a m : ℕ) (t : List ℕ) : Type 0 where
@@ -235,3 +241,20 @@ pub put-event :
     Within (86 + 74 * answerCount x) s r a k (eventText i x sp)
 unfolding eventText eventLine
 put-event i sp x d e f p q = rw (← d, ← e, ← f) (record { put = put-then (p .put) (q .put); few = omega (arith, p .few, q .few) })
+
+-- a net after a space, by its case
+pub put-known : {n : Net} {z : ℤ} → n ≡ N.Known z → SFits w32 z → {s q : List ℕ} {a m : ℕ} → Within 12 s q a m (32 ∷ signed (toZ w32 (ofZ w32 z))) → Within 12 s q a m (32 ∷ netText (netTells n))
+unfolding netText netTells
+put-known e f w = rw e (rw (toZ-ofZ f) at w)
+
+pub put-unknown : {n : Net} → n ≡ N.Unknown → {s q r : List ℕ} {a m k : ℕ} → Put s q a m (32 ∷ []) → Put q r m k (45 ∷ []) → Within 12 s r a k (32 ∷ netText (netTells n))
+unfolding netText netTells
+put-unknown e p q = rw e (record { put = put-then p q; few = omega (arith, p .next, q .next) })
+
+pub put-told :
+    {s q r u v w : List ℕ} {a b c d e f : ℕ} (letter i : ℕ) (x y : ToldNet) →
+    Put s q a b (letter ∷ []) → Within 21 q r b c (32 ∷ signed (pos i)) → Within 12 r u c d (32 ∷ netText x) → Within 12 u v d e (32 ∷ netText y) →
+    Put v w e f (10 ∷ []) → Within 47 s w a f (toldLine letter i x y)
+unfolding toldLine
+put-told letter i x y p n g h l =
+    record { put = put-then p (put-then (n .put) (put-then (g .put) (put-then (h .put) l))); few = omega (arith, p .next, n .few, g .few, h .few, l .next) }

@@ -6,7 +6,7 @@ ghost use lib.IntN.{pos, natAbs};
 ghost use lib.ListN.{length, take, drop};
 ghost use Rattle.frames.specs.Number.{number};
 ghost use Rattle.rules.specs.Step.{answerNumber, answerValue, answerCount};
-ghost use Rattle.lines.specs.Lines.{decimal, signed, spaced, textLine, recordLines, eventText};
+ghost use Rattle.lines.specs.Lines.{decimal, signed, spaced, textLine, recordLines, eventText, netText, toldLine, netTells};
 ghost use Rattle.lines.specs.Cuts.{toldLength, neededOf, cutOf};
 ghost use Rattle.lines.specs.Puts.{lastTwo, Put, Within};
 use frames::numbers::wide;
@@ -313,4 +313,36 @@ pub fn put_event(out: &mut [u8], at: usize, index: u64, answer: Answer, space: &
         count as u64,
     );
     put_records(out, m, space, count)
+}
+
+// A net in cents, or none that is known.
+pub enum Net {
+    Known(i32),
+    Unknown,
+}
+
+// A space and a net, `-` where it is unknown.
+fn put_net(out: &mut [u8], at: usize, net: Net) -> usize
+    requires { ⌜ at + 12 ≤ length (now out) ⌝ }
+    ensures { λ m. ⌜ Within 12 (now (out .entry)) (now (out .exit)) at m (32 ∷ netText (netTells net)) ⌝ }
+{
+    match net {
+        Net::Known(x) => put_signed(out, at, x),
+        Net::Unknown => {
+            let m = put_byte(out, at, b' ');
+            put_byte(out, m, b'-')
+        }
+    }
+}
+
+// The line of a letter, a number and two nets, as they are told.
+pub fn put_told(out: &mut [u8], at: usize, letter: u8, i: u64, x: Net, y: Net) -> usize
+    requires { ⌜ at + 47 ≤ length (now out) ⌝ }
+    ensures { λ m. ⌜ Within 47 (now (out .entry)) (now (out .exit)) at m (toldLine letter i (netTells x) (netTells y)) ⌝ }
+{
+    let a = put_byte(out, at, letter);
+    let b = put_number(out, a, i);
+    let c = put_net(out, b, x);
+    let d = put_net(out, c, y);
+    put_byte(out, d, 10)
 }

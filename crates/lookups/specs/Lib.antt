@@ -1,1 +1,2 @@
+pub mod LegNets
 pub mod Lookups

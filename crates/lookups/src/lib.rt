@@ -1,18 +1,20 @@
-// Lookups: live quantity, shut legs, depth.
+// Lookups: live quantity, shut legs, leg nets, depth.
 ghost use mathlib.Core.Path.{_≡_};
 ghost use Prim.Native.Nat.{_+_, _-_, _<_};
 ghost use lib.Dec.{eqb};
 ghost use Rattle.base.specs.Pick.{pick};
 ghost use Rattle.base.specs.All.{All};
-ghost use Rattle.rules.specs.Lookups.{liveQuantity, shutLegs, depthTells, shutTells};
+ghost use Rattle.rules.specs.Lookups.{nets, toldNet, liveQuantity, shutLegs, legNets, depthTells, shutTells, netsTells};
 ghost use Rattle.rules.specs.Valid.{FitOrder, Priced, Valid};
 ghost use Rattle.lookups.specs.Lookups.{bookDepth, entryOf, lentRow};
 use nets::best_of;
+use records::cents;
 use rules::Depth;
 use rules::LegOrder;
 use rules::OrderEntry;
 use rules::Shut;
 use rules::State;
+use rules::StrategyNets;
 use states::shut_set;
 
 // What a row of number x holds under a number.
@@ -54,6 +56,36 @@ pub fn shut_legs(b: State, k: u32) -> Shut
     }
     let x = shut_set(b, k as usize);
     Shut::Legs(u32::count_ones(x), u32::trailing_zeros(x))
+}
+
+// Both nets in cents, from their levels; a level of 0 is an unknown net.
+fn told_nets(bid: u32, offer: u32) -> StrategyNets
+    requires { ⌜ (bid < 2147483648) × (offer < 2147483648) ⌝ }
+    ensures { λ r. ⌜ netsTells r ≡ nets (toldNet bid) (toldNet offer) ⌝ }
+{
+    if bid == 0 {
+        if offer == 0 {
+            return StrategyNets::Unknown;
+        }
+        return StrategyNets::OfferAlone(cents(offer));
+    }
+    if offer == 0 {
+        return StrategyNets::BidAlone(cents(bid));
+    }
+    StrategyNets::Both(cents(bid), cents(offer))
+}
+
+// The leg nets of a strategy, which are stored.
+pub fn nets(b: State, strategy: u32) -> StrategyNets
+    requires { ⌜ Valid b ⌝ }
+    ensures { λ r. ⌜ netsTells r ≡ legNets b strategy ⌝ }
+{
+    let defined = b.defined as u32;
+    if defined <= strategy {
+        return StrategyNets::Refused(4);
+    }
+    let stored = b.nets[strategy as usize];
+    told_nets(stored.bid, stored.offer)
 }
 
 // The best price of a series and side and its contracts.

@@ -11,15 +11,19 @@ use borrow.Author.Tests.{leb-true, lt-leb, le-leb, not-false}
 use lib.Dec.{leb}
 use lib.IntN.{ℤ}
 use lib.ListN.{length, getD}
+use Rattle.base.specs.All.{All}
 use Rattle.base.specs.Pick.{pick, both, pick-true, pick-false, pick-all, pick-by, pick-yes}
 use Rattle.base.specs.Walks.{firstN, first-le, first-holds, first-before, lt-or-le}
 use Rattle.rules.specs.declared.Strategy.{Strategy}
 use Rattle.rules.specs.declared.Entry.{Entry}
 use Rattle.rules.specs.declared.LegOrder.{LegOrder}
-use Rattle.rules.specs.declared.Best.{Best}
+use Rattle.rules.specs.declared.LegNets.{LegNets}
+use Rattle.rules.specs.declared.Turn.{Turn}
 use Rattle.rules.specs.declared.State.{State}
 use Rattle.rules.specs.declared.Allocation.the-variants.{LegsOnly}
-use Rattle.rules.specs.State.{noStrategy, noEntry, entryAt, strategyAt}
+use Rattle.rules.specs.State.{noStrategy, noEntry, noNets, entryAt, strategyAt}
+use Rattle.rules.specs.Nets.{netsOf}
+use Rattle.rules.specs.Valid.{FitEntry}
 use Rattle.rules.specs.Moves.{Moved, still, and-then, each}
 use Rattle.rules.specs.Passes.{turnAt, pass}
 use Rattle.rules.specs.Auctions.{dayOrder, legPass, legPassesIn, legPasses}
@@ -29,10 +33,11 @@ use Rattle.rules.proofs.Only.{Only, only-each, legPass-only, live-in}
 use Rattle.rules.proofs.Turns.{then-still}
 use Rattle.records.specs.Space.{Room}
 use Rattle.records.specs.Done.{Done, done-of, room-of, Visited, visit-none, visit-moves, visit-room, visit-all}
-use Rattle.ranges.specs.Fit.{FitLegs, Fit, fit-done}
-use Rattle.nets.specs.Bests.{bestTable}
-use Rattle.nets.specs.Legs.{netReady, netOn, net-on}
-use Rattle.passes.specs.Passes.{stopsAt, legs-still}
+use Rattle.ranges.specs.Fit.{Fit, fit-entry, fit-done}
+use Rattle.nets.specs.Legs.{netWhere, netReady}
+use Rattle.stored_nets.specs.Stored.{netFor}
+use Rattle.stored_nets.specs.Laws.{net-stored}
+use Rattle.passes.specs.Passes.{stopsAt, legsMet, legs-still, legs-turn}
 use Rattle.matching.specs.Searches.{Searched, searched-past, searched-here, searched-all}
 use Rattle.matching.specs.Matching.{passesLegs, legs-not, legs-yes, in-yes, in-not}
 
@@ -40,9 +45,13 @@ use Rattle.matching.specs.Matching.{passesLegs, legs-not, legs-yes, in-y
 unfoldable pub actsIn : Entry → Strategy → List LegOrder → ℕ → ℕ → Bool
 actsIn e t os opened s = both (passesLegs t s opened) (not (stopsAt (turnAt e 0 (netReady os (e .side) t))))
 
--- .. by the table of all bests
-unfoldable pub actsOn : Entry → Strategy → List Best → ℕ → ℕ → Bool
-actsOn e t bs opened s = both (passesLegs t s opened) (not (stopsAt (turnAt e 0 (netOn bs (e .side) t))))
+-- .. by the nets n of the strategy
+unfoldable pub actsOn : Entry → Strategy → LegNets → List LegOrder → ℕ → ℕ → Bool
+actsOn e t n os opened s = both (passesLegs t s opened) (not (stopsAt (turnAt e 0 (netWhere (legsMet e 0 (netFor n (e .side)) os t)))))
+
+-- the live ones of these entries are of strategies with legs
+pub record LiveLegs (ss : List Strategy) (es : List Entry) : Type 0 where
+  pub live : (i : ℕ) → 0 < getD es i noEntry .units → 0 < getD ss (getD es i noEntry .strategy) noStrategy .count
 
 -- whether place p, which is slot p % 32 of strategy p / 32, holds a day order of that strategy whose pass would do something
 -- but for its bounds
@@ -76,10 +85,18 @@ placePass s p b = pick (passesLegs (strategyAt b (p / 32)) s (b .opened)) (legPa
 no-second : (t : Bool) {u : Bool} → u ≡ false → both t u ≡ false
 no-second t e = pick-all (λ (x : Bool). x ≡ false) t e refl
 
--- the table of all bests tells what the leg orders do
-pub acts-on : (e : Entry) (t : Strategy) (os : List LegOrder) (opened s : ℕ) {bs : List Best} {r : Bool} → FitLegs t → bs ≡ bestTable os → r ≡ actsOn e t bs opened s → r ≡ actsIn e t os opened s
-unfolding actsOn actsIn
-acts-on e t os opened s f g h = h ∙ rw (g, net-on os (e .side) t f) refl
+-- the stored nets tell what the leg orders do
+pub acts-on : (ss : List Strategy) (es : List Entry) (os : List LegOrder) (opened s : ℕ) {ns : List LegNets} (i : ℕ) {r : Bool} → All FitEntry es → LiveLegs ss es → ns ≡ netsOf os ss
+    → dayOrder (getD es i noEntry .strategy) (getD es i noEntry) ≡ true
+    → r ≡ actsOn (getD es i noEntry) (getD ss (getD es i noEntry .strategy) noStrategy) (getD ns (getD es i noEntry .strategy) noNets) os opened s
+    → r ≡ actsIn (getD es i noEntry) (getD ss (getD es i noEntry .strategy) noStrategy) os opened s
+unfolding actsOn actsIn dayOrder
+acts-on ss es os opened s {ns} i a v n d h =
+    let e : Entry = getD es i noEntry in
+    let t : Strategy = getD ss (e .strategy) noStrategy in
+    let f : FitEntry e = fit-entry a i in
+    let l : 0 < e .units = live-in (e .strategy) e (pick-yes _ d .0) .0 in
+    h ∙ ap (λ (x : Turn). both (passesLegs t s opened) (not (stopsAt x))) (legs-turn e os t (net-stored ns os ss (e .strategy) (e .side) (f .strategy) (f .side) (v .live i l) n))
 
 -- a place by its strategy and slot
 place-strategy : (k i : ℕ) → i < 32 → (k * 32 + i) / 32 ≡ k

@@ -9,23 +9,20 @@ ghost use Rattle.rules.specs.Valid.{FitEntry, FitOrder, Priced};
 ghost use Rattle.records.specs.Space.{Room};
 ghost use Rattle.records.specs.Done.{Done};
 ghost use Rattle.ranges.specs.Fit.{FitLegs, Fit};
-ghost use Rattle.nets.specs.Bests.{FitBest};
+ghost use Rattle.rules.specs.Nets.{netsOf};
 ghost use Rattle.matching.specs.Matching.{openWith, passesLegs, aheadOf, bestEntry, meet, mayMatchIn, matched};
-ghost use Rattle.matching.specs.Places.{actsOn, nextPass};
+ghost use Rattle.matching.specs.Places.{actsOn, nextPass, LiveLegs};
 use fills::whole_fill;
 use national::bounds;
 use national::may_meet;
-use nets::SERIES_SIDES;
-use nets::bests;
-use nets::net_on;
 use passes::legs_idle;
 use passes::pass;
 use records::After;
 use records::least;
 use rules::Allocation;
-use rules::Best;
 use rules::Bounds;
 use rules::Entry;
+use rules::LegNets;
 use rules::LegOrder;
 use rules::State;
 use rules::Strategy;
@@ -34,6 +31,7 @@ use sides::other;
 use states::holds;
 use states::live_in;
 use states::none_shut;
+use stored_nets::net_for;
 
 // The places of the passes by legs only: slot i of strategy k is place k * 32 + i.
 pub const PLACES: usize = State::STRATEGIES * State::ROWS;
@@ -68,13 +66,20 @@ fn day_order(k: usize, e: Entry) -> bool
 }
 
 // Whether strategy t gets passes by legs only, and the pass of its entry e would do something but for its bounds.
-fn acts_in(e: Entry, t: Strategy, bs: [Best; SERIES_SIDES], opened: u32, s: u8) -> bool
-    requires { ⌜ All FitBest bs × FitLegs t ⌝ }
-    ensures { λ r. ⌜ r ≡ actsOn e t bs opened s ⌝ }
+fn acts_in(
+    e: Entry,
+    t: Strategy,
+    n: LegNets,
+    os: [LegOrder; State::LEG_ORDERS],
+    opened: u32,
+    s: u8,
+) -> bool
+    requires { ⌜ All FitOrder os × All Priced os × FitLegs t ⌝ }
+    ensures { λ r. ⌜ r ≡ actsOn e t n os opened s ⌝ }
 {
     if passes_legs(t, s, opened) {
-        let net = net_on(bs, e.side, t);
-        return !legs_idle(e, net);
+        let net = net_for(n, e.side);
+        return !legs_idle(e, net, os, t);
     }
     false
 }
@@ -85,14 +90,14 @@ pub fn next_pass(
     ss: [Strategy; State::STRATEGIES],
     es: [Entry; State::ROWS],
     os: [LegOrder; State::LEG_ORDERS],
+    ns: [LegNets; State::STRATEGIES],
     opened: u32,
     s: u8,
     from: usize,
 ) -> usize
-    requires { ⌜ All FitLegs ss × All FitEntry es × All FitOrder os × All Priced os ⌝ }
+    requires { ⌜ All FitLegs ss × All FitEntry es × All FitOrder os × All Priced os × LiveLegs ss es × (ns ≡ netsOf os ss) ⌝ }
     ensures { λ r. ⌜ r ≡ nextPass ss es os opened s from ⌝ }
 {
-    let bs = bests(os);
     let mut best: usize = PLACES;
     let mut i: usize = 0;
     while i < State::ROWS {
@@ -103,7 +108,7 @@ pub fn next_pass(
             if from <= at {
                 if at < best {
                     let t = ss[k];
-                    if acts_in(e, t, bs, opened, s) {
+                    if acts_in(e, t, ns[k], os, opened, s) {
                         best = at;
                     }
                 }
@@ -130,7 +135,8 @@ pub fn leg_passes(b: State, s: u8, from: usize, space: &mut [i32], n: usize) -> 
         let ss = c.strategies;
         let es = c.entries;
         let os = c.orders;
-        at = next_pass(ss, es, os, c.opened, s, at + 1);
+        let ns = c.nets;
+        at = next_pass(ss, es, os, ns, c.opened, s, at + 1);
     }
     After { state: c, count: m }
 }
@@ -144,7 +150,8 @@ pub fn all_leg_passes(b: State, s: u8, space: &mut [i32], n: usize) -> After
     let ss = b.strategies;
     let es = b.entries;
     let os = b.orders;
-    let from = next_pass(ss, es, os, b.opened, s, 0);
+    let ns = b.nets;
+    let from = next_pass(ss, es, os, ns, b.opened, s, 0);
     leg_passes(b, s, from, space, n)
 }
 

@@ -1,5 +1,4 @@
--- What a complex party meets on the legs of a strategy: the best of each leg, their sums, the units that they give; by the leg orders, and by the
--- table of all bests.
+-- What a complex party meets on the legs of a strategy: the best of each leg, their sums, the units that they give.
 use mathlib.Core.Path.{_≡_, refl, sym, _∙_, ap, fun-ext}
 use mathlib.Core.Bool.{Bool, true, false}
 use mathlib.Core.Logic.{⊎-elim}
@@ -25,7 +24,7 @@ use Rattle.ranges.specs.Fit.{FitLegs, fit-leg}
 use Rattle.nets.specs.declared.LegBests.{LegBests}
 use Rattle.nets.specs.declared.LegSums.{LegSums}
 use Rattle.nets.specs.Nets.{weight-most, net-unknown, net-known}
-use Rattle.nets.specs.Bests.{FitBest, placeOf, bestTable, place-at, place-most, fit-no-best, best-last}
+use Rattle.nets.specs.Bests.{FitBest, best-last}
 
 -- THE LEGS, of which the one at place i meets best f i
 
@@ -45,10 +44,6 @@ sumsStep f legs i n = sumsWith n (getD legs i noLeg) (f i)
 -- those of the first k legs
 unfoldable pub sumsOf : (ℕ → Best) → List Leg → ℕ → LegSums
 sumsOf f legs k = walk (sumsStep f legs) noSums k
-
--- their net where they give one unit, else 0
-unfoldable pub netBy : (ℕ → Best) → Strategy → ℕ
-netBy f s = pick (eqb (sumsOf f (s .legs) (s .count) .units) 0) 0 (netOf s (pricesBy f))
 
 -- BY THE LEG ORDERS
 
@@ -72,14 +67,6 @@ netWhere b = pick (eqb (b .units) 0) 0 (b .net)
 -- .. by the rules
 unfoldable pub netReady : List LegOrder → ℕ → Strategy → ℕ
 netReady os side s = pick (eqb (unitsOf os side s (prices os side (s .legs)) 1) 0) 0 (netOf s (prices os side (s .legs)))
-
--- BY THE TABLE OF ALL BESTS
-
-abbrev pub bestOn : List Best → ℕ → List Leg → ℕ → Best
-bestOn t side legs i = getD t (placeOf (getD legs i noLeg .series) (other (legSide side (getD legs i noLeg)))) noBest
-
-unfoldable pub netOn : List Best → ℕ → Strategy → ℕ
-netOn t side s = netBy (bestOn t side (s .legs)) s
 
 -- laws
 
@@ -171,18 +158,6 @@ module _ (f : ℕ → Best) (s : Strategy) (most : s .count ≤ 6) where
       let q : slot (pricesBy f) i ≡ 0 = price-by f (s .legs) i (omega arith) ∙ ap (λ (x : Best). x .price) (sym e) ∙ z in
       all-stop (pricedAt (pricesBy f)) i (s .count) h (rw q (le-ltb 0 0 (omega arith)))
 
-  pub by-missing : {i : ℕ} {b : Best} → i < s .count → b ≡ f i → b .price ≡ 0 → 0 ≡ netBy f s
-  unfolding netBy
-  by-missing h e z = sym (pick-all (λ (r : ℕ). r ≡ 0) _ refl (sym (net-unknown s (pricesBy f) (known-not h e z))))
-
-  pub by-none : {n : LegSums} → Netting f (s .legs) (s .count) n → n .units ≡ 0 → 0 ≡ netBy f s
-  unfolding netBy
-  by-none {n} g z = sym (pick-true _ _ _ (eq-eqb _ _ (ap (λ (x : LegSums). x .units) (sym (g .sums)) ∙ z)))
-
-  pub by-some : {n : LegSums} → Netting f (s .legs) (s .count) n → ¬ (n .units ≡ 0) → 10_000_000 + n .buys - n .sells ≡ netBy f s
-  unfolding netBy
-  by-some {n} g z = net-found g ∙ sym (pick-false _ _ _ (ne-eqb _ _ (λ e. z (ap (λ (x : LegSums). x .units) (g .sums) ∙ e))))
-
 -- BY THE LEG ORDERS
 
 -- the best of a leg that the walk over the orders found
@@ -224,13 +199,6 @@ module _ (os : List LegOrder) (side : ℕ) where
     unfolding legBests
     legs-missing h e z = sym (pick-false _ _ _ (rw (sym (prices-are (s .legs))) (known-not (legBest os side (s .legs)) s most h e z)))
 
-    -- the net, by what was found
-    by-rules : netBy (legBest os side (s .legs)) s ≡ netReady os side s
-    unfolding netBy netReady unitsOf
-    by-rules =
-        rw (prices-are (s .legs), units-are (s .legs) (s .count) most)
-        (ap (λ (t : Bool). pick t 0 (netOf s ps)) (ready-some os side s ps))
-
   pub net-where : (s : Strategy) {p : LegBests} → p ≡ legBests os side s → netWhere p ≡ netReady os side s
   unfolding netWhere legBests netReady
   net-where s e =
@@ -255,42 +223,3 @@ module _ (os : List LegOrder) (side : ℕ) where
       let ps : List ℕ = prices os side (s .legs) in
       e ∙ pick-by (λ (b : LegBests). p ≡ b → b ≡ record { prices = stored 6 (priceAt os side (s .legs)) (s .count); units = unitsOf os side s ps 9999; net = netOf s ps }) (known ps (s .count))
       (λ k h. refl) (λ k h. absurd (n (ap (λ (b : LegBests). b .net) h))) e
-
--- A LIMIT AGAINST THE NET OF ITS OWN SIDE, by what was found on the legs
-module _ (unknown : Bool) (side level : ℕ) (os : List LegOrder) (s : Strategy) {on : ℕ} {p : LegBests} (o : on ≡ other side) (e : p ≡ legBests os on s) where
-  own-net : netOf s (prices os (other side) (s .legs)) ≡ p .net
-  own-net = rw (← o) (sym (net-is os on s e))
-
-  pub betters-unknown : p .net ≡ 0 → unknown ≡ betters unknown side level (netOf s (prices os (other side) (s .legs)))
-  unfolding betters
-  betters-unknown z = rw own-net (sym (pick-true _ _ _ (eq-eqb _ _ z)))
-
-  pub betters-known : ¬ (p .net ≡ 0) → {t : Bool} → t ≡ better on level (p .net) → t ≡ betters unknown side level (netOf s (prices os (other side) (s .legs)))
-  unfolding betters
-  betters-known z h = rw (own-net, ← o) (h ∙ sym (pick-false _ _ _ (ne-eqb _ _ z)))
-
--- BY THE TABLE
-
-other-most : (side : ℕ) → other side ≤ 1
-unfolding other
-other-most side = pick-all (λ (x : ℕ). x ≤ 1) _ (omega arith) (omega arith)
-
-pub net-on : (os : List LegOrder) (side : ℕ) (s : Strategy) → FitLegs s → netOn (bestTable os) side s ≡ netReady os side s
-unfolding netOn
-net-on os side s f =
-    let e : bestOn (bestTable os) side (s .legs) ≡ legBest os side (s .legs) = fun-ext (λ i. place-at os (fit-leg (f .legs) i .series) (other-most _)) in
-    ap (λ (g : ℕ → Best). netBy g s) e ∙ by-rules os side s (f .count)
-
-pub on-found : (t : List Best) (side : ℕ) (l : Leg) {taken on at : ℕ} → taken ≡ legSide side l → on ≡ other taken → at ≡ placeOf (l .series) on
-    → getD t at noBest ≡ getD t (placeOf (l .series) (other (legSide side l))) noBest
-on-found t side l a b c = rw (c, b, a) refl
-
--- the place of a leg is in the table
-pub on-place : (l : Leg) (taken : ℕ) {on at : ℕ} → FitLeg l → on ≡ other taken → at ≡ placeOf (l .series) on → at < 64
-on-place l taken f b c = rw (c, b) (place-most (f .series) (other-most taken))
-
-pub on-side : (taken : ℕ) {on : ℕ} → on ≡ other taken → on ≤ 1
-on-side taken b = rw b (other-most taken)
-
-pub on-fits : {t : List Best} → All FitBest t → (side : ℕ) (legs : List Leg) (i : ℕ) → FitBest (bestOn t side legs i)
-on-fits a side legs i = all-at noBest fit-no-best a _

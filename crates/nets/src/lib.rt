@@ -2,16 +2,16 @@
 ghost use mathlib.Core.Path.{_≡_};
 ghost use Prim.Native.Nat.{_+_, _*_, _-_, _/_, _<_, _≤_};
 ghost use Rattle.base.specs.All.{All};
-ghost use Rattle.rules.specs.Sides.{other};
-ghost use Rattle.rules.specs.Nets.{stands, lot, lots, prices, known, weight, weighed, netOf, betters, bestOf, startsAfresh, bestWith};
+ghost use Rattle.rules.specs.Nets.{stands, priceWith, priceOf, lot, lots, known, weight, weighed, netOf, netsIn, betters, bestOf, startsAfresh, bestWith};
 ghost use Rattle.rules.specs.Valid.{FitLeg, FitOrder, Priced};
 ghost use Rattle.ranges.specs.Most.{AtMost};
 ghost use Rattle.ranges.specs.Fit.{FitLegs};
-ghost use Rattle.nets.specs.Bests.{placeOf, bestTable, FitBest};
-ghost use Rattle.nets.specs.Legs.{sumsWith, legBests, netWhere, netOn};
+ghost use Rattle.nets.specs.Bests.{FitBest};
+ghost use Rattle.nets.specs.Legs.{sumsWith, legBests, netWhere};
 use records::least;
 use rules::Best;
 use rules::Leg;
+use rules::LegNets;
 use rules::LegOrder;
 use rules::State;
 use rules::Strategy;
@@ -19,9 +19,6 @@ use rules::ZERO_LEVEL;
 use sides::better;
 use sides::leg_side;
 use sides::other;
-
-// The best of each side of a series stands in one table: at place series * 2 + side.
-pub const SERIES_SIDES: usize = State::SERIES * 2;
 
 // The most units that an entry has.
 const MOST_UNITS: u32 = 9999;
@@ -51,6 +48,8 @@ const NO_SUMS: LegSums = LegSums {
     sells: 0,
     units: MOST_UNITS,
 };
+
+const NO_NETS: LegNets = LegNets { bid: 0, offer: 0 };
 
 pub const NO_LEG_BESTS: LegBests = LegBests {
     prices: [0; 6],
@@ -212,30 +211,6 @@ pub fn best_of(os: [LegOrder; State::LEG_ORDERS], s: u8, side: u8) -> Best
     b
 }
 
-// The place of a side of a series.
-fn place_of(s: u8, side: u8) -> usize
-    requires { ⌜ (s < 32) × (side ≤ 1) ⌝ }
-    ensures { λ r. ⌜ r ≡ placeOf s side ⌝ }
-{
-    s as usize * 2 + side as usize
-}
-
-// The same of both sides of every series, in one walk: a leg order moves the pair of its own series and side alone.
-pub fn bests(os: [LegOrder; State::LEG_ORDERS]) -> [Best; SERIES_SIDES]
-    requires { ⌜ All FitOrder os × All Priced os ⌝ }
-    ensures { λ t. ⌜ t ≡ bestTable os ⌝ }
-{
-    let mut t = [NO_BEST; SERIES_SIDES];
-    let mut i: usize = 0;
-    while i < State::LEG_ORDERS {
-        let o = os[i];
-        let at = place_of(o.series, o.side);
-        t[at] = best_with(o.series, o.side, t[at], o);
-        i += 1;
-    }
-    t
-}
-
 // The sums with one leg more, and the best that is met on it.
 fn sums_with(n: LegSums, l: Leg, b: Best) -> LegSums
     requires { ⌜ FitLeg l × (0 < l .ratio) × FitBest b × (n .buys ≤ 5999940) × (n .sells ≤ 5999940) ⌝ }
@@ -295,48 +270,54 @@ pub fn ready_net(b: LegBests) -> u32
     b.net
 }
 
-// Whether a limit of a side is better than the leg net of its own side; where that net is unknown, the answer is `unknown`.
-pub fn betters(
-    unknown: bool,
-    side: u8,
-    level: u32,
-    os: [LegOrder; State::LEG_ORDERS],
-    s: Strategy,
-) -> bool
+// Both leg nets of a strategy; none where it has no legs.
+pub fn leg_nets(os: [LegOrder; State::LEG_ORDERS], s: Strategy) -> LegNets
     requires { ⌜ All FitOrder os × All Priced os × FitLegs s ⌝ }
-    ensures { λ r. ⌜ r ≡ betters unknown side level (netOf s (prices os (other side) (s .legs))) ⌝ }
+    ensures { λ r. ⌜ r ≡ netsIn os s ⌝ }
 {
-    let on = other(side);
-    let p = leg_bests(os, on, s);
-    let net = p.net;
+    if s.count == 0 {
+        return NO_NETS;
+    }
+    let bid = leg_bests(os, 1, s);
+    let offer = leg_bests(os, 0, s);
+    LegNets {
+        bid: bid.net,
+        offer: offer.net,
+    }
+}
+
+// Whether a limit of a side is better than a leg net of its own side; where that net is unknown, the answer is `unknown`.
+pub fn betters(unknown: bool, side: u8, level: u32, net: u32) -> bool
+    ensures { λ r. ⌜ r ≡ betters unknown side level net ⌝ }
+{
     if net == 0 {
         return unknown;
     }
+    let on = other(side);
     better(on, level, net)
 }
 
-// The leg net that a complex party of that side meets where the legs give one unit, else 0, by the table of all bests.
-pub fn net_on(t: [Best; SERIES_SIDES], side: u8, s: Strategy) -> u32
-    requires { ⌜ All FitBest t × FitLegs s ⌝ }
-    ensures { λ r. ⌜ r ≡ netOn t side s ⌝ }
+// The best price so far and a leg order's, where it stands in that series and side.
+fn price_with(s: u8, side: u8, p: u32, o: LegOrder) -> u32
+    ensures { λ r. ⌜ r ≡ priceWith s side p o ⌝ }
 {
-    let count = s.count as usize;
-    let legs = s.legs;
-    let mut n = NO_SUMS;
-    let mut i: usize = 0;
-    while i < count {
-        let l = legs[i];
-        let on = other(leg_side(side, l));
-        let at = place_of(l.series, on);
-        let b = t[at];
-        if b.price == 0 {
-            return 0;
+    if stands(s, side, o) {
+        if starts_afresh(side, p, o.price) {
+            return o.price;
         }
-        n = sums_with(n, l, b);
+    }
+    p
+}
+
+// The best price of a series and side, 0 where no leg order stands there.
+pub fn price_of(os: [LegOrder; State::LEG_ORDERS], s: u8, side: u8) -> u32
+    ensures { λ p. ⌜ p ≡ priceOf os s side ⌝ }
+{
+    let mut p: u32 = 0;
+    let mut i: usize = 0;
+    while i < State::LEG_ORDERS {
+        p = price_with(s, side, p, os[i]);
         i += 1;
     }
-    if n.units == 0 {
-        return 0;
-    }
-    ZERO_LEVEL + n.buys - n.sells
+    p
 }

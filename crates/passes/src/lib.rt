@@ -10,13 +10,17 @@ ghost use Rattle.records.specs.Space.{Room};
 ghost use Rattle.records.specs.Done.{Done, RoomIn, DoneIn};
 ghost use Rattle.ranges.specs.Fit.{FitLegs, Fit};
 ghost use Rattle.fills.specs.Gives.{HasRows, putEntries};
-ghost use Rattle.passes.specs.Passes.{stopsAt, oppositeIn, legsFor, turnIn};
+ghost use Rattle.base.specs.Pick.{pick};
+ghost use Rattle.nets.specs.Legs.{netWhere};
+ghost use Rattle.stored_nets.specs.Stored.{netFor};
+ghost use Rattle.passes.specs.Passes.{stopsAt, oppositeIn, legsMet, turnIn};
 use fills::AfterFills;
 use fills::cut_entry;
 use fills::give_for_starter;
 use fills::give_in_turn;
 use fills::give_shared;
 use legging::leg_fill;
+use legging::nets_left;
 use national::bounds;
 use national::may_meet;
 use national::may_take;
@@ -29,12 +33,14 @@ use records::After;
 use rules::Allocation;
 use rules::Bounds;
 use rules::Entry;
+use rules::LegNets;
 use rules::LegOrder;
 use rules::State;
 use rules::Strategy;
 use rules::Turn;
 use sides::better;
 use sides::meets;
+use stored_nets::net_for;
 
 // Whether the legs go before the best opposite limit: they have a net, and it is strictly better or no limit stands.
 fn legs_first(side: u8, net: u32, limit: u32) -> bool
@@ -83,16 +89,22 @@ fn opposite(way: Allocation, es: [Entry; State::ROWS], e: Entry) -> u32
     }
 }
 
-// What entry e meets on the legs of strategy s, where they may be used and it has units.
-fn legs_for(legs: bool, e: Entry, os: [LegOrder; State::LEG_ORDERS], s: Strategy) -> LegBests
+// What entry e meets on the legs of strategy s, whose net is that (0: unknown, or not to be used): found where the net goes
+// before the best opposite limit x and meets its own limit; else nothing, and no leg order is looked at.
+pub fn legs_met(
+    e: Entry,
+    x: u32,
+    net: u32,
+    os: [LegOrder; State::LEG_ORDERS],
+    s: Strategy,
+) -> LegBests
     requires { ⌜ All FitOrder os × All Priced os × FitLegs s ⌝ }
-    ensures { λ p. ⌜ p ≡ legsFor legs e os s ⌝ }
+    ensures { λ p. ⌜ p ≡ legsMet e x net os s ⌝ }
 {
-    if e.units == 0 {
-        return NO_LEG_BESTS;
-    }
-    if legs {
-        return leg_bests(os, e.side, s);
+    if legs_first(e.side, net, x) {
+        if meets(e.side, e.level, net) {
+            return leg_bests(os, e.side, s);
+        }
     }
     NO_LEG_BESTS
 }
@@ -118,14 +130,10 @@ fn allowed(w: Bounds, side: u8, net: u32, t: Turn) -> Turn
     }
 }
 
-// What entry e, with those bounds, does next among these entries at that ready leg net (0: none).
-fn turn_of(way: Allocation, w: Bounds, e: Entry, es: [Entry; State::ROWS], net: u32) -> Turn
-    ensures { λ t. ⌜ t ≡ turnIn w e (oppositeIn way es e) net ⌝ }
+// What entry e, with those bounds, does next at the best opposite limit x and that ready leg net (0: none).
+fn turn_of(w: Bounds, e: Entry, x: u32, net: u32) -> Turn
+    ensures { λ t. ⌜ t ≡ turnIn w e x net ⌝ }
 {
-    if e.units == 0 {
-        return Turn::Stop;
-    }
-    let x = opposite(way, es, e);
     let t = turn_at(e, x, net);
     allowed(w, e.side, net, t)
 }
@@ -162,25 +170,48 @@ fn stops(t: Turn) -> bool
     }
 }
 
-// Whether a pass by legs only of entry e does nothing at the ready leg net that it meets (0: none), whatever its bounds.
-pub fn legs_idle(e: Entry, net: u32) -> bool
-    ensures { λ r. ⌜ r ≡ stopsAt (turnAt e 0 net) ⌝ }
+// Whether a pass by legs only of entry e does nothing at the leg net of its strategy (0: unknown), whatever its bounds.
+pub fn legs_idle(e: Entry, net: u32, os: [LegOrder; State::LEG_ORDERS], s: Strategy) -> bool
+    requires { ⌜ All FitOrder os × All Priced os × FitLegs s ⌝ }
+    ensures { λ r. ⌜ r ≡ stopsAt (turnAt e 0 (netWhere (legsMet e 0 net os s))) ⌝ }
 {
-    let t = turn_at(e, 0, net);
+    let p = legs_met(e, 0, net, os, s);
+    let r = ready_net(p);
+    let t = turn_at(e, 0, r);
     stops(t)
 }
 
-// Whether a pass of entry e does nothing among these entries at that ready leg net (0: none), whatever its bounds.
-pub fn idle(way: Allocation, e: Entry, es: [Entry; State::ROWS], net: u32) -> bool
-    ensures { λ r. ⌜ r ≡ stopsAt (turnAt e (oppositeIn way es e) net) ⌝ }
+// Whether a pass of entry e does nothing among these entries at the leg net of its strategy (0: unknown), whatever its bounds.
+pub fn idle(
+    way: Allocation,
+    e: Entry,
+    es: [Entry; State::ROWS],
+    net: u32,
+    os: [LegOrder; State::LEG_ORDERS],
+    s: Strategy,
+) -> bool
+    requires { ⌜ All FitOrder os × All Priced os × FitLegs s ⌝ }
+    ensures { λ r. ⌜ r ≡ stopsAt (turnAt e (oppositeIn way es e) (netWhere (legsMet e (oppositeIn way es e) net os s))) ⌝ }
 {
     let x = opposite(way, es, e);
-    let t = turn_at(e, x, net);
+    let p = legs_met(e, x, net, os, s);
+    let r = ready_net(p);
+    let t = turn_at(e, x, r);
     stops(t)
+}
+
+// The leg net that an entry of that side meets, 0 where the legs may not be used.
+fn net_over(legs: bool, n: LegNets, side: u8) -> u32
+    ensures { λ r. ⌜ r ≡ pick legs (netFor n side) 0 ⌝ }
+{
+    if legs {
+        return net_for(n, side);
+    }
+    0
 }
 
 // A pass of entry a: turn after turn, each chosen anew, until one stops. There are no more than it has units. No turn changes
-// what bounds them, and only one by the legs what is met on the legs.
+// what bounds them, and only one by the legs the nets.
 pub fn pass(way: Allocation, legs: bool, b: State, a: usize, space: &mut [i32], n: usize) -> After
     requires { ⌜ (a < tableRows) × Fit b ⌝ }
     requires { ⌜ Room (now space) n (pass way legs a b .records) ⌝ }
@@ -193,35 +224,40 @@ pub fn pass(way: Allocation, legs: bool, b: State, a: usize, space: &mut [i32], 
     let s = c.strategies[k];
     let qs = c.national;
     let w = bounds(qs, c.range, s);
-    let os = c.orders;
-    let mut p = legs_for(legs, e, os, s);
     let mut m = n;
     let mut i: u32 = 0;
     while i < units {
         let f = c.entries[a];
         let es = c.entries;
-        let net = ready_net(p);
-        let t = turn_of(way, w, f, es, net);
+        let os = c.orders;
+        let held = c.nets[k];
+        let net = net_over(legs, held, f.side);
+        let x = opposite(way, es, f);
+        let p = legs_met(f, x, net, os, s);
+        let r = ready_net(p);
+        let t = turn_of(w, f, x, r);
         match t {
             Turn::Stop => {
                 i = units;
             }
             Turn::ByLegs => {
-                let held = c.orders;
-                let x = leg_fill(f, p, held, s, space, m);
-                let rows = x.rows;
-                let g = cut_entry(f, x.units);
+                let y = leg_fill(f, p, os, s, space, m);
+                let rows = y.rows;
+                let ns = c.nets;
+                let ss = c.strategies;
+                let g = cut_entry(f, y.units);
+                let ps = p.prices;
                 c.orders = rows;
+                c.nets = nets_left(ns, ss, rows, f.side, s, ps);
                 c.entries[a] = g;
-                p = legs_for(legs, g, rows, s);
-                m = x.count;
+                m = y.count;
                 i += 1;
             }
             Turn::AtLimit(level) => {
-                let x = meet_limit(way, es, s, a, level, space, m);
-                let rows = x.rows;
+                let y = meet_limit(way, es, s, a, level, space, m);
+                let rows = y.rows;
                 c.entries = rows;
-                m = x.count;
+                m = y.count;
                 i += 1;
             }
         }

@@ -5,14 +5,16 @@ use Prim.Native.Nat.{ℕ, _≤_, _<_}
 use native.Mathlib.Omega.{arith}
 use lib.IntN.{ℤ}
 use lib.ListN.{length, getD}
+use mathlib.Core.Bool.{true}
 use Rattle.base.specs.All.{All, all-nil, all-at, all-map}
+use Rattle.base.specs.Sets.{has}
 use Rattle.rules.specs.declared.Leg.{Leg}
 use Rattle.rules.specs.declared.Strategy.{Strategy}
 use Rattle.rules.specs.declared.Entry.{Entry}
 use Rattle.rules.specs.declared.LegOrder.{LegOrder}
 use Rattle.rules.specs.declared.Quote.{Quote}
 use Rattle.rules.specs.declared.State.{State}
-use Rattle.rules.specs.State.{noLeg, noStrategy, noEntry, noOrder, noQuote, legAt}
+use Rattle.rules.specs.State.{noLeg, noStrategy, noEntry, noOrder, noQuote, legAt, entryAt, strategyAt, Netted}
 use Rattle.rules.specs.Moves.{Moved}
 use Rattle.rules.specs.Valid.{FitLeg, FitEntry, FitOrder, Priced, FitQuote, Sound}
 use Rattle.rules.proofs.Tables.{all-of}
@@ -26,6 +28,8 @@ pub record FitLegs (s : Strategy) : Type 0 where
   pub count : s .count ≤ 6
   pub legs : All FitLeg (s .legs)
   pub used : (i : ℕ) → i < s .count → 0 < legAt s i .ratio
+  pub rising : (i j : ℕ) → i < j → j < s .count → legAt s i .series < legAt s j .series
+  pub held : (i : ℕ) → i < s .count → has (s .series) (legAt s i .series) ≡ true
 
 pub record Fit (b : State) : Type 0 where
   pub strategies : All FitLegs (b .strategies)
@@ -38,11 +42,14 @@ pub record Fit (b : State) : Type 0 where
   pub quotes : All FitQuote (b .national)
   pub quoteRows : length (b .national) ≡ 32
   pub range : b .range ≤ 9999
+  pub nets : Netted b
+  -- the strategy of a live entry has legs
+  pub live : (i : ℕ) → 0 < entryAt b i .units → 0 < strategyAt b (entryAt b i .strategy) .count
 
 -- what stands past a table's end fits
 
 no-legs : FitLegs noStrategy
-no-legs = record { count = omega arith; legs = all-nil; used = λ i h. absurd (omega arith) }
+no-legs = record { count = omega arith; legs = all-nil; used = λ i h. absurd (omega arith); rising = λ i j h l. absurd (omega arith); held = λ i h. absurd (omega arith) }
 
 no-quote : FitQuote noQuote
 no-quote = record { bid = omega arith; offer = omega arith }
@@ -69,7 +76,7 @@ priced-at a i = all-at noOrder priced-none a i
 -- a sound state
 pub fit-sound : {b : State} → Sound b → Fit b
 fit-sound s = record {
-  strategies = all-map (λ t f. record { count = f .count; legs = f .legs; used = f .used }) (s .strategies);
+  strategies = all-map (λ t f. record { count = f .count; legs = f .legs; used = f .used; rising = f .rising; held = f .held }) (s .strategies);
   entries = s .entries;
   orders = s .orders;
   priced = priced-sound s;
@@ -79,6 +86,8 @@ fit-sound s = record {
   quotes = s .national;
   quoteRows = s .quoteRows;
   range = s .range;
+  nets = s .nets;
+  live = λ i h. omega (arith, s .legs _ (s .live i h .strategy));
 }
 
 -- a strategy that kept all but its auction
@@ -87,6 +96,8 @@ same-legs s t e h = record {
   count = omega (arith, e .count, h .count);
   legs = rw (e .legs) (h .legs);
   used = λ i l. rw (e .legs) (h .used i (omega (arith, e .count)));
+  rising = λ i j l m. rw (e .legs) (h .rising i j l (omega (arith, e .count)));
+  held = λ i l. rw (e .legs, e .series) (h .held i (omega (arith, e .count)));
 }
 
 -- a leg order that kept its price and gained no contracts
@@ -105,6 +116,10 @@ fit-shrinks {b} {c} s f = record {
   quotes = rw (s .national) (f .quotes);
   quoteRows = rw (s .national) (f .quoteRows);
   range = rw (s .range) (f .range);
+  nets = s .nets (f .nets);
+  live = λ i h.
+      let e = s .entry i in
+      rw (e .strategy, s .strategy (entryAt b i .strategy) .count) (f .live i (omega (arith, e .units)));
 }
 
 -- the state that a function left

@@ -30,7 +30,7 @@ fn kind_number(kind: Kind) -> u32
 }
 
 // A level's price in cents.
-fn cents(level: u32) -> i32
+pub fn cents(level: u32) -> i32
     requires { ⌜ level < 2147483648 ⌝ }
     ensures { λ r. ⌜ r ≡ cents level ⌝ }
 {

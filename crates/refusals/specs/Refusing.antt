@@ -4,7 +4,7 @@ use mathlib.Core.Bool.{Bool, true, false, not}
 use mathlib.Core.List.{List, [], _∷_}
 use Prim.Native.Nat.{ℕ, _≤_, _<_}
 use native.Mathlib.Omega.{arith}
-use borrow.Author.Tests.{eq-eqb, ne-eqb}
+use borrow.Author.Tests.{leb-false, eq-eqb, ne-eqb}
 use lib.Dec.{eqb, leb}
 use lib.ListN.{length}
 use Rattle.base.specs.Pick.{pick, pick-true, pick-false, pick-all, told, tests}
@@ -13,13 +13,19 @@ use Rattle.events.specs.declared.Sweep.{Sweep as GivenSweep}
 use Rattle.rules.specs.declared.Entry.{Entry}
 use Rattle.rules.specs.declared.LegOrder.{LegOrder}
 use Rattle.rules.specs.declared.State.{State}
-use Rattle.rules.specs.State.{noOrder, strategyAt, legNet}
+use Rattle.rules.specs.State.{noOrder, strategyAt, netsStored, legNet, ownNet}
 use Rattle.rules.specs.Sides.{other}
-use Rattle.rules.specs.Nets.{prices, netOf, betters}
+use Rattle.rules.specs.Nets.{betters}
 use Rattle.rules.specs.Events.{live, liveOrder, freeOrderSlot}
-use Rattle.rules.specs.Refusals.{Cause, _if_, firstCause, isOrderOf, orderAtIs, legOrderAtIs, notFound, isLegOrder, legOrdersFull, bettersNothing}
+use Rattle.rules.specs.Refusals.{Cause, _if_, firstCause, isOrderOf, orderAtIs, legOrderAtIs, notFound, isLegOrder, legOrdersFull, undefined, bettersNothing}
+use Rattle.rules.specs.Fits.{FitSweepGiven}
+use Rattle.rules.specs.Valid.{Sound}
+use Rattle.rules.proofs.Laws.{other-side}
 use Rattle.rules.proofs.Tables.{keep-length, sum-tally}
 use Rattle.base.specs.Walks.{Passed}
+use Rattle.ranges.specs.Fit.{Fit}
+use Rattle.stored_nets.specs.Stored.{netFor}
+use Rattle.stored_nets.specs.Laws.{net-stored}
 
 -- the first cause by what the calls answer: one that applies, one that does not, and the last of those that do not
 module _ (n : ℕ) {r t : Bool} where
@@ -83,16 +89,29 @@ slots-full b l e = rw (
   sym (sum-tally isLegOrder noOrder refl (b .orders) 32 (omega arith)),
 )
 
+-- a strategy that is not undefined has legs
+pub has-legs : {b : State} → Sound b → (k : ℕ) {r : Bool} → r ≡ undefined b k → r ≡ false → 0 < strategyAt b k .count
+unfolding undefined
+has-legs {b} s k e n = omega (arith, s .legs k (leb-false _ _ (told e n)))
+
 -- a sweep against the leg net of its side, by what the code tests
 module _ (b : State) (e : GivenSweep) where
   pub withdraws : e .units ≡ 0 → false ≡ bettersNothing b e
   unfolding bettersNothing
   withdraws z = sym (pick-true _ _ _ (eq-eqb _ _ z))
 
-  module _ (some : ¬ (e .units ≡ 0)) {r : Bool} (t : r ≡ betters true (e .side) (e .level) (netOf (strategyAt b (e .strategy)) (prices (b .orders) (other (e .side)) (strategyAt b (e .strategy) .legs)))) where
+  -- the net that is stored is that of the leg orders
+  module _ (some : ¬ (e .units ≡ 0)) (p : FitSweepGiven e × Fit b × (0 < strategyAt b (e .strategy) .count)) {o n : ℕ} {r : Bool}
+      (on : o ≡ other (e .side)) (net : n ≡ netFor (netsStored b (e .strategy)) o) (t : r ≡ betters true (e .side) (e .level) n) where
+    net-is : n ≡ ownNet b (e .side) (e .strategy)
+    unfolding legNet
+    net-is =
+        net ∙ ap (netFor (netsStored b (e .strategy))) on
+        ∙ net-stored (b .nets) (b .orders) (b .strategies) (e .strategy) (other (e .side)) (p .0 .strategy) (other-side (e .side)) (p .2) (p .1 .nets .are)
+
     by-test : bettersNothing b e ≡ not r
-    unfolding bettersNothing legNet
-    by-test = pick-false _ _ _ (ne-eqb _ _ some) ∙ ap not (sym t)
+    unfolding bettersNothing
+    by-test = pick-false _ _ _ (ne-eqb _ _ some) ∙ ap not (sym (t ∙ ap (betters true (e .side) (e .level)) net-is))
 
     pub is-better : r ≡ true → false ≡ bettersNothing b e
     is-better g = sym (by-test ∙ ap not g)

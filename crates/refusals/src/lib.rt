@@ -6,10 +6,12 @@ ghost use lib.Dec.{eqb};
 ghost use Rattle.base.specs.Pick.{pick};
 ghost use Rattle.events.specs.declared.Event.the-variants as E;
 ghost use Rattle.rules.specs.Sizes.{strategySlots};
+ghost use Rattle.rules.specs.State.{strategyAt};
 ghost use Rattle.rules.specs.Auctions.{running};
 ghost use Rattle.rules.specs.Refusals.{firstCause, causes, undefined, notOpen, isOrderOf, isLegOrderOf, notFound, isStarter, unanswerable, ordersFull, sweepsFull, legOrdersFull, replaces, removesNone, noRoom, numbersOut, sweepNumbersOut, bidAboveOffer, bettersNothing};
 ghost use Rattle.rules.specs.declared.State.{State};
 ghost use Rattle.rules.specs.Fits.{FitOrderGiven, FitSweepGiven, FitLegOrderGiven};
+ghost use Rattle.rules.specs.Valid.{Sound};
 ghost use Rattle.ranges.specs.Fit.{Fit};
 use entries::count_of;
 use entries::old_sweep;
@@ -19,8 +21,10 @@ use nets::betters;
 use rules::Entry;
 use rules::LegOrder;
 use rules::State;
+use sides::other;
 use states::is_open;
 use states::running;
+use stored_nets::net_for;
 
 fn undefined(b: State, k: u32) -> bool
     ensures { λ r. ⌜ r ≡ undefined b k ⌝ }
@@ -194,15 +198,16 @@ fn removes_none(b: State, e: events::Sweep) -> bool
 
 // Whether a sweep has units and is no better than the leg net of its side.
 fn betters_nothing(b: State, e: events::Sweep) -> bool
-    requires { ⌜ FitSweepGiven e × Fit b ⌝ }
+    requires { ⌜ FitSweepGiven e × Fit b × (0 < strategyAt b (e .strategy) .count) ⌝ }
     ensures { λ r. ⌜ r ≡ bettersNothing b e ⌝ }
 {
     if e.units == 0 {
         return false;
     }
-    let s = b.strategies[e.strategy as usize];
-    let os = b.orders;
-    if betters(true, e.side as u8, e.level, os, s) {
+    let side = e.side as u8;
+    let n = b.nets[e.strategy as usize];
+    let on = other(side);
+    if betters(true, side, e.level, net_for(n, on)) {
         return false;
     }
     true
@@ -234,7 +239,7 @@ fn sweep_numbers_out(b: State, e: events::Sweep) -> bool
 
 // The refusal of a sweep.
 pub fn sweep_refusal(b: State, e: events::Sweep) -> u32
-    requires { ⌜ FitSweepGiven e × (b .last < 4294967295) × Fit b ⌝ }
+    requires { ⌜ FitSweepGiven e × (b .last < 4294967295) × Sound b ⌝ }
     ensures { λ r. ⌜ r ≡ firstCause (causes b (E.Sweep e)) ⌝ }
 {
     if undefined(b, e.strategy) {

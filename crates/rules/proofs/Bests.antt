@@ -89,7 +89,7 @@ module _ (s side p : ℕ) (o : LegOrder) where
   unfolding priceWith
   with-yes e = pick-true _ _ _ e
 
-  with-no : stands s side o ≡ false → priceWith s side p o ≡ p
+  pub with-no : stands s side o ≡ false → priceWith s side p o ≡ p
   unfolding priceWith
   with-no e = pick-false _ _ _ e
 
@@ -106,7 +106,7 @@ module _ (s side p : ℕ) (o : LegOrder) where
   lot-none e = pick-false _ _ _ e
 
 -- the empty row stands nowhere
-stands-none : (s side : ℕ) → stands s side noOrder ≡ false
+pub stands-none : (s side : ℕ) → stands s side noOrder ≡ false
 unfolding stands pick
 stands-none s side = refl
 

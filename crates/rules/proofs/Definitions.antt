@@ -19,7 +19,7 @@ use Rattle.events.specs.declared.Event.the-variants as E
 use Rattle.rules.specs.declared.Leg.{Leg}
 use Rattle.rules.specs.declared.Strategy.{Strategy}
 use Rattle.rules.specs.declared.State.{State}
-use Rattle.rules.specs.State.{noLeg, noStrategy, strategyAt, legAt, withStrategies}
+use Rattle.rules.specs.State.{noLeg, noStrategy, strategyAt, legAt, withStrategies, withNets}
 use Rattle.rules.specs.Strategies.{ratioOf, seriesOf, divisorStep, divisor, dividedAt, inSeries, placeOf, legsOf, bySeries, defined, sameLeg, sameLegAt, sameLegs, sameAt, numberOf, held, added, define}
 use Rattle.rules.specs.Given.{legsGiven, strategyGiven}
 use Rattle.rules.specs.Refusals.{causes, illFormed, strategiesFull}
@@ -180,7 +180,7 @@ module _ (b : State) (t : Strategy) (v : Sound b) (room : held b t ≡ false →
 
   -- its rows are those of the definition
   its-rows : (p : ℕ) → p < 6 → legAt (strategyAt c n) p ≡ legAt t p
-  unfolding numberOf added withStrategies
+  unfolding numberOf added withStrategies withNets
   its-rows p l = by (held b t) refl
     where
       by : (x : Bool) → held b t ≡ x → legAt (strategyAt c n) p ≡ legAt t p
@@ -188,7 +188,7 @@ module _ (b : State) (t : Strategy) (v : Sound b) (room : held b t ≡ false →
       by false h = rw (is-new h, new-number h) (ap (λ (s : Strategy). legAt s p) (getD-set-same (b .strategies) (b .defined) t noStrategy (omega (arith, room h, v .strategyRows))))
 
   its-others : (k : ℕ) → (k ≡ n → ⊥) → strategyAt c k ≡ strategyAt b k
-  unfolding added withStrategies
+  unfolding added withStrategies withNets
   its-others k d = by (held b t) refl
     where
       by : (x : Bool) → held b t ≡ x → strategyAt c k ≡ strategyAt b k
@@ -196,7 +196,7 @@ module _ (b : State) (t : Strategy) (v : Sound b) (room : held b t ≡ false →
       by false h = rw (is-new h) (getD-set-other (b .strategies) (b .defined) k t noStrategy (λ q. d (q ∙ sym (new-number h))))
 
   its-next : (c ≡ b) ⊎ ((n ≡ b .defined) × (c .defined ≡ b .defined + 1))
-  unfolding added withStrategies
+  unfolding added withStrategies withNets
   its-next = by (held b t) refl
     where
       by : (x : Bool) → held b t ≡ x → (c ≡ b) ⊎ ((n ≡ b .defined) × (c .defined ≡ b .defined + 1))
@@ -204,7 +204,7 @@ module _ (b : State) (t : Strategy) (v : Sound b) (room : held b t ≡ false →
       by false h = inr (new-number h, rw (is-new h))
 
   its-unnamed : t .specialist .member ≡ 0 → (c ≡ b) ⊎ (strategyAt c n .specialist .member ≡ 0)
-  unfolding added withStrategies
+  unfolding added withStrategies withNets
   its-unnamed u = by (held b t) refl
     where
       by : (x : Bool) → held b t ≡ x → (c ≡ b) ⊎ (strategyAt c n .specialist .member ≡ 0)
@@ -224,7 +224,7 @@ unfolding strategyGiven defined
 given-unnamed e = refl
 
 define-tables : (t : Strategy) (b : State) → (define t b .entries ≡ b .entries) × (define t b .orders ≡ b .orders)
-unfolding define added withStrategies
+unfolding define added withStrategies withNets
 define-tables t b = pick-all (λ (c : State). (c .entries ≡ b .entries) × (c .orders ≡ b .orders)) _ (refl, refl) (refl, refl)
 
 -- THE SENTENCE

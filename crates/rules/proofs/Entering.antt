@@ -9,7 +9,7 @@ use native.Mathlib.Omega.{arith}
 use borrow.Author.Tests.{eqb-true, ne-eqb, not-true, not-false}
 use lib.Count.{onesIn}
 use lib.Dec.{eqb}
-use lib.ListN.{length, getD, replicate, length-set, length-replicate}
+use lib.ListN.{length, getD, replicate, length-set, length-replicate, set}
 use lib.Seq.{getD-set-same, getD-set-other}
 use Rattle.base.specs.Pick.{pick, pick-by, pick-all, pick-true, pick-false}
 use Rattle.base.specs.Walks.{sumN, sum-zero, sum-mono, below}
@@ -20,14 +20,17 @@ use Rattle.rules.specs.declared.Strategy.{Strategy}
 use Rattle.rules.specs.declared.Entry.{Entry}
 use Rattle.rules.specs.declared.LegOrder.{LegOrder}
 use Rattle.rules.specs.declared.Quote.{Quote}
+use Rattle.rules.specs.declared.LegNets.{LegNets}
 use Rattle.rules.specs.declared.State.{State}
 use Rattle.rules.specs.Sizes.{seriesCount}
-use Rattle.rules.specs.State.{noSpecialist, noLeg, noEntry, noOrder, noQuote, noStrategy, freeStrategy, fresh, entryAt, orderAt, strategyAt, withEntries, withOrders, withStrategies, withOpened, withClock, withLast, withNational, withRange}
+use Rattle.rules.specs.State.{noSpecialist, noLeg, noEntry, noOrder, noQuote, noStrategy, freeStrategy, fresh, entryAt, orderAt, strategyAt, withEntries, withOrders, withStrategies, withOpened, withClock, withLast, withNational, withRange, withNets}
+use Rattle.rules.specs.Nets.{netsIn}
 use Rattle.rules.specs.Strategies.{held, added, define}
 use Rattle.rules.specs.Events.{live, liveOrder, keep, enter, enterOrder, freeSlot}
 use Rattle.rules.specs.Refusals.{isOrder, isSweep, isLegOrder, isOrderAt, isSweepAt, isLegOrderAt}
 use Rattle.rules.specs.Valid.{FitLeg, FitStrategy, FitEntry, FitOrder, FitQuote, LiveEntry, LiveOrder, Sound}
 use Rattle.rules.proofs.Tables.{all-of, tally, sum-tally, tally-plus, Stands, keep-all, keep-length, behind-length, behind-all, behind-slot, behind-other, behind-tally, behind-stands, behind-live, behind-ordered, positive}
+use Rattle.rules.proofs.NetTables.{nets-set, fresh-nets}
 use Rattle.rules.proofs.Shrinks.{SameEntry, SameOrder, SameStrategy, Shrinks}
 
 -- The tests of the live rows.
@@ -148,6 +151,7 @@ sound-fresh timer h k = record {
   national = all-replicate noQuote (record { bid = omega arith; offer = omega arith }) seriesCount;
   quoteRows = length-replicate seriesCount noQuote;
   range = omega arith;
+  nets = record { are = fresh-nets };
   undefined = λ i _. all-at {P = λ (s : Strategy). (s .count ≡ 0) × (s .series ≡ 0) × (s .starter ≡ 0)} noStrategy (refl, refl, refl) (all-replicate freeStrategy (refl, refl, refl) 16) i;
   legs = λ i l. absurd (omega arith);
   live = λ i l. absurd (dead i l);
@@ -224,6 +228,7 @@ module _ (b : State) (e : Entry) (s : Sound b) (n : Entering b e) where
     national = s .national;
     quoteRows = s .quoteRows;
     range = s .range;
+    nets = record { are = s .nets .are };
     undefined = s .undefined;
     legs = s .legs;
     live = behind-live live noEntry (λ (y : Entry). y .units) refl e (b .entries) (LiveEntry (enter e b)) (record { given = (omega (arith, n .number), le-refl _); level = n .level; strategy = n .strategy })
@@ -298,6 +303,7 @@ module _ (b : State) (o : LegOrder) (s : Sound b) (n : EnteringOrder b o) where
     national = s .national;
     quoteRows = s .quoteRows;
     range = s .range;
+    nets = record { are = refl };
     undefined = s .undefined;
     legs = s .legs;
     live = λ i h. live-more (omega (arith, n .number)) (le-refl _) (s .live i h);
@@ -314,7 +320,7 @@ module _ (b : State) (o : LegOrder) (s : Sound b) (n : EnteringOrder b o) where
 -- A strategy that is defined.
 
 pub sound-define : (b : State) (t : Strategy) → Sound b → FitStrategy t → 2 ≤ t .count → (held b t ≡ false → b .defined < 16) → Sound (define t b)
-unfolding define added withStrategies
+unfolding define added withStrategies withNets
 sound-define b t s f two room =
     pick-by Sound (held b t) (λ _. s)
     (λ e.
@@ -334,6 +340,7 @@ sound-define b t s f two room =
       national = s .national;
       quoteRows = s .quoteRows;
       range = s .range;
+      nets = record { are = ap (λ (ns : List LegNets). set ns (b .defined) (netsIn (b .orders) t)) (s .nets .are) ∙ nets-set (b .orders) (b .strategies) (b .defined) t r (s .strategyRows) };
       undefined = λ k h. rw (getD-set-other (b .strategies) (b .defined) k t noStrategy (λ q. omega arith)) (s .undefined k (omega arith));
       legs = λ k h. ⊎-elim
           (λ q. rw (q, getD-set-same (b .strategies) (b .defined) t noStrategy (omega (arith, s .strategyRows))) two)
@@ -370,6 +377,7 @@ sound-set b t o s h k = record {
   national = s .national;
   quoteRows = s .quoteRows;
   range = s .range;
+  nets = record { are = s .nets .are };
   undefined = s .undefined;
   legs = s .legs;
   live = λ i l. live-more (le-refl _) (le-refl _) (s .live i l);
@@ -400,6 +408,7 @@ sound-bounds b qs r s f n h = record {
   national = f;
   quoteRows = n;
   range = h;
+  nets = record { are = s .nets .are };
   undefined = s .undefined;
   legs = s .legs;
   live = λ i l. live-more (le-refl _) (le-refl _) (s .live i l);
@@ -522,6 +531,7 @@ sound-shrinks {b} {c} h a s = record {
   national = rw (h .national) (s .national);
   quoteRows = rw (h .national) (s .quoteRows);
   range = rw (h .range) (s .range);
+  nets = h .nets (s .nets);
   undefined = λ k l.
       let u = s .undefined k (omega (arith, h .defined)) in
       (h .strategy k .count ∙ u .0, h .strategy k .series ∙ u .1, a .undefined k l);

@@ -23,7 +23,7 @@ use Rattle.rules.specs.declared.LegOrder.{LegOrder}
 use Rattle.rules.specs.declared.Quote.{Quote}
 use Rattle.rules.specs.declared.State.{State}
 use Rattle.rules.specs.Sizes.{seriesCount}
-use Rattle.rules.specs.State.{noLeg, noOrder, noQuote, noStrategy, strategyAt, legAt, fresh, withEntries, withOrders, withStrategies, withOpened, withClock, withLast, withNational, withRange}
+use Rattle.rules.specs.State.{noLeg, noOrder, noQuote, noStrategy, strategyAt, legAt, fresh, withEntries, withOrders, withStrategies, withOpened, withClock, withLast, withNational, withRange, withNets}
 use Rattle.rules.specs.Moves.{Moved, and-then}
 use Rattle.rules.specs.Strategies.{held, added, define}
 use Rattle.rules.specs.National.{nationalPrice, nationalPrices, nationalNet, boundsOf, boundsAt, onNational, onRange}
@@ -58,7 +58,7 @@ same-still b = record { national = refl; range = refl }
 -- THE EVENTS that change neither
 module _ (b : State) (n : length (b .orders) ≡ 32) where
   same-define : (t : Strategy) → Same b (define t b)
-  unfolding define added withStrategies
+  unfolding define added withStrategies withNets
   same-define t = pick-all (Same b) (held b t) (same-still b) (record { national = refl; range = refl })
 
   same-order : (e : Entry) → Same b (onOrder e b .state)

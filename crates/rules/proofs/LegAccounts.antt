@@ -21,7 +21,7 @@ use Rattle.rules.specs.State.{noLeg, noOrder, entryAt, orderAt, strategy
 use Rattle.rules.specs.Moves.{Moved}
 use Rattle.rules.specs.Sides.{other, legSide}
 use Rattle.rules.specs.Nets.{stands, lot, lotAt, lots, known, weight, weightAt, weighed, netOf, legUnits, unitsStep, unitsOf}
-use Rattle.rules.specs.Fills.{wholeRecord, legRecord, partyRecords, cutOrder, cut, legQuotas, orderRecord, orderRow, orderRows, cutAt, cutOrders, takesAt, orderRecordsAt, cutByLegs, takeLegs, legFill}
+use Rattle.rules.specs.Fills.{wholeRecord, legRecord, partyRecords, cutOrder, cut, legQuotas, orderRecord, orderRow, orderRows, cutAt, cutOrders, LegTake, takesAt, orderRecordsAt, cutByLegs, takeLegs, legFill}
 use Rattle.rules.specs.Totals.{ifSame}
 use Rattle.rules.proofs.Shrinks.{takeLegs-shrinks}
 use Rattle.rules.proofs.Quotas.{inTurn-under, inTurn-sum}
@@ -68,6 +68,31 @@ unfolding sumN
 sum-linear f g k z a h zero = sym z
 sum-linear f g k z a h (suc m) = rw (a (sumN g m) (g m)) (omega (arith, sum-linear f g k z a h m, h m))
 
+-- THE QUOTAS of any takes
+-- a quota is within its order's lot
+pub quota-lot : (os : List LegOrder) (t : LegTake) (j : ℕ) → slot (legQuotas os t) j ≤ lot (t .series) (t .side) (t .price) (getD os j noOrder)
+unfolding legQuotas lots
+quota-lot os t j =
+    let f : ℕ → ℕ = lotAt os (t .series) (t .side) (t .price) in
+    ⊎-elim
+    (λ (l : j < 32). rw (table-slot f 0 32 j l) at (inTurn-under (t .contracts) (table f 32) j))
+    (λ (l : 32 ≤ j). omega (arith, inTurn-under (t .contracts) (table f 32) j, List·getD-eq-default (table f 32) 0 {n = j} (omega (arith, length-table f 32))))
+    (lt-or-le j 32)
+
+-- what k takes take of the order at slot j
+abbrev pub takenBy : List LegOrder → (ℕ → LegTake) → ℕ → ℕ → ℕ
+takenBy os takes k j = sumN (λ (i : ℕ). slot (legQuotas os (takes i)) j) k
+
+-- .. and the order after them
+pub legs-row : (os : List LegOrder) (takes : ℕ → LegTake) (k j : ℕ) → j < 32 → getD (cutByLegs os takes k) j noOrder ≡ cutOrder (getD os j noOrder) (takenBy os takes k j)
+unfolding cutByLegs walk cutOrders sumN
+legs-row os takes zero j l = rw (sub-zero (getD os j noOrder .contracts))
+legs-row os takes (suc k) j l =
+    let qs : List ℕ = legQuotas os (takes k) in
+    let n : ℕ = getD os j noOrder .contracts in
+    let e : n - takenBy os takes k j - slot qs j ≡ n - (takenBy os takes k j + slot qs j) = omega arith in
+    table-slot (cutAt (cutByLegs os takes k) qs) noOrder 32 j l ∙ ap (λ (o : LegOrder). cutOrder o (slot qs j)) (legs-row os takes k j l) ∙ rw e
+
 -- THE QUOTAS of q units, leg by leg and slot by slot
 module _ (os : List LegOrder) (side q : ℕ) (legs : List Leg) (ps : List ℕ) where
   abbrev pub quota : ℕ → ℕ → ℕ
@@ -86,13 +111,7 @@ module _ (os : List LegOrder) (side q : ℕ) (legs : List Leg) (ps : List ℕ) w
   lost k j = sumN (λ (i : ℕ). quota i j) k
 
   quota-under : (i j : ℕ) → quota i j ≤ lot (leg i .series) (its i) (slot ps i) (row j)
-  unfolding legQuotas lots
-  quota-under i j =
-      let f : ℕ → ℕ = lotAt os (leg i .series) (its i) (slot ps i) in
-      ⊎-elim
-      (λ (l : j < 32). rw (table-slot f 0 32 j l) at (inTurn-under (leg i .ratio * q) (table f 32) j))
-      (λ (l : 32 ≤ j). omega (arith, inTurn-under (leg i .ratio * q) (table f 32) j, List·getD-eq-default (table f 32) 0 {n = j} (omega (arith, length-table f 32))))
-      (lt-or-le j 32)
+  quota-under i j = quota-lot os (takesAt side q legs ps i) j
 
   quota-held : (i j : ℕ) → 0 < quota i j → Held (leg i .series) (its i) (slot ps i) (row j)
   quota-held i j h = held (leg i .series) (its i) (slot ps i) (row j) (omega (arith, quota-under i j))
@@ -112,13 +131,7 @@ module _ (os : List LegOrder) (side q : ℕ) (legs : List Leg) (ps : List ℕ) w
 
   -- the orders after the cuts
   cut-row : (k j : ℕ) → j < 32 → getD (cutByLegs os (takesAt side q legs ps) k) j noOrder ≡ cutOrder (row j) (lost k j)
-  unfolding cutByLegs walk cutOrders sumN
-  cut-row zero j l = rw (sub-zero (row j .contracts))
-  cut-row (suc k) j l =
-      let qs : List ℕ = legQuotas os (takesAt side q legs ps k) in
-      let rows : List LegOrder = cutByLegs os (takesAt side q legs ps) k in
-      let e : row j .contracts - lost k j - quota k j ≡ row j .contracts - (lost k j + quota k j) = omega arith in
-      table-slot (cutAt rows qs) noOrder 32 j l ∙ ap (λ (o : LegOrder). cutOrder o (quota k j)) (cut-row k j l) ∙ rw e
+  cut-row k j l = legs-row os (takesAt side q legs ps) k j l
 
   -- the records of the leg orders
   legs-tally : (w : Record → ℕ) (k : ℕ) → tally w (joinN (orderRecordsAt os (takesAt side q legs ps)) k) ≡ sumN (λ (i : ℕ). sumN (λ (j : ℕ). tally w (orderRow (row j) (quota i j) (slot ps i))) 32) k

@@ -1,6 +1,7 @@
 pub mod Refusals
 pub mod Tables
 pub mod Strategies
+pub mod NetTables
 pub mod Shrinks
 pub mod Quotas
 pub mod Portions
@@ -29,6 +30,7 @@ pub mod Positive
 pub mod Laws
 pub mod Accounts
 pub mod LegAccounts
+pub mod LegPrices
 pub mod Steps
 pub mod Lists
 pub mod Numbers
@@ -71,3 +73,5 @@ pub mod SweepNets
 pub mod SweepLists
 pub mod Choices
 pub mod TurnLevels
+pub mod OfToday
+pub mod StoredNets

@@ -22,7 +22,7 @@ use Rattle.rules.specs.declared.Entry.{Entry}
 use Rattle.rules.specs.declared.LegOrder.{LegOrder}
 use Rattle.rules.specs.declared.State.{State}
 use Rattle.rules.specs.Sizes.{strategySlots}
-use Rattle.rules.specs.State.{noStrategy, noSpecialist, freeStrategy, strategyAt, fresh, withEntries, withOrders, withStrategies, withOpened, withClock, withLast, withNational, withRange}
+use Rattle.rules.specs.State.{noStrategy, noSpecialist, freeStrategy, strategyAt, fresh, withEntries, withOrders, withStrategies, withOpened, withClock, withLast, withNational, withRange, withNets}
 use Rattle.rules.specs.Moves.{Moved, and-then}
 use Rattle.rules.specs.Strategies.{defined, held, added, define}
 use Rattle.rules.specs.Specialists.{withSpecialist, onSpecialist}
@@ -111,7 +111,7 @@ unfolding strategyGiven defined
 given-none e = refl
 
 named-define : (b : State) (e : GivenStrategy) → Unnamed b → Named b (define (strategyGiven e) b)
-unfolding define added withStrategies
+unfolding define added withStrategies withNets
 named-define b e u =
     pick-all (Named b) (held b (strategyGiven e)) (λ k. refl)
     (λ k. set-by (λ (s : Strategy). s .specialist ≡ strategyAt b k .specialist) noStrategy (strategyGiven e) (b .strategies) (b .defined) k refl (λ z. given-none e ∙ sym (u k (omega arith))))
@@ -136,7 +136,7 @@ learns-nothing b e v u p same h = record {
 }
 
 define-more : (b : State) (t : Strategy) → b .defined ≤ define t b .defined
-unfolding define added withStrategies
+unfolding define added withStrategies withNets
 define-more b t = pick-all (λ (c : State). b .defined ≤ c .defined) (held b t) (omega arith) (omega arith)
 
 learns : (b : State) (e : Event) → Valid b → Unnamed b → FitEvent e → firstCause (causes b e) ≡ 0 → Learns b (R.Event e) (accept b e .state)

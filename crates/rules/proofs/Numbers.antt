@@ -20,7 +20,7 @@ use Rattle.rules.specs.declared.Entry.{Entry}
 use Rattle.rules.specs.declared.LegOrder.{LegOrder}
 use Rattle.rules.specs.declared.Quote.{Quote}
 use Rattle.rules.specs.declared.State.{State}
-use Rattle.rules.specs.State.{noOrder, noStrategy, fresh, strategyAt, withEntries, withOrders, withStrategies, withOpened, withClock, withLast, withNational, withRange}
+use Rattle.rules.specs.State.{noOrder, noStrategy, fresh, strategyAt, withEntries, withOrders, withStrategies, withOpened, withClock, withLast, withNational, withRange, withNets}
 use Rattle.rules.specs.Moves.{Moved, and-then}
 use Rattle.rules.specs.Strategies.{held, added as strategyAdded, define}
 use Rattle.rules.specs.Fills.{cancelEntry}
@@ -149,7 +149,7 @@ accept-kin b (E.Range e) n p = kin-range b (e .range)
 accept-kin b (E.Specialist e) n p = kin-shrinks b b _ noRow refl refl refl (specialist-shrinks (e .strategy) (specialistGiven e) b)
 
 goes-define : (b : State) (t : Strategy) → Goes b (define t b) noRow
-unfolding define strategyAdded withStrategies
+unfolding define strategyAdded withStrategies withNets
 goes-define b t =
     pick-all (λ (c : State). Goes b c noRow) (held b t) (goes-still b)
     (record {

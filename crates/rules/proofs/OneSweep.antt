@@ -14,7 +14,7 @@ use Rattle.rules.specs.declared.Strategy.{Strategy}
 use Rattle.rules.specs.declared.Entry.{Entry}
 use Rattle.rules.specs.declared.LegOrder.{LegOrder}
 use Rattle.rules.specs.declared.State.{State}
-use Rattle.rules.specs.State.{noEntry, noOrder, fresh, entryAt, withEntries, withOrders, withStrategies, withOpened, withClock, withLast, withNational, withRange}
+use Rattle.rules.specs.State.{noEntry, noOrder, fresh, entryAt, withEntries, withOrders, withStrategies, withOpened, withClock, withLast, withNational, withRange, withNets}
 use Rattle.rules.specs.Moves.{Moved, and-then}
 use Rattle.rules.specs.Strategies.{added, define}
 use Rattle.rules.specs.Events.{live, liveOrder, enter, enterOrder, onSweep, onSeries, restart, onDayEnd}
@@ -60,7 +60,7 @@ unfolding enter withLast withEntries
 enter-rows e b m = m
 
 define-entries : (s : Strategy) (b : State) → define s b .entries ≡ b .entries
-unfolding define added withStrategies
+unfolding define added withStrategies withNets
 define-entries s b = pick-all (λ (c : State). c .entries ≡ b .entries) _ refl refl
 
 order-one : (b : State) (e : GivenOrder) → e .life ≤ 3 → OneSweep b → OneSweep (enter (orderGiven b e) b)

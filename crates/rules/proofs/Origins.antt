@@ -19,7 +19,7 @@ use Rattle.frames.specs.Frames.{readOf}
 use Rattle.rules.specs.declared.Leg.{Leg}
 use Rattle.rules.specs.declared.Strategy.{Strategy}
 use Rattle.rules.specs.declared.State.{State}
-use Rattle.rules.specs.State.{noStrategy, fresh, strategyAt, legAt, withStrategies}
+use Rattle.rules.specs.State.{noStrategy, fresh, strategyAt, legAt, withStrategies, withNets}
 use Rattle.rules.specs.Moves.{Moved}
 use Rattle.rules.specs.Strategies.{sameLeg, sameLegAt, sameLegs, sameAt, numberOf, held, added, define}
 use Rattle.rules.specs.Given.{legsGiven, strategyGiven}
@@ -72,16 +72,16 @@ define-held : (t : Strategy) (b : State) → held b t ≡ true → define t b �
 unfolding define
 define-held t b h = pick-true _ _ _ h
 
-define-new : (t : Strategy) (b : State) → held b t ≡ false → define t b ≡ withStrategies b (set (b .strategies) (b .defined) t) (b .defined + 1)
-unfolding define added
+define-new : (t : Strategy) (b : State) → held b t ≡ false → define t b ≡ added t b
+unfolding define
 define-new t b h = pick-false _ _ _ h
 
 define-count : (t : Strategy) (b : State) → held b t ≡ false → define t b .defined ≡ b .defined + 1
-unfolding withStrategies
+unfolding added withStrategies withNets
 define-count t b h = ap (λ (c : State). c .defined) (define-new t b h)
 
 define-there : (t : Strategy) (b : State) → held b t ≡ false → b .defined < length (b .strategies) → strategyAt (define t b) (b .defined) ≡ t
-unfolding withStrategies
+unfolding added withStrategies withNets
 define-there t b h l = ap (λ (c : State). strategyAt c (b .defined)) (define-new t b h) ∙ getD-set-same (b .strategies) (b .defined) t noStrategy l
 
 number-new : (t : Strategy) (b : State) → held b t ≡ false → numberOf b t ≡ b .defined

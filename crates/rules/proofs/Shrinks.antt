@@ -14,12 +14,13 @@ use Rattle.rules.specs.declared.Strategy.{Strategy}
 use Rattle.rules.specs.declared.Entry.{Entry}
 use Rattle.rules.specs.declared.LegOrder.{LegOrder}
 use Rattle.rules.specs.declared.State.{State}
-use Rattle.rules.specs.State.{noEntry, noOrder, noStrategy, entryAt, orderAt, strategyAt, withEntries, withOrders, withStrategies}
+use Rattle.rules.specs.State.{noEntry, noOrder, noStrategy, entryAt, orderAt, strategyAt, withEntries, withOrders, withStrategies, Netted}
 use Rattle.rules.specs.Moves.{Moved, and-then}
 pub use Rattle.rules.specs.Shrinks.{SameEntry, SameOrder, SameStrategy, Shrinks}
 use Rattle.rules.specs.Fills.{cutEntry, cutOrder, cut, cutLeg, cutAt, cutOrders, takesAt, cutByLegs, wholeFill, takeLegs, legFill, legTrade, cancelEntry, cancelOrder, legQuotas}
 use Rattle.rules.specs.Specialists.{withSpecialist, onSpecialist}
 use Rattle.rules.specs.Auctions.{withAuction, putAuction, begin, close, answer}
+use Rattle.rules.proofs.NetTables.{nets-kept}
 
 pub same-entry : (e : Entry) → SameEntry e e
 same-entry e = record { number = refl; member = refl; strategy = refl; side = refl; class = refl; life = refl; level = refl; units = omega arith }
@@ -70,6 +71,7 @@ shrinks-trans h k = record {
   last = k .last ∙ h .last;
   national = k .national ∙ h .national;
   range = k .range ∙ h .range;
+  nets = λ n. k .nets (h .nets n);
 }
 
 -- what holds of a slot after a store
@@ -90,25 +92,27 @@ set-own f d e (y ∷ l) (suc i) = set-own f d e l i
 set-same : {A : Type 0} (R : A → A → Type 0) → ((x : A) → R x x) → (d : A) (f : A → A) → ((x : A) → R x (f x)) → (l : List A) (i j : ℕ) → R (getD l j d) (getD (set l i (f (getD l i d))) j d)
 set-same R own d f changed l i j = set-by (R (getD l j d)) d _ l i j (own _) (λ e. rw e (changed _))
 
--- the three tables
-tables-shrink : (b : State) (es : List Entry) (os : List LegOrder) (ss : List Strategy) →
-    ((i : ℕ) → SameEntry (entryAt b i) (getD es i noEntry)) → ((i : ℕ) → SameOrder (orderAt b i) (getD os i noOrder)) → ((k : ℕ) → SameStrategy (strategyAt b k) (getD ss k noStrategy)) →
-    length es ≡ length (b .entries) → length os ≡ length (b .orders) → length ss ≡ length (b .strategies) → Shrinks b (withStrategies (withOrders (withEntries b es) os) ss (b .defined))
-unfolding withEntries withOrders withStrategies
-tables-shrink b es os ss f g h l m n = record {
+-- a state of which the tables and the nets alone have changed
+tables-shrink : {b c : State} →
+    ((i : ℕ) → SameEntry (entryAt b i) (entryAt c i)) → ((i : ℕ) → SameOrder (orderAt b i) (orderAt c i)) → ((k : ℕ) → SameStrategy (strategyAt b k) (strategyAt c k)) →
+    length (c .entries) ≡ length (b .entries) → length (c .orders) ≡ length (b .orders) → length (c .strategies) ≡ length (b .strategies) →
+    c .defined ≡ b .defined → c .opened ≡ b .opened → c .clock ≡ b .clock → c .timer ≡ b .timer → c .last ≡ b .last → c .national ≡ b .national → c .range ≡ b .range →
+    (Netted b → Netted c) → Shrinks b c
+tables-shrink f g h l m n d o k t z q r w = record {
   entry = f;
   order = g;
   strategy = h;
   entryRows = l;
   orderRows = m;
   strategyRows = n;
-  defined = refl;
-  opened = refl;
-  clock = refl;
-  timer = refl;
-  last = refl;
-  national = refl;
-  range = refl;
+  defined = d;
+  opened = o;
+  clock = k;
+  timer = t;
+  last = z;
+  national = q;
+  range = r;
+  nets = w;
 }
 
 -- an entry that has lost nothing is as it was
@@ -123,20 +127,22 @@ entry-same e f s h =
     rows a b c d e f g h = rw (a, b, c, d, e, f, g, h)
 
 pub shrinks-refl : (b : State) → Shrinks b b
-unfolding withEntries withOrders withStrategies
-shrinks-refl b = tables-shrink b (b .entries) (b .orders) (b .strategies) (λ i. same-entry _) (λ i. same-order _) (λ k. same-strategy _) refl refl refl
+shrinks-refl b = tables-shrink (λ i. same-entry _) (λ i. same-order _) (λ k. same-strategy _) refl refl refl refl refl refl refl refl refl refl (λ n. n)
 
 pub entries-shrink : (b : State) (es : List Entry) → ((i : ℕ) → SameEntry (entryAt b i) (getD es i noEntry)) → length es ≡ length (b .entries) → Shrinks b (withEntries b es)
-unfolding withEntries withOrders withStrategies
-entries-shrink b es h n = tables-shrink b es (b .orders) (b .strategies) h (λ i. same-order _) (λ k. same-strategy _) n refl refl
+unfolding withEntries
+entries-shrink b es h n =
+    tables-shrink h (λ i. same-order _) (λ k. same-strategy _) n refl refl refl refl refl refl refl refl refl (λ w. record { are = w .are })
 
 pub orders-shrink : (b : State) (os : List LegOrder) → ((i : ℕ) → SameOrder (orderAt b i) (getD os i noOrder)) → length os ≡ length (b .orders) → Shrinks b (withOrders b os)
-unfolding withEntries withOrders withStrategies
-orders-shrink b os h n = tables-shrink b (b .entries) os (b .strategies) (λ i. same-entry _) h (λ k. same-strategy _) refl n refl
+unfolding withOrders
+orders-shrink b os h n =
+    tables-shrink (λ i. same-entry _) h (λ k. same-strategy _) refl n refl refl refl refl refl refl refl refl (λ w. record { are = refl })
 
 pub strategies-shrink : (b : State) (ss : List Strategy) → ((k : ℕ) → SameStrategy (strategyAt b k) (getD ss k noStrategy)) → length ss ≡ length (b .strategies) → Shrinks b (withStrategies b ss (b .defined))
-unfolding withEntries withOrders withStrategies
-strategies-shrink b ss h n = tables-shrink b (b .entries) (b .orders) ss (λ i. same-entry _) (λ i. same-order _) h refl refl n
+unfolding withStrategies
+strategies-shrink b ss h n =
+    tables-shrink (λ i. same-entry _) (λ i. same-order _) h refl refl n refl refl refl refl refl refl refl (λ w. record { are = w .are ∙ nets-kept (b .orders) (b .strategies) ss h })
 
 -- cuts
 pub cut-entry : (e : Entry) (q : ℕ) → SameEntry e (cutEntry e q)

@@ -20,7 +20,7 @@ use Rattle.rules.specs.declared.LegOrder.{LegOrder}
 use Rattle.rules.specs.declared.Quote.{Quote}
 use Rattle.rules.specs.declared.Specialist.{Specialist}
 use Rattle.rules.specs.declared.State.{State}
-use Rattle.rules.specs.State.{noLeg, noEntry, noOrder, noStrategy, fresh, entryAt, orderAt, strategyAt, withEntries, withOrders, withStrategies, withOpened, withClock, withLast, withNational, withRange}
+use Rattle.rules.specs.State.{noLeg, noEntry, noOrder, noStrategy, fresh, entryAt, orderAt, strategyAt, withEntries, withOrders, withStrategies, withOpened, withClock, withLast, withNational, withRange, withNets}
 use Rattle.rules.specs.Moves.{Moved, still, and-then, each}
 use Rattle.rules.specs.Strategies.{held, added as strategyAdded, define}
 use Rattle.rules.specs.Fills.{cancelEntry}
@@ -262,11 +262,11 @@ left-fits l b e f h = fits-strategies l b (cancelEntry (oldSweep b e) b .state) 
 
 -- A DEFINITION: no live entry is of the strategy that it gives
 books-define : (l : Law) (b : State) (t : Strategy) → Sound b → Good l b → Books l b 0 (still (define t b))
-unfolding define strategyAdded withStrategies tally
+unfolding define strategyAdded withStrategies withNets tally
 books-define l b t s g =
     pick-all (λ (c : State). Books l b 0 (still c)) (held b t) (books-still l b g)
     (record {
-      sums = omega (arith, size-same l b (withStrategies b (set (b .strategies) (b .defined) t) (b .defined + 1)) refl refl);
+      sums = omega (arith, size-same l b (strategyAdded t b) refl refl);
       goesOn = good-same l b _ refl refl
           (λ i alive. getD-set-other (b .strategies) (b .defined) (entryAt b i .strategy) t noStrategy (λ z. omega (arith, s .live i alive .strategy))) g;
     })

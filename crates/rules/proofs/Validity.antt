@@ -27,7 +27,7 @@ use Rattle.rules.specs.declared.Entry.{Entry}
 use Rattle.rules.specs.declared.Quote.{Quote}
 use Rattle.rules.specs.declared.Specialist.{Specialist}
 use Rattle.rules.specs.declared.State.{State}
-use Rattle.rules.specs.State.{noEntry, noStrategy, fresh, entryAt, strategyAt, withStrategies, withNational, withRange}
+use Rattle.rules.specs.State.{noEntry, noStrategy, fresh, entryAt, strategyAt, withStrategies, withNational, withRange, withNets}
 use Rattle.rules.specs.Strategies.{twice, held, added, define, shutSet}
 use Rattle.rules.specs.Auctions.{liveIn, running, isNumber, starterSlot}
 use Rattle.rules.specs.Events.{live, oldSweep}
@@ -77,14 +77,14 @@ given-definition e f h = record {
 module _ (b : State) (t : Strategy) (v : Valid b) (fit : FitStrategy t) (two : 2 ≤ t .count) (starter : t .starter ≡ 0) (begun : t .begun ≡ 0)
     (room : held b t ≡ false → b .defined < 16) where
   abbrev more : State
-  more = withStrategies b (set (b .strategies) (b .defined) t) (b .defined + 1)
+  more = added t b
 
   more-at : b .defined < 16 → strategyAt more (b .defined) ≡ t
-  unfolding withStrategies
+  unfolding added withStrategies withNets
   more-at h = getD-set-same (b .strategies) (b .defined) t noStrategy (omega (arith, v .sound .strategyRows))
 
   more-other : (k : ℕ) → (k ≡ b .defined → ⊥) → strategyAt more k ≡ strategyAt b k
-  unfolding withStrategies
+  unfolding added withStrategies withNets
   more-other k h = getD-set-other (b .strategies) (b .defined) k t noStrategy h
 
   more-still : b .defined < 16 → running more (b .defined) ≡ false
@@ -92,7 +92,7 @@ module _ (b : State) (t : Strategy) (v : Valid b) (fit : FitStrategy t) (two : 2
 
   -- no live entry is of the new strategy
   more-mine : b .defined < 16 → Nearly more (b .defined) 32
-  unfolding withStrategies
+  unfolding added withStrategies withNets
   more-mine h = record {
     starter = λ r. absurd (clash r (more-still h));
     begun = rw (more-at h, begun) (omega arith);
@@ -101,23 +101,23 @@ module _ (b : State) (t : Strategy) (v : Valid b) (fit : FitStrategy t) (two : 2
   }
 
   more-near : b .defined < 16 → (k : ℕ) → Nearly more k 32
-  unfolding withStrategies
+  unfolding added withStrategies withNets
   more-near h k =
       same-or (Nearly more k 32) k (b .defined) (λ q. rw q (more-mine h))
       (λ q. nearly-tables k 32 refl (more-other k q) (le-refl _) (settled-nearly 32 (v .settled k)))
 
   more-legs : b .defined < 16 → (k : ℕ) → OpenLegs more k
-  unfolding withStrategies shutSet
+  unfolding added withStrategies withNets shutSet
   more-legs h k =
       same-or (OpenLegs more k) k (b .defined) (λ q. rw q (λ r. absurd (clash r (more-still h))))
       (λ q. rw (more-other k q) (v .settled k .openLegs))
 
   define-near : (k : ℕ) → Nearly (define t b) k 32
-  unfolding define added
+  unfolding define added withNets
   define-near k = pick-by (λ (c : State). Nearly c k 32) (held b t) (λ _. settled-nearly 32 (v .settled k)) (λ h. more-near (room h) k)
 
   define-legs : (k : ℕ) → OpenLegs (define t b) k
-  unfolding define added
+  unfolding define added withNets
   define-legs k = pick-by (λ (c : State). OpenLegs c k) (held b t) (λ _. v .settled k .openLegs) (λ h. more-legs (room h) k)
 
   define-valid : Valid (define t b)

@@ -1,8 +1,9 @@
--- "Lookups": live quantity, shut legs, depth.
+-- "Lookups": live quantity, shut legs, depth; leg nets (2026-05).
 use mathlib.Core.Bool.{Bool, true, false}
 use mathlib.Core.List.{List, [], _∷_, map}
 use Prim.Native.Nat.{ℕ, _+_}
 use lib.Dec.{eqb, leb, ltb}
+use lib.IntN.{ℤ}
 use lib.ListN.{getD, length}
 use Rattle.base.specs.Pick.{pick}
 use Rattle.base.specs.Walks.{sumN, slot, allN}
@@ -15,7 +16,10 @@ use Rattle.rules.specs.declared.Depth.{Depth}
 use Rattle.rules.specs.declared.Depth.the-variants as D
 use Rattle.rules.specs.declared.Shut.{Shut}
 use Rattle.rules.specs.declared.Shut.the-variants as S
-use Rattle.rules.specs.State.{entryAt, orderAt}
+use Rattle.rules.specs.declared.StrategyNets.{StrategyNets}
+use Rattle.rules.specs.declared.StrategyNets.the-variants as N
+use Rattle.rules.specs.State.{entryAt, orderAt, bidNet, offerNet}
+use Rattle.rules.specs.Records.{cents}
 use Rattle.rules.specs.Strategies.{shutSet}
 use Rattle.rules.specs.Nets.{priceOf, lots}
 use Rattle.rules.specs.Refusals.{undefined}
@@ -32,14 +36,28 @@ contractsOfNumber b n i = pick (eqb (orderAt b i .number) n) (orderAt b i .contr
 unfoldable pub liveQuantity : State → ℕ → ℕ
 liveQuantity b n = sumN (unitsOfNumber b n) tableRows + sumN (contractsOfNumber b n) tableRows
 
--- what a lookup tells: its values, under the number 0; or the number of a refusal
+-- a net as it is told: in cents, or unknown
+pub data ToldNet : Type 0 where
+  known : ℤ → ToldNet
+  unknown : ToldNet
+
+-- what a lookup tells, under the number 0: its values, or the bid and offer net; or the number of a refusal
 pub data LookedUp : Type 0 where
   values : List ℕ → LookedUp
+  nets : ToldNet → ToldNet → LookedUp
   refusedBy : ℕ → LookedUp
 
 -- "Shut legs of a strategy, count and lowest series, 32 when none is shut (4 if undefined)."
 unfoldable pub shutLegs : State → ℕ → LookedUp
 shutLegs b k = pick (undefined b k) (refusedBy 4) (values (sizeOf (shutSet b k) ∷ (lowestOf (shutSet b k) ∷ [])))
+
+-- a net, from its level
+unfoldable pub toldNet : ℕ → ToldNet
+toldNet level = pick (eqb level 0) unknown (known (cents level))
+
+-- the leg nets of a strategy: 2026-05, "the bid and offer net .., with a mark for unknown" (4 if undefined)
+unfoldable pub legNets : State → ℕ → LookedUp
+legNets b k = pick (undefined b k) (refusedBy 4) (nets (toldNet (bidNet b k)) (toldNet (offerNet b k)))
 
 -- "Depth of a series and side: best price and its contracts, or empty"
 unfoldable pub depthOf : List LegOrder → ℕ → ℕ → LookedUp
@@ -86,3 +104,11 @@ depthTells (D.Refused n) = refusedBy n
 unfoldable pub shutTells : Shut → LookedUp
 shutTells (S.Legs count lowest) = values (count ∷ (lowest ∷ []))
 shutTells (S.Refused n) = refusedBy n
+
+-- .. of leg nets: each in cents or unknown, or the refusal
+unfoldable pub netsTells : StrategyNets → LookedUp
+netsTells (N.Both bid offer) = nets (known bid) (known offer)
+netsTells (N.BidAlone bid) = nets (known bid) unknown
+netsTells (N.OfferAlone offer) = nets unknown (known offer)
+netsTells N.Unknown = nets unknown unknown
+netsTells (N.Refused n) = refusedBy n

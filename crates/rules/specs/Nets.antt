@@ -6,12 +6,13 @@ use lib.Dec.{eqb, ltb}
 use lib.ListN.{getD}
 use Rattle.base.specs.Pick.{pick, both, either}
 use Rattle.base.specs.Walks.{sumN, slot, table, allN, walk}
-use Rattle.rules.specs.Sizes.{tableRows, zeroLevel}
+use Rattle.rules.specs.Sizes.{strategySlots, tableRows, zeroLevel}
 use Rattle.rules.specs.declared.Leg.{Leg}
 use Rattle.rules.specs.declared.Strategy.{Strategy}
 use Rattle.rules.specs.declared.LegOrder.{LegOrder}
 use Rattle.rules.specs.declared.Best.{Best}
-use Rattle.rules.specs.Rows.{noLeg, noOrder}
+use Rattle.rules.specs.declared.LegNets.{LegNets}
+use Rattle.rules.specs.Rows.{noLeg, noOrder, noStrategy, noNets}
 use Rattle.rules.specs.Sides.{other, legSide, better, bestPrice}
 
 -- whether a leg order stands in that series and side
@@ -105,6 +106,18 @@ weighed w legs ps count = sumN (weightAt w legs ps) count
 -- "Net = sum of ratio × price over buy legs, less that over sell legs", as a level; 0 where it is unknown
 unfoldable pub netOf : Strategy → List ℕ → ℕ
 netOf s ps = pick (known ps (s .count)) (zeroLevel + weighed 0 (s .legs) ps (s .count) - weighed 1 (s .legs) ps (s .count)) 0
+
+-- 2026-05: "the bid and offer net" of a strategy at these leg orders, "with a mark for unknown", which is 0; a free row has none
+unfoldable pub netsIn : List LegOrder → Strategy → LegNets
+netsIn os s = pick (eqb (s .count) 0) noNets (record { bid = netOf s (prices os 1 (s .legs)); offer = netOf s (prices os 0 (s .legs)) })
+
+-- .. of the strategy at slot k
+abbrev pub netsAt : List LegOrder → List Strategy → ℕ → LegNets
+netsAt os ss k = netsIn os (getD ss k noStrategy)
+
+-- .. of each of the 16
+unfoldable pub netsOf : List LegOrder → List Strategy → List LegNets
+netsOf os ss = table (netsAt os ss) strategySlots
 
 -- whether a limit of a side is strictly better than the leg net of its own side: "buy above bid net, sell below offer net"; 2026-03: "above the bid net when it buys,
 -- below the offer net when it sells". Both ask this one test, with two answers where the net is unknown: an order starts an auction by "the known

@@ -8,6 +8,7 @@ use Rattle.rules.specs.declared.Strategy.{Strategy}
 use Rattle.rules.specs.declared.Entry.{Entry}
 use Rattle.rules.specs.declared.LegOrder.{LegOrder}
 use Rattle.rules.specs.declared.Quote.{Quote}
+use Rattle.rules.specs.declared.LegNets.{LegNets}
 
 -- an empty leg
 abbrev pub noLeg : Leg
@@ -36,3 +37,7 @@ noStrategy = record { legs = []; count = 0; series = 0; starter = 0; begun = 0; 
 -- a free row of the table
 abbrev pub freeStrategy : Strategy
 freeStrategy = record { legs = replicate 6 noLeg; count = 0; series = 0; starter = 0; begun = 0; answered = false; specialist = noSpecialist }
+
+-- both nets unknown
+abbrev pub noNets : LegNets
+noNets = record { bid = 0; offer = 0 }

@@ -1,6 +1,7 @@
 -- Sentences of "Events", "Passes" and "Refusals by cause" in another form than their definitions have: what can be seen of the state before an
 -- event, the state after it and its records. Each holds of every accepted event in every state that frames lead to (proofs
--- Sentences.event-sentence, step-sentence; of the passes: Groups, PassEnds, Bars, WholeFills; of the causes: Causes; of best prices: Bests).
+-- Sentences.event-sentence, step-sentence; of the passes: Groups, PassEnds, Bars, WholeFills; of the causes: Causes; of best prices: Bests;
+-- of the stored nets: OfToday).
 -- Many a rule that is changed in its definition and in the code alike is refused here; docs/RULES.md has the list, and what no sentence says.
 use mathlib.Core.Path.{_≡_}
 use mathlib.Core.Bool.{Bool, true, false, not}
@@ -8,7 +9,7 @@ use mathlib.Core.Logic.{_⊎_}
 use mathlib.Core.List.{List, [], _∷_, _++_, List·Memᴰ}
 use Prim.Native.Nat.{ℕ, suc, _+_, _-_, _*_, _/_, _^_, _≤_, _<_, min, max}
 use lib.Dec.{eqb}
-use lib.ListN.{getD, replicate, take}
+use lib.ListN.{getD, replicate, take, length}
 use Rattle.base.specs.Pick.{pick, both}
 use Rattle.base.specs.Walks.{sumN, slot, anyN}
 use Rattle.base.specs.All.{All, Sorted}
@@ -35,7 +36,7 @@ use Rattle.rules.specs.declared.Bounds.{Bounds}
 use Rattle.rules.specs.declared.Turn.{Turn}
 use Rattle.rules.specs.declared.Turn.the-variants.{Stop, ByLegs, AtLimit}
 use Rattle.rules.specs.declared.Kind.the-variants.{LegFill, LegOrderFill, Cancelled, LegOrderCancelled, AuctionBegun, AuctionEnded}
-use Rattle.rules.specs.State.{noLeg, noOrder, noQuote, fresh, entryAt, orderAt, strategyAt, strategyOf, legAt, withStrategies, withOpened, withClock, withNational, withRange, offerNet, bidNet}
+use Rattle.rules.specs.State.{noLeg, noOrder, noQuote, fresh, entryAt, orderAt, strategyAt, strategyOf, legAt, withStrategies, withNets, withOpened, withClock, withNational, withRange, offerNet, bidNet, netsStored, Netted}
 use Rattle.rules.specs.Moves.{Moved, still, each}
 use Rattle.rules.specs.Records.{kindNumber}
 use Rattle.rules.specs.Sides.{other, legSide, meets, better}
@@ -46,11 +47,11 @@ use Rattle.rules.specs.declared.Allocation.the-variants.{Shared, ForStar
 use Rattle.rules.specs.Quotas.{share, restOf}
 use Rattle.rules.specs.Passes.{bestOpposite, sizes, meetLimit, readyNet, turnAt, turnOf, turn, pass}
 use Rattle.rules.specs.Auctions.{starterPass, endAuction, matchIn}
-use Rattle.rules.specs.Sizes.{orderSlots, sweepSlots, legOrderSlots, tableRows, recordSpace, zeroLevel}
+use Rattle.rules.specs.Sizes.{strategySlots, orderSlots, sweepSlots, legOrderSlots, tableRows, recordSpace, zeroLevel}
 use Rattle.rules.specs.Refusals.{firstCause, causes, isOrderAt, isSweepAt, isLegOrderAt}
 use Rattle.rules.specs.Events.{keep, enter, enterOrder, freeSlot, freeOrderSlot, tradeAll}
 use Rattle.rules.specs.Given.{legsGiven, orderGiven, legOrderGiven}
-use Rattle.rules.specs.Step.{valueOf, accept}
+use Rattle.rules.specs.Step.{Outcome, valueOf, accept}
 use Rattle.rules.specs.Valid.{Starter, Valid}
 use Rattle.rules.specs.Fits.{FitEvent}
 use Rattle.rules.specs.Shrinks.{Shrinks}
@@ -804,3 +805,26 @@ NationalMay e = (e .bid ≡ 0) ⊎ ((e .offer ≡ 0) ⊎ (e .bid ≤ e .offer))
 -- a clock: not below the last accepted one (11)
 abbrev pub ClockMay : State → ℕ → Type 0
 ClockMay b t = b .clock ≤ t
+
+-- 2026-05: two states that differ in the stored nets alone
+abbrev pub SameButNets : State → State → Type 0
+SameButNets b c = withNets b [] ≡ withNets c []
+
+-- 2026-05: "answers and records are those of today": two outcomes with one answer, one value and the same records, whose states differ in the
+-- stored nets alone
+pub record OfToday (x y : Outcome) : Type 0 where
+  pub answer : x .answer ≡ y .answer
+  pub value : x .value ≡ y .value
+  pub records : x .moved .records ≡ y .moved .records
+  pub state : SameButNets (x .moved .state) (y .moved .state)
+
+-- 2026-05: "the stored nets of each strategy held are those of the leg books"
+pub record NetsTrue (b : State) : Type 0 where
+  pub held : (k : ℕ) → k < b .defined → netsStored b k ≡ record { bid = bidNet b k; offer = offerNet b k }
+
+-- .. and what keeps it so from move to move: the tables have their rows, and each strategy held has legs
+pub record NetsKept (b : State) : Type 0 where
+  pub stored : Netted b
+  pub orderRows : length (b .orders) ≡ tableRows
+  pub defined : b .defined ≤ strategySlots
+  pub legs : (k : ℕ) → k < b .defined → 0 < strategyAt b k .count

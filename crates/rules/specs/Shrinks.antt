@@ -6,7 +6,7 @@ use Rattle.rules.specs.declared.Strategy.{Strategy}
 use Rattle.rules.specs.declared.Entry.{Entry}
 use Rattle.rules.specs.declared.LegOrder.{LegOrder}
 use Rattle.rules.specs.declared.State.{State}
-use Rattle.rules.specs.State.{entryAt, orderAt, strategyAt}
+use Rattle.rules.specs.State.{entryAt, orderAt, strategyAt, Netted}
 
 -- an entry that has lost units at most
 pub record SameEntry (e f : Entry) : Type 0 where
@@ -48,3 +48,5 @@ pub record Shrinks (b c : State) : Type 0 where
   pub last : c .last ≡ b .last
   pub national : c .national ≡ b .national
   pub range : c .range ≡ b .range
+  -- 2026-05: stored nets that were those of the leg orders are so again
+  pub nets : Netted b → Netted c

@@ -1,4 +1,5 @@
 -- The state of the book: the fresh state, rows by their place, and a setter for each part that changes.
+use mathlib.Core.Path.{_≡_}
 use mathlib.Core.List.{List}
 use Prim.Native.Nat.{ℕ}
 use lib.ListN.{getD, replicate}
@@ -9,15 +10,17 @@ use Rattle.rules.specs.declared.Entry.{Entry}
 use Rattle.rules.specs.declared.LegOrder.{LegOrder}
 use Rattle.rules.specs.declared.State.{State}
 use Rattle.rules.specs.declared.Quote.{Quote}
+use Rattle.rules.specs.declared.LegNets.{LegNets}
 use Rattle.rules.specs.Sides.{other}
-use Rattle.rules.specs.Nets.{prices, netOf}
-unfoldable pub use Rattle.rules.specs.Rows.{noLeg, noEntry, noOrder, noQuote, noSpecialist, noStrategy, freeStrategy}
+use Rattle.rules.specs.Nets.{prices, netOf, netsOf}
+unfoldable pub use Rattle.rules.specs.Rows.{noLeg, noEntry, noOrder, noQuote, noSpecialist, noStrategy, freeStrategy, noNets}
 
 -- a fresh book of a timer: clock 0, all shut, its tables empty and no number given. 2026-01: "a fresh book has 9,999", and "misses all" national
 -- prices
 unfoldable pub fresh : ℕ → State
 fresh timer = record {
   strategies = replicate strategySlots freeStrategy;
+  nets = replicate strategySlots noNets;
   entries = replicate 32 noEntry;
   orders = replicate 32 noOrder;
   defined = 0;
@@ -55,35 +58,40 @@ strategyOf b e = strategyAt b (e .strategy)
 
 -- the state with these entries
 unfoldable pub withEntries : State → List Entry → State
-withEntries b es = record { strategies = b .strategies; entries = es; orders = b .orders; defined = b .defined; opened = b .opened; clock = b .clock; timer = b .timer; last = b .last; national = b .national; range = b .range }
+withEntries b es = record { strategies = b .strategies; nets = b .nets; entries = es; orders = b .orders; defined = b .defined; opened = b .opened; clock = b .clock; timer = b .timer; last = b .last; national = b .national; range = b .range }
 
--- the state with these leg orders
+-- the state with these leg orders. 2026-05: "Each event that touches a leg order keeps [the stored nets] true after each fill, cancels .. included":
+-- no rule changes a leg order but by this
 unfoldable pub withOrders : State → List LegOrder → State
-withOrders b os = record { strategies = b .strategies; entries = b .entries; orders = os; defined = b .defined; opened = b .opened; clock = b .clock; timer = b .timer; last = b .last; national = b .national; range = b .range }
+withOrders b os = record { strategies = b .strategies; nets = netsOf os (b .strategies); entries = b .entries; orders = os; defined = b .defined; opened = b .opened; clock = b .clock; timer = b .timer; last = b .last; national = b .national; range = b .range }
 
 -- the state with these strategies, so many of them defined
 unfoldable pub withStrategies : State → List Strategy → ℕ → State
-withStrategies b ss n = record { strategies = ss; entries = b .entries; orders = b .orders; defined = n; opened = b .opened; clock = b .clock; timer = b .timer; last = b .last; national = b .national; range = b .range }
+withStrategies b ss n = record { strategies = ss; nets = b .nets; entries = b .entries; orders = b .orders; defined = n; opened = b .opened; clock = b .clock; timer = b .timer; last = b .last; national = b .national; range = b .range }
+
+-- the state with these nets stored
+unfoldable pub withNets : State → List LegNets → State
+withNets b ns = record { strategies = b .strategies; nets = ns; entries = b .entries; orders = b .orders; defined = b .defined; opened = b .opened; clock = b .clock; timer = b .timer; last = b .last; national = b .national; range = b .range }
 
 -- the state with these series open
 unfoldable pub withOpened : State → ℕ → State
-withOpened b o = record { strategies = b .strategies; entries = b .entries; orders = b .orders; defined = b .defined; opened = o; clock = b .clock; timer = b .timer; last = b .last; national = b .national; range = b .range }
+withOpened b o = record { strategies = b .strategies; nets = b .nets; entries = b .entries; orders = b .orders; defined = b .defined; opened = o; clock = b .clock; timer = b .timer; last = b .last; national = b .national; range = b .range }
 
 -- the state at that clock
 unfoldable pub withClock : State → ℕ → State
-withClock b t = record { strategies = b .strategies; entries = b .entries; orders = b .orders; defined = b .defined; opened = b .opened; clock = t; timer = b .timer; last = b .last; national = b .national; range = b .range }
+withClock b t = record { strategies = b .strategies; nets = b .nets; entries = b .entries; orders = b .orders; defined = b .defined; opened = b .opened; clock = t; timer = b .timer; last = b .last; national = b .national; range = b .range }
 
 -- the state with that number given last
 unfoldable pub withLast : State → ℕ → State
-withLast b n = record { strategies = b .strategies; entries = b .entries; orders = b .orders; defined = b .defined; opened = b .opened; clock = b .clock; timer = b .timer; last = n; national = b .national; range = b .range }
+withLast b n = record { strategies = b .strategies; nets = b .nets; entries = b .entries; orders = b .orders; defined = b .defined; opened = b .opened; clock = b .clock; timer = b .timer; last = n; national = b .national; range = b .range }
 
 -- the state with these national prices
 unfoldable pub withNational : State → List Quote → State
-withNational b qs = record { strategies = b .strategies; entries = b .entries; orders = b .orders; defined = b .defined; opened = b .opened; clock = b .clock; timer = b .timer; last = b .last; national = qs; range = b .range }
+withNational b qs = record { strategies = b .strategies; nets = b .nets; entries = b .entries; orders = b .orders; defined = b .defined; opened = b .opened; clock = b .clock; timer = b .timer; last = b .last; national = qs; range = b .range }
 
 -- the state with that execution range
 unfoldable pub withRange : State → ℕ → State
-withRange b r = record { strategies = b .strategies; entries = b .entries; orders = b .orders; defined = b .defined; opened = b .opened; clock = b .clock; timer = b .timer; last = b .last; national = b .national; range = r }
+withRange b r = record { strategies = b .strategies; nets = b .nets; entries = b .entries; orders = b .orders; defined = b .defined; opened = b .opened; clock = b .clock; timer = b .timer; last = b .last; national = b .national; range = r }
 
 -- the leg net that a complex party of that side meets: "offer net for a buy, bid net for a sell"
 unfoldable pub legNet : State → ℕ → ℕ → ℕ
@@ -101,3 +109,11 @@ bidNet b k = legNet b 1 k
 -- net that a sweep must better (2026-03) are this one.
 abbrev pub ownNet : State → ℕ → ℕ → ℕ
 ownNet b side k = legNet b (other side) k
+
+-- the nets that are stored of strategy k
+abbrev pub netsStored : State → ℕ → LegNets
+netsStored b k = getD (b .nets) k noNets
+
+-- 2026-05: "the stored nets .. are those of the leg books", slot by slot
+pub record Netted (b : State) : Type 0 where
+  pub are : b .nets ≡ netsOf (b .orders) (b .strategies)

@@ -11,7 +11,8 @@ use Rattle.base.specs.Gcd.{gcd}
 use Rattle.rules.specs.declared.Leg.{Leg}
 use Rattle.rules.specs.declared.Strategy.{Strategy}
 use Rattle.rules.specs.declared.State.{State}
-use Rattle.rules.specs.State.{noLeg, strategyAt, legAt, withStrategies, noSpecialist}
+use Rattle.rules.specs.State.{noLeg, strategyAt, legAt, withStrategies, withNets, noSpecialist}
+use Rattle.rules.specs.Nets.{netsIn}
 
 -- the ratio of the leg at place i; a definition has six rows of legs, the first count in use
 abbrev pub ratioOf : List Leg → ℕ → ℕ
@@ -124,9 +125,9 @@ numberOf b s = firstN (sameAt b s) (b .defined)
 abbrev pub held : State → Strategy → Bool
 held b s = ltb (numberOf b s) (b .defined)
 
--- the next number is the strategy's
+-- the next number is the strategy's. 2026-05: "Defining a strategy sets [its nets]"
 unfoldable pub added : Strategy → State → State
-added s b = withStrategies b (set (b .strategies) (b .defined) s) (b .defined + 1)
+added s b = withNets (withStrategies b (set (b .strategies) (b .defined) s) (b .defined + 1)) (set (b .nets) (b .defined) (netsIn (b .orders) s))
 
 -- ".. takes no slot": the state with the strategy among those held
 unfoldable pub define : Strategy → State → State

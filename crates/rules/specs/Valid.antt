@@ -13,7 +13,7 @@ use Rattle.rules.specs.declared.Entry.{Entry}
 use Rattle.rules.specs.declared.LegOrder.{LegOrder}
 use Rattle.rules.specs.declared.Quote.{Quote}
 use Rattle.rules.specs.declared.State.{State}
-use Rattle.rules.specs.State.{entryAt, orderAt, strategyAt, legAt}
+use Rattle.rules.specs.State.{entryAt, orderAt, strategyAt, legAt, Netted}
 use Rattle.rules.specs.Strategies.{allOpen}
 use Rattle.rules.specs.Auctions.{running}
 use Rattle.rules.specs.Refusals.{isOrderAt, isSweepAt}
@@ -87,6 +87,8 @@ pub record Sound (b : State) : Type 0 where
   pub national : All FitQuote (b .national)
   pub quoteRows : length (b .national) ≡ seriesCount
   pub range : b .range ≤ 9999
+  -- 2026-05: the stored nets are those of the leg orders
+  pub nets : Netted b
   -- a strategy that is not defined has no leg and no auction
   pub undefined : (k : ℕ) → b .defined ≤ k → (strategyAt b k .count ≡ 0) × (strategyAt b k .series ≡ 0) × (strategyAt b k .starter ≡ 0)
   pub legs : (k : ℕ) → k < b .defined → 2 ≤ strategyAt b k .count

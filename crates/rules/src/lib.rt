@@ -60,6 +60,12 @@ pub struct Quote {
     pub offer: u32,
 }
 
+// The leg nets of a strategy, its bid net and its offer net, as levels; 0 where one is unknown.
+pub struct LegNets {
+    pub bid: u32,
+    pub offer: u32,
+}
+
 // What bounds the fills of a strategy: its national nets as levels, 0 where one is missing, and the execution range.
 pub struct Bounds {
     pub offer: u32,
@@ -67,10 +73,11 @@ pub struct Bounds {
     pub range: u32,
 }
 
-// The whole state: the tables, how many strategies are defined, the open series as a set of 32 bits, the last accepted
+// The whole state: the tables, the leg nets of the strategy in each slot, how many strategies are defined, the open series as a set of 32 bits, the last accepted
 // clock, the timer of auctions, the last number given, the national prices of each series, and the execution range.
 pub struct State {
     pub strategies: [Strategy; State::STRATEGIES],
+    pub nets: [LegNets; State::STRATEGIES],
     pub entries: [Entry; State::ROWS],
     pub orders: [LegOrder; State::LEG_ORDERS],
     pub national: [Quote; State::SERIES],
@@ -158,6 +165,15 @@ pub enum Depth {
 // The shut legs of a strategy: how many, and the lowest series; or a refusal.
 pub enum Shut {
     Legs(u32, u32),
+    Refused(u32),
+}
+
+// The leg nets of a strategy, in cents: bid and offer net, one of them where the other is unknown, or none; or a refusal.
+pub enum StrategyNets {
+    Both(i32, i32),
+    BidAlone(i32),
+    OfferAlone(i32),
+    Unknown,
     Refused(u32),
 }
 

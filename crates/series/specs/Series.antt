@@ -51,7 +51,7 @@ reopen-is s b q e = rw (e, q)
 
 opened-fit : (b : State) (x : ℕ) → Fit b → Fit (withOpened b x)
 unfolding withOpened
-opened-fit b x f = record { strategies = f .strategies; entries = f .entries; orders = f .orders; priced = f .priced; strategyRows = f .strategyRows; entryRows = f .entryRows; orderRows = f .orderRows; quotes = f .quotes; quoteRows = f .quoteRows; range = f .range }
+opened-fit b x f = record { strategies = f .strategies; entries = f .entries; orders = f .orders; priced = f .priced; strategyRows = f .strategyRows; entryRows = f .entryRows; orderRows = f .orderRows; quotes = f .quotes; quoteRows = f .quoteRows; range = f .range; nets = record { are = f .nets .are }; live = f .live }
 
 opened-ranged : (b : State) (x : ℕ) → Ranged b → Ranged (withOpened b x)
 unfolding withOpened

@@ -1,5 +1,5 @@
 -- The comparison with held strategies: the loops' invariants.
-use mathlib.Core.Path.{_≡_, refl, sym, _∙_}
+use mathlib.Core.Path.{_≡_, refl, sym, _∙_, ap}
 use mathlib.Core.Bool.{Bool, true, false}
 use mathlib.Core.List.{List}
 use Prim.Native.Nat.{ℕ, _+_, _≤_, _<_}
@@ -9,8 +9,10 @@ use lib.Seq.{set-out}
 use Rattle.base.specs.Walks.{allN, all-none, all-more, all-stop, first-is, first-none}
 use Rattle.rules.specs.declared.Leg.{Leg}
 use Rattle.rules.specs.declared.Strategy.{Strategy}
+use Rattle.rules.specs.declared.LegNets.{LegNets}
 use Rattle.rules.specs.declared.State.{State}
-use Rattle.rules.specs.State.{noLeg, noStrategy, withStrategies}
+use Rattle.rules.specs.State.{noLeg, noStrategy, withStrategies, withNets}
+use Rattle.rules.specs.Nets.{netsIn}
 use Rattle.rules.specs.Strategies.{sameLeg, sameLegs, numberOf, added}
 use Rattle.terms.specs.Terms.{none-more}
 
@@ -64,10 +66,11 @@ compare-all b s theirs k i g h =
 
 -- the state with one strategy more, by whether a slot is left
 module _ (s : Strategy) (b : State) where
-  pub add-slot : {c : State} → c ≡ withStrategies b (set (b .strategies) (b .defined) s) (b .defined + 1) → c ≡ added s b
+  pub add-slot : {n : LegNets} {c : State} → n ≡ netsIn (b .orders) s
+      → c ≡ withNets (withStrategies b (set (b .strategies) (b .defined) s) (b .defined + 1)) (set (b .nets) (b .defined) n) → c ≡ added s b
   unfolding added
-  add-slot e = e
+  add-slot f e = e ∙ ap (λ (m : LegNets). withNets (withStrategies b (set (b .strategies) (b .defined) s) (b .defined + 1)) (set (b .nets) (b .defined) m)) f
 
-  pub add-none : {c : State} → length (b .strategies) ≤ b .defined → c ≡ withStrategies b (b .strategies) (b .defined + 1) → c ≡ added s b
-  unfolding added
-  add-none h e = e ∙ sym (rw (set-out (b .strategies) (b .defined) s h))
+  pub add-none : {c : State} → length (b .strategies) ≤ b .defined → length (b .nets) ≤ b .defined → c ≡ withStrategies b (b .strategies) (b .defined + 1) → c ≡ added s b
+  unfolding added withNets withStrategies
+  add-none h g e = e ∙ sym (rw (set-out (b .strategies) (b .defined) s h, set-out (b .nets) (b .defined) (netsIn (b .orders) s) g))

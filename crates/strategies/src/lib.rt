@@ -4,7 +4,9 @@ ghost use Prim.Native.Nat.{_<_};
 ghost use Rattle.base.specs.Sets.{has};
 ghost use Rattle.rules.specs.Strategies.{bySeries, padded, seriesSet, defined, sameLeg, numberOf, added};
 ghost use Rattle.rules.specs.Valid.{Valid};
+ghost use Rattle.ranges.specs.Fit.{FitLegs};
 ghost use Rattle.strategies.specs.Order.{putLeg, putSeries, addSeries};
+use nets::leg_nets;
 use rules::Leg;
 use rules::State;
 use rules::Strategy;
@@ -147,9 +149,9 @@ pub fn number_of(b: State, s: Strategy) -> usize
     found
 }
 
-// The state with the strategy behind those held, if there is a slot for it.
+// The state with the strategy behind those held, and its nets, if there is a slot for it.
 pub fn add(s: Strategy, b: State) -> State
-    requires { ⌜ Valid b ⌝ }
+    requires { ⌜ Valid b × FitLegs s ⌝ }
     ensures { λ c. ⌜ c ≡ added s b ⌝ }
 {
     let at = b.defined as usize;
@@ -158,6 +160,8 @@ pub fn add(s: Strategy, b: State) -> State
     if State::STRATEGIES <= at {
         return c;
     }
+    let os = c.orders;
     c.strategies[at] = s;
+    c.nets[at] = leg_nets(os, s);
     c
 }

@@ -3,6 +3,7 @@ ghost use mathlib.Core.Path.{_≡_};
 ghost use Rattle.rules.specs.State.{fresh, freeStrategy};
 use rules::Entry;
 use rules::Leg;
+use rules::LegNets;
 use rules::LegOrder;
 use rules::Quote;
 use rules::Specialist;
@@ -42,6 +43,9 @@ pub const NO_SPECIALIST: Specialist = Specialist {
     percentage: 0,
 };
 
+// Both nets unknown.
+const NO_NETS: LegNets = LegNets { bid: 0, offer: 0 };
+
 // A free row of the table of strategies.
 fn free_strategy() -> Strategy
     ensures { λ s. ⌜ s ≡ freeStrategy ⌝ }
@@ -63,6 +67,7 @@ pub fn fresh(timer: u32) -> State
 {
     State {
         strategies: [free_strategy(); State::STRATEGIES],
+        nets: [NO_NETS; State::STRATEGIES],
         entries: [NO_ENTRY; State::ROWS],
         orders: [NO_ORDER; State::LEG_ORDERS],
         defined: 0,

@@ -14,13 +14,13 @@ use Rattle.base.specs.Walks.{lt-or-le}
 use Rattle.rules.specs.declared.LegOrder.{LegOrder}
 use Rattle.rules.specs.declared.Record.{Record}
 use Rattle.rules.specs.declared.State.{State}
-use Rattle.rules.specs.State.{noOrder, orderAt, withOrders}
+use Rattle.rules.specs.State.{noOrder, orderAt, withOrders, Netted}
 use Rattle.rules.specs.Moves.{Moved, still, and-then, each}
 use Rattle.rules.specs.Fills.{orderRecord, orderRow, cutOrder, cutLeg, legTrade}
 use Rattle.rules.specs.Events.{aheadOrder, bestOrder, tradeOnce, tradeAll}
 use Rattle.rules.proofs.Turns.{idle}
 use Rattle.records.specs.Space.{Appended, Room}
-use Rattle.records.specs.Done.{Done}
+use Rattle.records.specs.Done.{Done, RoomIn, DoneIn, room-of, done-of, in-done, slots-none, slots-move, slots-room}
 use Rattle.tables.specs.Only.{onlyOrders}
 use Rattle.legs.specs.Search.{best-order-most}
 
@@ -31,6 +31,21 @@ tradeRecords o p q = orderRecord o q (p .price) ∷ (orderRecord p q (p .price) 
 -- the slot that the order at slot a trades with next: 32 where it has nothing left or none meets it
 unfoldable pub nextTrade : ℕ → State → ℕ
 nextTrade a b = pick (eqb (orderAt b a .contracts) 0) 32 (bestOrder b (orderAt b a))
+
+-- the leg orders after a trade of the one at slot a with the one at slot h
+unfoldable pub tradedRows : List LegOrder → ℕ → ℕ → ℕ → List LegOrder
+tradedRows os a h q =
+    let first : List LegOrder = set os a (cutOrder (getD os a noOrder) q) in
+    set first h (cutOrder (getD first h noOrder) q)
+
+-- a book with these leg orders, whose stored nets are theirs
+pub record HasOrders (os : List LegOrder) (b : State) : Type 0 where
+  pub orders : b .orders ≡ os
+  pub nets : Netted b
+
+-- a book with other leg orders
+abbrev pub putOrders : List LegOrder → State → State
+putOrders os b = withOrders b os
 
 -- laws
 
@@ -48,44 +63,9 @@ pub row-some : (o : LegOrder) (q price : ℕ) → (q ≡ 0 → ⊥) → orderRow
 unfolding orderRow
 row-some o q price e = search tests
 
--- what cuts keep, the trades keep
-module _ (P : List LegOrder → Type 0) (kept : (os : List LegOrder) (i q : ℕ) → P os → P (set os i (cutOrder (getD os i noOrder) q))) where
-  cut-keeps : (b : State) (i q : ℕ) → P (b .orders) → P (cutLeg b i q .orders)
-  unfolding cutLeg withOrders
-  cut-keeps b i q h = kept (b .orders) i q h
-
-  trade-keeps : (b : State) (a h : ℕ) → P (b .orders) → P (legTrade b a h .state .orders)
-  unfolding legTrade
-  trade-keeps b a h p = cut-keeps _ h _ (cut-keeps b a _ p)
-
-  once-keeps : (a i : ℕ) (b : State) → P (b .orders) → P (tradeOnce a i b .state .orders)
-  unfolding tradeOnce
-  once-keeps a i b p =
-      let Q : Moved → Type 0 = λ (m : Moved). P (m .state .orders) in
-      pick-all Q _ p (pick-all Q _ (trade-keeps b a _ p) p)
-
-  trades-keep : (a i : ℕ) (b : State) → P (b .orders) → P (each (tradeOnce a) i b .state .orders)
-  unfolding each and-then
-  trades-keep a zero b p = p
-  trades-keep a (suc i) b p = once-keeps a i _ (trades-keep a i b p)
-
-trades-rows : (a i : ℕ) (b : State) → length (b .orders) ≡ 32 → length (each (tradeOnce a) i b .state .orders) ≡ 32
-trades-rows = trades-keep (λ (os : List LegOrder). length os ≡ 32) (λ os i q n. length-set os i _ ∙ n)
-
 -- past the table stands no order
 order-past : (b : State) (i : ℕ) → length (b .orders) ≡ 32 → 32 ≤ i → orderAt b i .contracts ≡ 0
 order-past b i n h = ap (λ (o : LegOrder). o .contracts) (List·getD-eq-default (b .orders) noOrder {n = i} (omega arith))
-
--- ONE TRADE
-module _ (b : State) (a h : ℕ) {q : ℕ} (e : q ≡ min (orderAt b a .contracts) (orderAt b h .contracts)) where
-  pub trade-room : {sp : List ℤ} {n : ℕ} → Room sp n (legTrade b a h .records) → Room sp n (tradeRecords (orderAt b a) (orderAt b h) q)
-  unfolding legTrade
-  trade-room r = rw e r
-
-  pub trade-done : {sp sq : List ℤ} {n m : ℕ} {c d : State} → Appended sp sq n m (tradeRecords (orderAt b a) (orderAt b h) q) → c ≡ cutLeg b a q → d ≡ cutLeg c h q
-      → Done sp sq n m d (legTrade b a h)
-  unfolding legTrade
-  trade-done w f g = record { wrote = rw e at w; state = g ∙ ap (λ (x : State). cutLeg x h q) f ∙ ap (λ (x : ℕ). cutLeg (cutLeg b a x) h x) e }
 
 -- ALL TRADES
 pub next-none : (a : ℕ) (b : State) → orderAt b a .contracts ≡ 0 → 32 ≡ nextTrade a b
@@ -144,6 +124,57 @@ trades-none a b {h} e l =
 pub trade-turn : (a i : ℕ) (c : State) {h : ℕ} → h ≡ nextTrade a c → ¬ (h ≡ 32) → tradeOnce a i c ≡ legTrade c a h
 trade-turn a i c e z = once-trades a i c (let l : nextTrade a c < 32 = omega (arith, e, z, next-most a c) in l) ∙ ap (legTrade c a) (sym e)
 
--- the orders of a state that turns have led to are 32
-pub rows-after : (a i : ℕ) (b : State) {sp sq : List ℤ} {n m : ℕ} {c : State} → length (b .orders) ≡ 32 → Done sp sq n m c (each (tradeOnce a) i b) → length (c .orders) ≡ 32
-rows-after a i b l d = rw (d .state) (trades-rows a i b l)
+traded-length : (os : List LegOrder) (a h q : ℕ) → length (tradedRows os a h q) ≡ length os
+unfolding tradedRows
+traded-length os a h q =
+    let first : List LegOrder = set os a (cutOrder (getD os a noOrder) q) in
+    length-set first h (cutOrder (getD first h noOrder) q) ∙ length-set os a (cutOrder (getD os a noOrder) q)
+
+-- THE LOOP, which has made i turns
+pub record Trading (os : List LegOrder) (a : ℕ) (sp sq : List ℤ) (n m : ℕ) (rows : List LegOrder) (i : ℕ) : Type 0 where
+  pub most : i ≤ 32
+  pub size : length rows ≡ 32
+  pub done : DoneIn (HasOrders os) (each (tradeOnce a) i) sp sq n m (putOrders rows)
+
+-- a book as it was
+pub put-same : (os : List LegOrder) (b : State) → HasOrders os b → putOrders os b ≡ b
+unfolding withOrders
+put-same os b h = rw (sym (h .orders), ← h .nets .are)
+
+pub trading-none : (os : List LegOrder) (a : ℕ) (sp : List ℤ) (n : ℕ) → length os ≡ 32 → Trading os a sp sp n n os 0
+trading-none os a sp n l = record { most = omega arith; size = l; done = slots-none _ (put-same os) }
+
+module _ {os : List LegOrder} {a : ℕ} {sp sq : List ℤ} {n m : ℕ} {rows : List LegOrder} {i : ℕ} (g : Trading os a sp sq n m rows i) where
+  -- the slot that the rows give is that of the book
+  next-put : {h : ℕ} → h ≡ nextTrade a (onlyOrders rows) → (b : State) → h ≡ nextTrade a (putOrders rows b)
+  unfolding withOrders
+  next-put e b = e ∙ next-only a (withOrders b rows)
+
+  -- both slots are in the table
+  pub trading-slots : {h : ℕ} → h ≡ nextTrade a (onlyOrders rows) → ¬ (h ≡ 32) → (a < 32) × (h < 32)
+  trading-slots {h} e z = (next-within a (onlyOrders rows) (g .size) e z, let l : h < 32 = omega (arith, e, z, next-most a (onlyOrders rows)) in l)
+
+  turn-put : {h : ℕ} → h ≡ nextTrade a (onlyOrders rows) → ¬ (h ≡ 32) → (b : State) → tradeOnce a i (putOrders rows b) ≡ legTrade (putOrders rows b) a h
+  turn-put e z b = trade-turn a i (putOrders rows b) (next-put e b) z
+
+  pub trading-room : {h : ℕ} → RoomIn (HasOrders os) (tradeAll a) sp n → i < 32 → h ≡ nextTrade a (onlyOrders rows) → ¬ (h ≡ 32)
+      → Room sq m (tradeRecords (getD rows a noOrder) (getD rows h noOrder) (min (getD rows a noOrder .contracts) (getD rows h noOrder .contracts)))
+  unfolding tradeAll legTrade withOrders
+  trading-room r l e z = room-of (turn-put e z (r .book)) (slots-room (tradeOnce a) (g .done) 32 r l)
+
+  pub trading-moves : {h : ℕ} → i < 32 → h ≡ nextTrade a (onlyOrders rows) → ¬ (h ≡ 32) → {sr : List ℤ} {o q : ℕ} {left : List LegOrder}
+      → q ≡ min (getD rows a noOrder .contracts) (getD rows h noOrder .contracts) → Appended sq sr m o (tradeRecords (getD rows a noOrder) (getD rows h noOrder) q)
+      → left ≡ tradedRows rows a h q → Trading os a sp sr n o left (i + 1)
+  unfolding legTrade cutLeg withOrders tradedRows
+  trading-moves l e z {q = q} f w t = record {
+    most = omega arith;
+    size = ap length t ∙ traded-length rows a _ q ∙ g .size;
+    done = slots-move (tradeOnce a) (g .done) (λ b h. done-of (turn-put e z b) (record { wrote = rw f at w; state = rw (t, f) refl }));
+  }
+
+  pub trading-stops : {h : ℕ} → h ≡ nextTrade a (onlyOrders rows) → h ≡ 32 → DoneIn (HasOrders os) (tradeAll a) sp sq n m (putOrders rows)
+  trading-stops e z = in-done (λ b h. trades-stop a i b (putOrders rows b) (g .most) (g .done .done b h .state) (next-put e b) z) (g .done)
+
+  pub trading-all : 32 ≤ i → DoneIn (HasOrders os) (tradeAll a) sp sq n m (putOrders rows)
+  unfolding tradeAll
+  trading-all l = let e : i ≡ 32 = omega (arith, g .most) in rw e at (g .done)

@@ -2,14 +2,13 @@
 ghost use mathlib.Core.Path.{_≡_};
 ghost use Prim.Native.Nat.{_+_, _<_};
 ghost use Rattle.rules.specs.Sizes.{tableRows, zeroLevel};
-ghost use Rattle.rules.specs.Fills.{orderRecord, orderRow, cutOrder, cutLeg, legTrade, cancelLegRecord};
+ghost use Rattle.rules.specs.Fills.{orderRecord, orderRow, cutOrder, cancelLegRecord};
 ghost use Rattle.rules.specs.Events.{tradeAll};
 ghost use Rattle.records.specs.Space.{Appended, Room};
-ghost use Rattle.records.specs.Done.{Done};
+ghost use Rattle.records.specs.Done.{RoomIn, DoneIn};
 ghost use Rattle.tables.specs.Only.{onlyOrders};
-ghost use Rattle.trades.specs.Trades.{tradeRecords, nextTrade};
+ghost use Rattle.trades.specs.Trades.{tradeRecords, nextTrade, tradedRows, HasOrders, putOrders};
 use legs::best_order;
-use records::After;
 use records::least;
 use records::less;
 use records::push;
@@ -18,6 +17,12 @@ use rules::LegOrder;
 use rules::Record;
 use rules::State;
 use rules::ZERO_LEVEL;
+
+// The leg orders after trades, and the next free place for records.
+pub struct Traded {
+    pub rows: [LegOrder; State::LEG_ORDERS],
+    pub count: usize,
+}
 
 // A leg order's record of a fill of q contracts.
 fn order_record(o: LegOrder, q: u32, price: u32) -> Record
@@ -54,17 +59,6 @@ pub fn cut_order(o: LegOrder, q: u32) -> LegOrder
     p
 }
 
-// The leg order at slot i loses q contracts.
-fn cut_leg(b: State, i: usize, q: u32) -> State
-    requires { ⌜ i < tableRows ⌝ }
-    ensures { λ c. ⌜ c ≡ cutLeg b i q ⌝ }
-{
-    let o = b.orders[i];
-    let mut c = b;
-    c.orders[i] = cut_order(o, q);
-    c
-}
-
 // The two records of a trade at the resting price, the incoming order's first.
 fn report(space: &mut [i32], n: usize, o: LegOrder, p: LegOrder, q: u32) -> usize
     requires { ⌜ Room (now space) n (tradeRecords o p q) ⌝ }
@@ -76,19 +70,22 @@ fn report(space: &mut [i32], n: usize, o: LegOrder, p: LegOrder, q: u32) -> usiz
     push(space, m, s)
 }
 
-// One trade of the leg order at slot a with the one at slot h.
-fn leg_trade(b: State, a: usize, h: usize, space: &mut [i32], n: usize) -> After
+// One trade of the leg order at slot a with the one at slot h, of q contracts.
+fn leg_trade(
+    os: [LegOrder; State::LEG_ORDERS],
+    a: usize,
+    h: usize,
+    q: u32,
+) -> [LegOrder; State::LEG_ORDERS]
     requires { ⌜ (a < tableRows) × (h < tableRows) ⌝ }
-    requires { ⌜ Room (now space) n (legTrade b a h .records) ⌝ }
-    ensures { λ t. ⌜ Done (now (space .entry)) (now (space .exit)) n (t .count) (t .state) (legTrade b a h) ⌝ }
+    ensures { λ rows. ⌜ rows ≡ tradedRows os a h q ⌝ }
 {
-    let o = b.orders[a];
-    let p = b.orders[h];
-    let q = least(o.contracts, p.contracts);
-    let m = report(space, n, o, p, q);
-    let c = cut_leg(b, a, q);
-    let d = cut_leg(c, h, q);
-    After { state: d, count: m }
+    let mut rows = os;
+    let o = rows[a];
+    rows[a] = cut_order(o, q);
+    let p = rows[h];
+    rows[h] = cut_order(p, q);
+    rows
 }
 
 // The slot that the leg order at slot a trades with next, 32 where there is none.
@@ -106,25 +103,32 @@ pub fn next_trade(os: [LegOrder; State::LEG_ORDERS], a: usize) -> usize
 }
 
 // The trades of the leg order at slot a, until none meets it or nothing of it is left.
-pub fn trade_all(b: State, a: usize, space: &mut [i32], n: usize) -> After
-    requires { ⌜ Room (now space) n (tradeAll a b .records) ⌝ }
-    ensures { λ t. ⌜ Done (now (space .entry)) (now (space .exit)) n (t .count) (t .state) (tradeAll a b) ⌝ }
+pub fn trade_all(os: [LegOrder; State::LEG_ORDERS], a: usize, space: &mut [i32], n: usize) -> Traded
+    requires { ⌜ RoomIn (HasOrders os) (tradeAll a) (now space) n ⌝ }
+    ensures { λ t. ⌜ DoneIn (HasOrders os) (tradeAll a) (now (space .entry)) (now (space .exit)) n (t .count) (putOrders (t .rows)) ⌝ }
 {
-    let mut c = b;
+    let mut rows = os;
     let mut m = n;
     let mut i: usize = 0;
     while i < State::LEG_ORDERS {
-        let os = c.orders;
-        let h = next_trade(os, a);
+        let h = next_trade(rows, a);
         if h == State::LEG_ORDERS {
-            return After { state: c, count: m };
+            return Traded {
+                rows: rows,
+                count: m,
+            };
         }
-        let t = leg_trade(c, a, h, space, m);
-        c = t.state;
-        m = t.count;
+        let o = rows[a];
+        let p = rows[h];
+        let q = least(o.contracts, p.contracts);
+        m = report(space, m, o, p, q);
+        rows = leg_trade(rows, a, h, q);
         i += 1;
     }
-    After { state: c, count: m }
+    Traded {
+        rows: rows,
+        count: m,
+    }
 }
 
 pub fn cancel_leg_record(o: LegOrder) -> Record

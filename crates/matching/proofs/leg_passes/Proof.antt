@@ -26,20 +26,20 @@ add-next-pass c = omega arith
 
 next-pass-requires : tie.Need-next-pass-requires Inv-loop μ-loop
 next-pass-requires c κs =
-    let d = c .before .before .before .before .before in
+    let d = c .before .before .before .before .before .before in
     let l = d .before .before .before in
     let f = passing-fits (l .before .pre .0 .0) (l .loop .inv) (d .pass .ensures) in
-    (f .strategies, f .entries, f .orders, f .priced)
+    (f .strategies, f .entries, f .orders, f .priced, record { live = f .live }, f .nets .are)
 
 loop-less : tie.Need-loop-less Inv-loop μ-loop
 loop-less c =
-    let d = c .before .before .before .before .before .before in
+    let d = c .before .before .before .before .before .before .before in
     let l = d .before .before .before in
     passing-less (l .before .pre .0 .0) (l .loop .inv) (d .before .before .loop-test .taken) (d .pass .ensures) (c .next-pass .ensures)
 
 loop-again : tie.Need-loop-again Inv-loop μ-loop
 loop-again c =
-    let d = c .before .before .before .before .before .before in
+    let d = c .before .before .before .before .before .before .before in
     let l = d .before .before .before in
     passing-next (l .before .pre .0 .0) (l .loop .inv) (d .before .before .loop-test .taken) (d .pass .ensures) (c .next-pass .ensures)
 

@@ -1,24 +1,20 @@
-use Rattle.passes.specs.Passes.{turnIn, turn-empty}
+use Rattle.passes.specs.Passes.{turnIn}
 use borrow.Author.Needs.{needs}
 use Rattle.passes.proofs.turn_of.Statement.{statement}
 use Rattle.passes.proofs.turn_of.Tie as tie
 
-returns : tie.Need-returns
-returns c = turn-empty _ _ _ _ (c .if1 .taken)
-
-opposite-requires : tie.Need-opposite-requires
-opposite-requires c κs = search needs
-
+-- src/lib.rt:137:9
 turn-at-requires : tie.Need-turn-at-requires
 turn-at-requires c κs = search needs
 
+-- src/lib.rt:138:5
 allowed-requires : tie.Need-allowed-requires
 allowed-requires c κs = search needs
 
-returns-2 : tie.Need-returns-2
+-- src/lib.rt:134:1
+returns : tie.Need-returns
 unfolding turnIn
-returns-2 c = rw (c .allowed .ensures, c .before .turn-at .ensures, c .before .before .opposite .ensures)
+returns c = rw (c .allowed .ensures, c .before .turn-at .ensures)
 
 pub turn-of-spec : {M : Type 1} → statement M
-turn-of-spec =
-    tie.close (tie.spec returns opposite-requires turn-at-requires allowed-requires returns-2)
+turn-of-spec = tie.close (tie.spec turn-at-requires allowed-requires returns)

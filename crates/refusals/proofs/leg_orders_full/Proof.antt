@@ -11,7 +11,7 @@ free-order-slot-requires c κs = search needs
 
 returns : tie.Need-returns
 unfolding freeOrderSlot
-returns c = slots-full (c .before .before .args .b) (let l : length (c .before .before .args .b .orders) ≡ 32 = simp length-map at (c .before .before .good .0 .1 .1 .1 .1 .0 .1 .0 .1) in l) (c .free-order-slot .ensures)
+returns c = slots-full (c .before .before .args .b) (let l : length (c .before .before .args .b .orders) ≡ 32 = simp length-map at (c .before .before .good .0 .1 .1 .1 .1 .1 .0 .1 .0 .1) in l) (c .free-order-slot .ensures)
 
 pub leg-orders-full-spec : {M : Type 1} → statement M
 leg-orders-full-spec = tie.close (tie.spec free-order-slot-requires returns)

@@ -1,8 +1,15 @@
-use Rattle.refusals.specs.Refusing.{cause, cause-here, cause-next, cause-last}
+use Rattle.refusals.specs.Refusing.{cause, cause-here, cause-next, cause-last, has-legs}
 use Rattle.rules.specs.Refusals.{causes}
+use Rattle.ranges.specs.Fit.{fit-sound}
 use borrow.Author.Needs.{needs}
 use Rattle.refusals.proofs.sweep_refusal.Statement.{statement}
 use Rattle.refusals.proofs.sweep_refusal.Tie as tie
+
+betters-nothing-requires : tie.Need-betters-nothing-requires
+betters-nothing-requires c κs =
+    let i = c .before .before .before .before .before in
+    let p = i .before .before .pre in
+    (p .0, fit-sound (p .2), has-legs (p .2) _ (i .before .undefined .ensures) (i .if1 .left))
 
 -- the two returns behind the fifth test, too deep for a search
 returns-6 : tie.Need-returns-6
@@ -45,7 +52,7 @@ sweep-refusal-spec =
     (λ c. search cause)
     (λ c κs. search needs)
     (λ c. search cause)
-    (λ c κs. search needs)
+    betters-nothing-requires
     (λ c. search cause)
     (λ c κs. search needs)
     (λ c. search cause)

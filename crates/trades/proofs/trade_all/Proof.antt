@@ -1,54 +1,82 @@
-use lib.ListN.{length, length-map}
 use borrow.Author.Needs.{needs}
-use Rattle.trades.specs.Trades.{next-only, next-most, next-within, trades-stop, trade-turn, rows-after}
-use Rattle.records.specs.Done.{Visited, visit-none, visit-moves, visit-room, visit-all, done-length, done-of}
-use Rattle.rules.specs.Events.{tradeOnce, tradeAll}
-use mathlib.Core.Path.{_≡_, _∙_}
-use Prim.Native.Nat.{_-_}
 use native.Mathlib.Omega.{arith}
+use Prim.Native.Nat.{_-_}
+use mathlib.Core.Path.{_≡_}
+use lib.ListN.{length}
+use Rattle.records.specs.Done.{in-length}
+use Rattle.trades.specs.Trades.{Trading, trading-none, trading-slots, trading-room, trading-moves, trading-stops, trading-all}
 use Rattle.trades.proofs.trade_all.Statement.{statement}
 use Rattle.trades.proofs.trade_all.Tie as tie
 
 abbrev Inv-loop : tie.InvT-loop
-Inv-loop a space₀ n c₀ m₀ i₀ space c m i = Visited (tradeOnce a) 32 c₀ space₀ space n m c i
+Inv-loop a space₀ n rows₀ m₀ i₀ space rows m i = Trading rows₀ a space₀ space n m rows i
 
 abbrev μ-loop : tie.MeasureT-loop
-μ-loop a space₀ n c₀ m₀ i₀ space c m i = 32 - i
+μ-loop a space₀ n rows₀ m₀ i₀ space rows m i = 32 - i
 
+-- src/lib.rt:113:5
 loop-holds : tie.Need-loop-holds Inv-loop μ-loop
-loop-holds c = visit-none _ _ _ _ _
+loop-holds c = let l : length (c .args .os) ≡ 32 = search needs in trading-none _ _ _ _ l
 
+-- src/lib.rt:114:13
 next-trade-requires : tie.Need-next-trade-requires Inv-loop μ-loop
 next-trade-requires c κs = search needs
 
+-- src/lib.rt:116:13
 same-length : tie.Need-same-length Inv-loop μ-loop
-same-length c = done-length (c .before .before .before .before .loop .inv .done)
+same-length c = in-length (c .before .before .before .before .pre) (c .before .before .before .loop .inv .done)
 
+-- src/lib.rt:116:13
 returns : tie.Need-returns Inv-loop μ-loop
-returns c = let v = c .before .before .before .before .loop .inv in
-    done-of (trades-stop _ _ _ _ (v .most) (v .done .state) (c .before .next-trade .ensures ∙ next-only _ (c .before .before .before .before .loop .c)) (c .if1 .taken)) (v .done)
+returns c = trading-stops (c .before .before .before .loop .inv) (c .before .next-trade .ensures) (c .if1 .taken)
 
+-- src/lib.rt:121:17
+mul-o : tie.Need-mul-o Inv-loop μ-loop
+mul-o c = omega (arith, trading-slots (c .before .before .before .loop .inv) (c .before .next-trade .ensures) (c .if1 .left) .0)
+
+-- src/lib.rt:121:17
+array-copy-out-o : tie.Need-array-copy-out-o Inv-loop μ-loop
+array-copy-out-o c = trading-slots (c .before .before .before .loop .inv) (c .before .next-trade .ensures) (c .if1 .left) .0
+
+-- src/lib.rt:122:17
+mul-p : tie.Need-mul-p Inv-loop μ-loop
+mul-p c = omega (arith, trading-slots (c .before .before .before .before .loop .inv) (c .before .before .next-trade .ensures) (c .before .if1 .left) .1)
+
+-- src/lib.rt:122:17
+array-copy-out-p : tie.Need-array-copy-out-p Inv-loop μ-loop
+array-copy-out-p c = trading-slots (c .before .before .before .before .loop .inv) (c .before .before .next-trade .ensures) (c .before .if1 .left) .1
+
+-- src/lib.rt:123:13
+least-requires : tie.Need-least-requires Inv-loop μ-loop
+least-requires c κs = search needs
+
+-- src/lib.rt:124:9
+report-requires : tie.Need-report-requires Inv-loop μ-loop
+report-requires c κs = rw (c .before .least .ensures) (trading-room (c .before .before .before .before .before .before .before .loop .inv) (c .before .before .before .before .before .before .before .before .pre) (c .before .before .before .before .before .before .loop-test .taken) (c .before .before .before .before .before .next-trade .ensures) (c .before .before .before .before .if1 .left))
+
+-- src/lib.rt:125:16
 leg-trade-requires : tie.Need-leg-trade-requires Inv-loop μ-loop
-unfolding tradeAll
-leg-trade-requires c κs = let n = c .before .before .next-trade .ensures ∙ next-only _ (c .before .before .before .before .before .loop .c) in
-    let k : length (c .before .before .before .before .before .before .args .b .orders) ≡ 32 = simp length-map at (c .before .before .before .before .before .before .good .0 .1 .1 .1 .1 .0 .1 .0 .1) in
-    ((next-within _ _ (rows-after _ _ _ k (c .before .before .before .before .before .loop .inv .done)) n (c .before .if1 .left), rw n (omega (arith, next-most (c .before .before .before .before .before .before .args .a) (c .before .before .before .before .before .loop .c), n, c .before .if1 .left))), visit-room (c .before .before .before .before .before .loop .inv) (c .before .before .before .before .loop-test .taken) (trade-turn _ _ _ n (c .before .if1 .left)) (c .before .before .before .before .before .before .pre))
+leg-trade-requires c κs = trading-slots (c .before .before .before .before .before .before .before .before .before .loop .inv) (c .before .before .before .before .before .before .before .next-trade .ensures) (c .before .before .before .before .before .before .if1 .left)
 
+-- src/lib.rt:126:9
 add-i : tie.Need-add-i Inv-loop μ-loop
 add-i c = omega arith
 
+-- src/lib.rt:113:5
 loop-less : tie.Need-loop-less Inv-loop μ-loop
 loop-less c = omega arith
 
+-- src/lib.rt:113:5
 loop-again : tie.Need-loop-again Inv-loop μ-loop
-loop-again c = visit-moves (c .before .before .before .before .before .before .before .before .loop .inv) (c .before .before .before .before .before .before .before .loop-test .taken) (trade-turn _ _ _ (c .before .before .before .before .before .next-trade .ensures ∙ next-only _ (c .before .before .before .before .before .before .before .before .loop .c)) (c .before .before .before .before .if1 .left)) (c .before .before .leg-trade .ensures)
+loop-again c = trading-moves (c .before .before .before .before .before .before .before .before .before .before .loop .inv) (c .before .before .before .before .before .before .before .before .before .loop-test .taken) (c .before .before .before .before .before .before .before .before .next-trade .ensures) (c .before .before .before .before .before .before .before .if1 .left) (c .before .before .before .before .least .ensures) (c .before .before .report .ensures) (c .leg-trade .ensures)
 
+-- src/lib.rt:101:1
 same-length-2 : tie.Need-same-length-2 Inv-loop μ-loop
-same-length-2 c = done-length (c .before .loop .inv .done)
+same-length-2 c = in-length (c .before .before .pre) (c .before .loop .inv .done)
 
+-- src/lib.rt:101:1
 returns-2 : tie.Need-returns-2 Inv-loop μ-loop
-unfolding tradeAll
-returns-2 c = visit-all (c .before .loop .inv) (c .loop-test .left)
+returns-2 c = trading-all (c .before .loop .inv) (c .loop-test .left)
 
 pub trade-all-spec : {M : Type 1} → statement M
 trade-all-spec =
@@ -60,6 +88,12 @@ trade-all-spec =
     next-trade-requires
     same-length
     returns
+    mul-o
+    array-copy-out-o
+    mul-p
+    array-copy-out-p
+    least-requires
+    report-requires
     leg-trade-requires
     add-i
     loop-less

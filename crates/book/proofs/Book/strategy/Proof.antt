@@ -3,7 +3,7 @@ use mathlib.Core.Path.{refl}
 use Rattle.base.specs.Pick.{told}
 use Rattle.records.specs.Done.{done-still}
 use Rattle.book.specs.Outcomes.{took, took-refused}
-use Rattle.book.specs.Premises.{number-most, strategy-ill, strategy-held, strategy-full, strategy-new, strategy-value}
+use Rattle.book.specs.Premises.{number-most, strategy-ill, strategy-held, strategy-full, strategy-new, strategy-value, strategy-legs}
 use borrow.Author.Needs.{needs}
 use Rattle.book.proofs.Book.strategy.Statement.{statement}
 use Rattle.book.proofs.Book.strategy.Tie as tie
@@ -47,7 +47,9 @@ returns-3 c = let k = c .before .before .before .before in
     took-refused _ _ _ (strategy-full _ _ (told (k .before .before .before .ill-formed .ensures) (k .before .before .if1 .left)) (k .before .strategy-given .ensures) (k .number-of .ensures) (c .before .before .if2 .left) (c .before .if3 .taken)) (k .before .before .before .before .before .pre) (λ z. omega arith) (c .refuse2 .ensures)
 
 add-requires : tie.Need-add-requires
-add-requires c κs = search needs
+add-requires c κs = let k = c .before .before .before in
+    let p = k .before .before .before .before .before .pre in
+    (p .0, strategy-legs _ (p .1) (told (k .before .before .before .ill-formed .ensures) (k .before .before .if1 .left)) (k .before .strategy-given .ensures))
 
 cast-admit-2 : tie.Need-cast-admit-2
 cast-admit-2 c = record { fits = number-most _ _ (c .before .before .before .before .number-of .ensures) (c .before .before .before .before .before .before .before .before .before .pre .0 .sound .defined) }

@@ -1,13 +1,12 @@
 use Rattle.book.specs.Premises.{sweep-asks, sweep-took}
 use Rattle.book.specs.Outcomes.{took-refused}
 use native.Mathlib.Omega.{arith}
-use Rattle.ranges.specs.Fit.{fit-sound}
 use borrow.Author.Needs.{needs}
 use Rattle.book.proofs.Book.sweep.Statement.{statement}
 use Rattle.book.proofs.Book.sweep.Tie as tie
 
 sweep-refusal-requires : tie.Need-sweep-refusal-requires
-sweep-refusal-requires c κs = let p = c .before .pre in (p .1, omega (arith, p .0 .sound .last), fit-sound (p .0 .sound))
+sweep-refusal-requires c κs = let p = c .before .pre in (p .1, omega (arith, p .0 .sound .last), p .0 .sound)
 
 refuse-requires : tie.Need-refuse-requires
 refuse-requires c κs = search needs
