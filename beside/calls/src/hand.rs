@@ -1,16 +1,18 @@
 //! Lists made by hand: spaces of every sort, ends of the input, long frames, depths
 //! of leg orders in every order, and the days of `tapes` with full tables, numbers at
-//! the ends of their ranges, national prices, best prices, sweeps near the nets and
-//! specialists.
+//! the ends of their ranges, national prices, best prices, sweeps near the nets,
+//! specialists and the nets that strategies keep.
 
 use crate::lists::List;
 use reckoning::book::{Book, BUY, LEG_ORDERS, SELL, SPACE};
 use reckoning::calls::item;
-use reckoning::frames::{bytes, Event};
+use reckoning::frames::{bytes, Event, Leg};
 use reckoning::generate::LAST_KIND;
 use reckoning::lists::Input;
 use tapes::days::Day;
-use tapes::hand::{best_prices, example, extremes, full_tables, national, near_nets, specialists};
+use tapes::hand::{
+    best_prices, example, extremes, full_tables, kept_nets, national, near_nets, specialists,
+};
 use tapes::tally::frames;
 
 fn made(name: impl Into<String>, bytes: Vec<u8>) -> List {
@@ -337,6 +339,138 @@ pub fn portions() -> Vec<List> {
     lists
 }
 
+fn strategy(list: &[(u8, u8, u8)]) -> Event {
+    let mut legs = [Leg::default(); 6];
+    for (leg, (series, side, ratio)) in legs.iter_mut().zip(list) {
+        *leg = Leg {
+            series: *series,
+            side: *side,
+            ratio: *ratio,
+        };
+    }
+    Event::Strategy {
+        count: list.len() as u8,
+        legs,
+    }
+}
+
+/// Every sort of event that touches leg orders of strategies that share series, on the
+/// side of bids or with all sides turned.
+fn touches(turned: bool) -> Vec<Event> {
+    let side = |side: u8| if turned { 1 - side } else { side };
+    let price = |price: u32| if turned { 400 - price } else { price };
+    let leg_order = |member, series, of, contracts, cents| Event::LegOrder {
+        member,
+        series,
+        side: side(of),
+        contracts,
+        price: price(cents),
+    };
+    // A market maker's order for the legs, at any price.
+    let taker = |strategy, of, life, units| Event::Complex {
+        member: 9,
+        strategy,
+        side: side(of),
+        class: 3,
+        life,
+        units,
+        limit: if side(of) == BUY {
+            9_999_999
+        } else {
+            -9_999_999
+        },
+    };
+    let state = |series, state| Event::Series { series, state };
+    let cancel = |member, number| Event::Cancel { member, number };
+    let pair = strategy(&[(0, BUY, 1), (1, SELL, 1)]);
+    let mut events: Vec<Event> = (0..4).map(|series| state(series, 1)).collect();
+    events.extend([
+        pair,
+        strategy(&[(0, SELL, 1), (1, BUY, 1)]),
+        // Known one by one, then better, behind and at the best: numbers 1 to 7.
+        leg_order(1, 0, BUY, 5, 190),
+        leg_order(2, 1, SELL, 5, 210),
+        leg_order(3, 0, SELL, 5, 211),
+        leg_order(4, 1, BUY, 5, 192),
+        leg_order(5, 0, BUY, 2, 195),
+        leg_order(6, 0, BUY, 3, 193),
+        leg_order(7, 0, BUY, 3, 195),
+        // Over leg orders that stand; the same once more.
+        strategy(&[(0, BUY, 3), (2, BUY, 2)]),
+        strategy(&[(0, SELL, 2), (1, SELL, 3)]),
+        strategy(&[(1, SELL, 7), (0, BUY, 7)]),
+        // Trades with a part of the best, with the rest, and with all, of which some rests:
+        // numbers 8 to 10.
+        leg_order(8, 0, SELL, 1, 195),
+        leg_order(8, 0, SELL, 4, 195),
+        leg_order(8, 0, SELL, 4, 193),
+        cancel(8, 10),
+        // Cancels behind the best, of the best, and of the last: 11 and 12.
+        leg_order(5, 0, BUY, 2, 199),
+        leg_order(6, 0, BUY, 2, 188),
+        cancel(1, 1),
+        cancel(5, 11),
+        cancel(6, 12),
+        // Fills by legs at two prices of each leg: 13 to 18.
+        leg_order(1, 0, BUY, 2, 196),
+        leg_order(2, 0, BUY, 9, 194),
+        leg_order(3, 1, SELL, 3, 205),
+        leg_order(4, 1, SELL, 9, 207),
+        taker(0, SELL, 1, 2),
+        taker(0, SELL, 1, 2),
+        // A day order that waits for legs: 19, and what fills it.
+        leg_order(5, 2, BUY, 4, 50),
+        state(3, 0),
+        strategy(&[(2, BUY, 1), (3, BUY, 1)]),
+        state(3, 1),
+        leg_order(5, 3, BUY, 1, 60),
+        taker(4, SELL, 0, 3),
+        leg_order(5, 3, BUY, 4, 70),
+        // A series that shuts, a cancel in it, and leg orders beside it.
+        state(0, 0),
+        cancel(2, 14),
+        leg_order(6, 1, BUY, 2, 200),
+        strategy(&[(0, BUY, 1), (2, SELL, 1)]),
+        state(0, 1),
+        // What touches no leg order.
+        Event::NationalPrices {
+            series: 0,
+            bid: 1,
+            offer: 2,
+        },
+        Event::ExecutionRange { cents: 0 },
+        Event::Clock { milliseconds: 1 },
+        // Another day.
+        Event::DayEnd { timer: 5_000 },
+        strategy(&[(0, BUY, 1), (2, SELL, 1)]),
+        state(0, 1),
+        state(1, 1),
+        leg_order(1, 0, BUY, 5, 150),
+        pair,
+        leg_order(1, 1, SELL, 5, 150),
+    ]);
+    events
+}
+
+/// Lists that end after each of those events, so that the nets are printed after each;
+/// the last leg order or cancel comes with too short a space as well (2026-05).
+pub fn nets() -> Vec<List> {
+    let mut lists = Vec::new();
+    for turned in [false, true] {
+        let events: Vec<Vec<u8>> = touches(turned).iter().map(bytes).collect();
+        let frames: Vec<&[u8]> = events.iter().map(Vec::as_slice).collect();
+        for length in 1..=frames.len() {
+            let mut calls = whole(&frames[..length - 1]);
+            calls.extend(call(frames[length - 1], SPACE - 1));
+            let short = format!("nets, turned {turned}, call {length} refused 1");
+            lists.push(made(short, calls));
+            let name = format!("nets, turned {turned}, after {length} calls");
+            lists.push(made(name, whole(&frames[..length])));
+        }
+    }
+    lists
+}
+
 /// A day as calls, whole and up to the call after which the most is live.
 fn of_day(day: &Day) -> Vec<List> {
     let bytes = day.bytes();
@@ -361,5 +495,6 @@ pub fn days() -> Vec<List> {
     days.extend(best_prices());
     days.extend(near_nets());
     days.extend(specialists());
+    days.extend(kept_nets());
     days.iter().flat_map(of_day).collect()
 }

@@ -3,9 +3,10 @@
 //! book reached.
 
 use crate::lists::{best_orders, is_passed, is_specialist_s, rests_crossed};
-use reckoning::book::{Book, BUY, SPACE};
+use reckoning::book::{Book, BUY, SELL, SPACE};
 use reckoning::calls::items;
 use reckoning::national::FRESH_RANGE;
+use reckoning::nets::ready;
 use std::collections::BTreeMap;
 use std::fmt;
 use tapes::tally::{kind_of, kinds, name_of, situations};
@@ -50,6 +51,16 @@ pub const SEEN: &[&str] = &[
     "L of a sweep that the net has passed",
     "L of an auction's starter",
     "L of an order that rests crossed",
+    "N above 0",
+    "N below 0",
+    "N beside a shut leg",
+    "N of a strategy in an auction",
+    "N of legs that are not ready",
+    "N of strategy 15",
+    "N with both known",
+    "N with both unknown",
+    "N with the bid net alone",
+    "N with the offer net alone",
     "S with a shut leg that is not the first",
     "S with every leg shut",
     "S with one shut leg",
@@ -136,10 +147,11 @@ impl Tally {
                 "R" => *self.records.entry(number(1)).or_default() += 1,
                 "L" => self.live(number(1), book),
                 "S" => self.shut(number(1), number(2), number(3), book),
+                "N" => self.nets(number(1) as u8, &words[2..], book),
                 "D" => self.depth(number(1) as u8, number(2) as u8, book),
                 _ => self.see("cut"),
             }
-            lookups |= ["L", "S", "D"].contains(&words[0]);
+            lookups |= ["L", "S", "N", "D"].contains(&words[0]);
         }
         self.see_if(!lookups, "list: every lookup is empty");
         let auctions = book.auctions.iter().flatten().count();
@@ -216,6 +228,34 @@ impl Tally {
             count > 0 && u32::from(legs[0].series) != lowest,
             "S with a shut leg that is not the first",
         );
+    }
+
+    /// The words are the bid net and the offer net.
+    fn nets(&mut self, strategy: u8, words: &[&str], book: &Book) {
+        let nets: Vec<Option<i64>> = words.iter().map(|word| word.parse().ok()).collect();
+        self.see(match nets[..] {
+            [None, None] => "N with both unknown",
+            [_, None] => "N with the bid net alone",
+            [None, _] => "N with the offer net alone",
+            _ => "N with both known",
+        });
+        let known = || nets.iter().copied().flatten();
+        self.see_if(known().any(|net| net > 0), "N above 0");
+        self.see_if(known().any(|net| net < 0), "N below 0");
+        self.see_if(
+            known().next().is_some() && !book.all_open(strategy),
+            "N beside a shut leg",
+        );
+        let unready = |side: u8| {
+            let prices = book.leg_prices(strategy, side);
+            prices.is_some_and(|prices| !ready(&prices))
+        };
+        self.see_if(
+            unready(BUY) || unready(SELL),
+            "N of legs that are not ready",
+        );
+        self.see_if(book.auction_runs(strategy), "N of a strategy in an auction");
+        self.see_if(strategy == 15, "N of strategy 15");
     }
 
     fn depth(&mut self, series: u8, side: u8, book: &Book) {

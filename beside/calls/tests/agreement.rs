@@ -6,7 +6,7 @@
 
 use calls::agree::agrees;
 use calls::hand::{
-    days, depths, ends, last_numbers, long_frames, portions, refused_sweeps, spaces,
+    days, depths, ends, last_numbers, long_frames, nets, portions, refused_sweeps, spaces,
 };
 use calls::lists::{any_frames, every_number, generated, several_days, List};
 use calls::tally::{Tally, SEEN};
@@ -92,7 +92,7 @@ fn generated_lists() {
         let count = tally.of(kind, 0);
         assert!(count >= 10_000, "accepted calls of kind {kind}: {count}");
     }
-    assert!(SITUATIONS.len() >= 219);
+    assert!(SITUATIONS.len() >= 258);
     for situation in SITUATIONS {
         let count = tally.reached(situation);
         assert!(count >= 50, "{situation}: {count}");
@@ -224,6 +224,42 @@ fn what_a_specialist_leaves_to_the_others() {
     let shared = ["by the share", "by the percentage", "by its size"];
     for situation in shared.map(|by| format!("portion: {by}")) {
         let count = tally.reached(&situation);
+        assert!(count >= 2, "{situation}: {count}");
+    }
+}
+
+#[test]
+fn nets_after_each_event_that_touches_a_leg_order() {
+    let lists = nets();
+    let tally = agreed("nets", &lists);
+    assert!(lists.len() >= 200 && tally.answered(1) >= 100);
+    for (what, least) in [
+        ("N above 0", 50),
+        ("N below 0", 50),
+        ("N beside a shut leg", 20),
+        ("N of legs that are not ready", 10),
+        ("N with both known", 50),
+        ("N with both unknown", 50),
+        ("N with the bid net alone", 50),
+        ("N with the offer net alone", 50),
+    ] {
+        let count = tally.saw(what);
+        assert!(count >= least, "{what}: {count}");
+    }
+    for situation in [
+        "nets: a definition over leg orders, both known",
+        "nets: a definition where the day before had others",
+        "nets: a turn by legs at another net than the fill before",
+        "nets: an equal definition after a change",
+        "nets: another by a cancel",
+        "nets: another by a fill by legs",
+        "nets: another by a leg order that rests",
+        "nets: another by a trade",
+        "nets: changed by a cancel in a shut series",
+        "nets: several strategies changed",
+        "nets: unknown by a cancel",
+    ] {
+        let count = tally.reached(situation);
         assert!(count >= 2, "{situation}: {count}");
     }
 }

@@ -5,7 +5,7 @@
 #![deny(warnings)]
 
 use calls::agree::{agrees, difference, reckoned};
-use calls::hand::{days, depths, ends, last_numbers, portions, refused_sweeps, spaces};
+use calls::hand::{days, depths, ends, last_numbers, nets, portions, refused_sweeps, spaces};
 use calls::lists::{generated, several_days, List};
 use std::fs;
 use std::path::Path;
@@ -97,8 +97,8 @@ const SLIPS: &[Slip] = &[
     (
         "strategy 15 left out",
         "calls.rs",
-        "for strategy in 0..STRATEGIES as u32 {",
-        "for strategy in 0..STRATEGIES as u32 - 1 {",
+        "for strategy in 0..STRATEGIES as u32 {\n        if let Ok((count, lowest))",
+        "for strategy in 0..STRATEGIES as u32 - 1 {\n        if let Ok((count, lowest))",
     ),
     // Depth.
     (
@@ -140,8 +140,8 @@ const SLIPS: &[Slip] = &[
     (
         "depth before shut legs",
         "calls.rs",
-        "    for strategy in 0..STRATEGIES as u32 {\n        if let Ok((count, lowest)) = book.shut_legs(strategy) {\n            writeln!(output, \"S {strategy} {count} {lowest}\")?;\n        }\n    }\n    let row = book.row();\n    for series in 0..u32::from(SERIES) {\n        for side in 0..2 {\n            let found = depth(&row, series, side).expect(\"the book's own row has its ranges\");\n            if let Some((price, contracts)) = found {\n                writeln!(output, \"D {series} {side} {price} {contracts}\")?;\n            }\n        }\n    }\n",
-        "    let row = book.row();\n    for series in 0..u32::from(SERIES) {\n        for side in 0..2 {\n            let found = depth(&row, series, side).expect(\"the book's own row has its ranges\");\n            if let Some((price, contracts)) = found {\n                writeln!(output, \"D {series} {side} {price} {contracts}\")?;\n            }\n        }\n    }\n    for strategy in 0..STRATEGIES as u32 {\n        if let Ok((count, lowest)) = book.shut_legs(strategy) {\n            writeln!(output, \"S {strategy} {count} {lowest}\")?;\n        }\n    }\n",
+        "    put_lookups(&book, output)?;\n    Ok(book)\n",
+        "    let mut lines = Vec::new();\n    put_lookups(&book, &mut lines)?;\n    let text = String::from_utf8_lossy(&lines);\n    let of = |kind: char| text.lines().filter(move |line| line.starts_with(kind));\n    for line in of('L').chain(of('D')).chain(of('S')).chain(of('N')) {\n        writeln!(output, \"{line}\")?;\n    }\n    Ok(book)\n",
     ),
     // Refusal 1 and the spaces.
     (
@@ -533,6 +533,217 @@ const SLIPS: &[Slip] = &[
         "    for number in book.live_numbers() {\n",
         "    let named = |number: &u32| book.entry(*number).is_some_and(|entry| book.specialists[usize::from(entry.strategy)].is_some_and(|named| named.holds(&entry)));\n    for number in book.live_numbers().into_iter().filter(|number| !named(number)) {\n",
     ),
+    // Request 2026-05.
+    (
+        "the offer net before the bid net",
+        "calls.rs",
+        "            writeln!(output, \"N {strategy} {} {}\", net(nets.bid), net(nets.offer))?;\n",
+        "            writeln!(output, \"N {strategy} {} {}\", net(nets.offer), net(nets.bid))?;\n",
+    ),
+    (
+        "an unknown net printed as 0",
+        "calls.rs",
+        "    let net = |net: Option<i64>| net.map_or(\"-\".to_string(), |cents| cents.to_string());\n",
+        "    let net = |net: Option<i64>| net.map_or(\"0\".to_string(), |cents| cents.to_string());\n",
+    ),
+    (
+        "an unknown net printed as nothing",
+        "calls.rs",
+        "    let net = |net: Option<i64>| net.map_or(\"-\".to_string(), |cents| cents.to_string());\n",
+        "    let net = |net: Option<i64>| net.map_or(String::new(), |cents| cents.to_string());\n",
+    ),
+    (
+        "a net printed without its sign",
+        "calls.rs",
+        "    let net = |net: Option<i64>| net.map_or(\"-\".to_string(), |cents| cents.to_string());\n",
+        "    let net = |net: Option<i64>| net.map_or(\"-\".to_string(), |cents| cents.abs().to_string());\n",
+    ),
+    (
+        "nets only where one is known",
+        "calls.rs",
+        "            writeln!(output, \"N {strategy} {} {}\", net(nets.bid), net(nets.offer))?;\n",
+        "            if nets.bid.is_some() || nets.offer.is_some() {\n                writeln!(output, \"N {strategy} {} {}\", net(nets.bid), net(nets.offer))?;\n            }\n",
+    ),
+    (
+        "nets only where no leg is shut",
+        "calls.rs",
+        "            writeln!(output, \"N {strategy} {} {}\", net(nets.bid), net(nets.offer))?;\n",
+        "            if book.all_open(strategy as u8) {\n                writeln!(output, \"N {strategy} {} {}\", net(nets.bid), net(nets.offer))?;\n            }\n",
+    ),
+    (
+        "nets only where no auction runs",
+        "calls.rs",
+        "            writeln!(output, \"N {strategy} {} {}\", net(nets.bid), net(nets.offer))?;\n",
+        "            if !book.auction_runs(strategy as u8) {\n                writeln!(output, \"N {strategy} {} {}\", net(nets.bid), net(nets.offer))?;\n            }\n",
+    ),
+    (
+        "nets of strategy 15 left out",
+        "calls.rs",
+        "    for strategy in 0..STRATEGIES as u32 {\n        if let Ok(nets) = book.nets(strategy) {\n",
+        "    for strategy in 0..STRATEGIES as u32 - 1 {\n        if let Ok(nets) = book.nets(strategy) {\n",
+    ),
+    (
+        "nets of strategies that are not defined",
+        "book.rs",
+        "        let held = self.strategies.get(strategy as usize).ok_or(4_u32)?;\n",
+        "        if strategy as usize == self.strategies.len() && strategy < 16 {\n            return Ok(Nets::UNKNOWN);\n        }\n        let held = self.strategies.get(strategy as usize).ok_or(4_u32)?;\n",
+    ),
+    (
+        "nets before shut legs",
+        "calls.rs",
+        "    put_lookups(&book, output)?;\n    Ok(book)\n",
+        "    let mut lines = Vec::new();\n    put_lookups(&book, &mut lines)?;\n    let text = String::from_utf8_lossy(&lines);\n    let of = |kind: char| text.lines().filter(move |line| line.starts_with(kind));\n    for line in of('L').chain(of('N')).chain(of('S')).chain(of('D')) {\n        writeln!(output, \"{line}\")?;\n    }\n    Ok(book)\n",
+    ),
+    (
+        "nets after depths",
+        "calls.rs",
+        "    put_lookups(&book, output)?;\n    Ok(book)\n",
+        "    let mut lines = Vec::new();\n    put_lookups(&book, &mut lines)?;\n    let text = String::from_utf8_lossy(&lines);\n    let of = |kind: char| text.lines().filter(move |line| line.starts_with(kind));\n    for line in of('L').chain(of('S')).chain(of('D')).chain(of('N')) {\n        writeln!(output, \"{line}\")?;\n    }\n    Ok(book)\n",
+    ),
+    (
+        "nets and shut legs in turn",
+        "calls.rs",
+        "    put_lookups(&book, output)?;\n    Ok(book)\n",
+        "    let mut lines = Vec::new();\n    put_lookups(&book, &mut lines)?;\n    let text = String::from_utf8_lossy(&lines);\n    let of = |kind: char| text.lines().filter(move |line| line.starts_with(kind));\n    let pairs = of('S').zip(of('N')).flat_map(|(shut, nets)| [shut, nets]);\n    for line in of('L').chain(pairs).chain(of('D')) {\n        writeln!(output, \"{line}\")?;\n    }\n    Ok(book)\n",
+    ),
+    (
+        "nets found anew by the checks, and those that are kept let be",
+        "nets.rs",
+        "        for strategy in self.strategies_holding(series) {\n            let held = &mut self.strategies[usize::from(strategy)];\n            let Some(leg) = held.legs.iter().find(|leg| leg.series == series) else {\n                continue;\n            };\n            // Who takes the leg on the other side takes this price.\n            let order_side = side_taken(1 - side, leg);\n            match (old, new) {\n                (Some(old), Some(new)) => {\n                    let moved = value(leg, new) - value(leg, old);\n                    let net = held.nets.taken_by(order_side);\n                    held.nets.set(order_side, net.map(|net| net + moved));\n                }\n                (None, Some(_)) => self.renew_net(strategy, order_side),\n                (_, None) => held.nets.set(order_side, None),\n            }\n        }\n    }\n\n    /// The net that an order of this side takes, as the strategy keeps it.\n    pub fn leg_net(&self, strategy: u8, order_side: u8) -> Option<i64> {\n        let held = &self.strategies[usize::from(strategy)];\n        held.nets.taken_by(order_side)\n    }\n",
+        "        self.strategies_holding(series).take(usize::from(side) + old.or(new).unwrap_or(0) as usize).count();\n    }\n\n    pub fn leg_net(&self, strategy: u8, order_side: u8) -> Option<i64> {\n        let prices = self.leg_prices(strategy, order_side)?;\n        Some(net(&prices))\n    }\n",
+    ),
+    (
+        "a leg order refused 1 that is seen in the nets",
+        "events.rs",
+        "            (first, _) => {\n",
+        "            (first, event) => {\n                if let (Some(1), Ok(Event::LegOrder { series, .. })) = (first, event) {\n                    for strategy in self.strategies_holding(series) {\n                        self.strategies[usize::from(strategy)].nets = crate::nets::Nets::UNKNOWN;\n                    }\n                }\n",
+    ),
+    (
+        "nets as their definition set them",
+        "nets.rs",
+        "        for strategy in self.strategies_holding(series) {\n            let held = &mut self.strategies[usize::from(strategy)];\n",
+        "        for strategy in self.strategies_holding(series).take(0) {\n            let held = &mut self.strategies[usize::from(strategy)];\n",
+    ),
+    (
+        "nets not set at the definition",
+        "events.rs",
+        "                self.set_nets(number as u8);\n",
+        "",
+    ),
+    (
+        "an equal definition that forgets the nets",
+        "events.rs",
+        "            Some(number) => number as u32,\n",
+        "            Some(number) => {\n                self.strategies[number].nets = crate::nets::Nets::UNKNOWN;\n                number as u32\n            }\n",
+    ),
+    (
+        "a cancel that leaves the nets",
+        "book.rs",
+        "            records.push(order.cancelled());\n            self.take_contracts(number, order.contracts);\n",
+        "            let held = self.strategies;\n            records.push(order.cancelled());\n            self.take_contracts(number, order.contracts);\n            self.strategies = held;\n",
+    ),
+    (
+        "a trade of leg orders that leaves the nets of the resting side",
+        "events.rs",
+        "                    self.take_contracts(resting.number, contracts);\n",
+        "                    let held = self.strategies;\n                    self.take_contracts(resting.number, contracts);\n                    self.strategies = held;\n",
+    ),
+    (
+        "a fill by legs that leaves the nets",
+        "passes.rs",
+        "            self.take_contracts(order.number, taken);\n",
+        "            let held = self.strategies;\n            self.take_contracts(order.number, taken);\n            self.strategies = held;\n",
+    ),
+    (
+        "a fill by legs that is seen on its first leg alone",
+        "passes.rs",
+        "        for entry in prices {\n            self.fill_leg_orders(entry, units * u32::from(entry.leg.ratio), records);\n        }\n",
+        "        for (at, entry) in prices.iter().enumerate() {\n            let held = self.strategies;\n            self.fill_leg_orders(entry, units * u32::from(entry.leg.ratio), records);\n            if at > 0 {\n                self.strategies = held;\n            }\n        }\n",
+    ),
+    (
+        "a fill by legs that is seen in its own strategy alone",
+        "passes.rs",
+        "        for entry in prices {\n            self.fill_leg_orders(entry, units * u32::from(entry.leg.ratio), records);\n        }\n",
+        "        let held = self.strategies;\n        for entry in prices {\n            self.fill_leg_orders(entry, units * u32::from(entry.leg.ratio), records);\n        }\n        for (at, held) in held.iter().enumerate() {\n            if at != usize::from(active.strategy) {\n                self.strategies[at].nets = held.nets;\n            }\n        }\n",
+    ),
+    (
+        "nets found before the fill and not after",
+        "book.rs",
+        "        let kept = &mut self.depths[usize::from(series)][usize::from(side)];\n        let old = std::mem::replace(kept, pair);\n        let price = |best: Option<Depth>| best.map(|best| best.price);\n        if price(old) != price(pair) {\n            self.renew_nets(series, side, price(old), price(pair));\n        }\n",
+        "        let old = self.depth(series, side);\n        if old.map(|best| best.price) != pair.map(|best| best.price) {\n            for strategy in self.strategies_holding(series) {\n                self.set_nets(strategy);\n            }\n        }\n        self.depths[usize::from(series)][usize::from(side)] = pair;\n",
+    ),
+    (
+        "unknown as 0 cents",
+        "nets.rs",
+        "    fn set(&mut self, order_side: u8, net: Option<i64>) {\n",
+        "    fn set(&mut self, order_side: u8, net: Option<i64>) {\n        let net = Some(net.unwrap_or(0));\n",
+    ),
+    (
+        "a net that does not become unknown",
+        "nets.rs",
+        "    fn set(&mut self, order_side: u8, net: Option<i64>) {\n",
+        "    fn set(&mut self, order_side: u8, net: Option<i64>) {\n        if net.is_none() {\n            return;\n        }\n",
+    ),
+    (
+        "the net of the other side found anew",
+        "nets.rs",
+        "            let order_side = side_taken(1 - side, leg);\n",
+        "            let order_side = side_taken(side, leg);\n",
+    ),
+    (
+        "the nets exchanged",
+        "nets.rs",
+        "            self.offer\n        } else {\n            self.bid\n",
+        "            self.bid\n        } else {\n            self.offer\n",
+    ),
+    (
+        "the first strategy that holds the series alone",
+        "nets.rs",
+        "        for strategy in self.strategies_holding(series) {\n            let held = &mut self.strategies[usize::from(strategy)];\n",
+        "        for strategy in self.strategies_holding(series).take(1) {\n            let held = &mut self.strategies[usize::from(strategy)];\n",
+    ),
+    (
+        "strategies beside a shut series left as they are",
+        "nets.rs",
+        "        for strategy in self.strategies_holding(series) {\n            let held = &mut self.strategies[usize::from(strategy)];\n",
+        "        for strategy in self.strategies_holding(series) {\n            if !self.all_open(strategy) {\n                continue;\n            }\n            let held = &mut self.strategies[usize::from(strategy)];\n",
+    ),
+    (
+        "the nets of another slot renewed",
+        "nets.rs",
+        "        for strategy in self.strategies_holding(series) {\n            let held = &mut self.strategies[usize::from(strategy)];\n",
+        "        let slots = self.strategies.len() as u8;\n        for strategy in self.strategies_holding(series).map(|strategy| (strategy ^ 1).min(slots - 1)) {\n            let held = &mut self.strategies[usize::from(strategy)];\n",
+    ),
+    (
+        "prices of shut series as missing",
+        "nets.rs",
+        "        let values = legs.map(|leg| Some(value(leg, self.leg_price(order_side, leg)?.price)));\n",
+        "        let open = |price: &LegPrice| self.is_open(price.leg.series);\n        let values = legs.map(|leg| Some(value(leg, self.leg_price(order_side, leg).filter(open)?.price)));\n",
+    ),
+    (
+        "a series that shuts makes the nets unknown",
+        "events.rs",
+        "            self.open &= !(1 << series);\n",
+        "            self.open &= !(1 << series);\n            for strategy in self.strategies_holding(series) {\n                self.strategies[usize::from(strategy)].nets = crate::nets::Nets::UNKNOWN;\n            }\n",
+    ),
+    (
+        "a net that moves the other way",
+        "nets.rs",
+        "                    let moved = value(leg, new) - value(leg, old);\n",
+        "                    let moved = value(leg, old) - value(leg, new);\n",
+    ),
+    (
+        "a net that moves and becomes known",
+        "nets.rs",
+        "                    held.nets.set(order_side, net.map(|net| net + moved));\n",
+        "                    held.nets.set(order_side, Some(net.unwrap_or(0) + moved));\n",
+    ),
+    (
+        "strategies and their nets kept over the day end",
+        "events.rs",
+        "        *self = Book::fresh(timer);\n",
+        "        let held = self.strategies;\n        *self = Book::fresh(timer);\n        self.strategies = held;\n",
+    ),
 ];
 
 /// A part of the lists that the proved program is compared on.
@@ -546,6 +757,7 @@ fn lists() -> Vec<List> {
     lists.extend(last_numbers());
     lists.extend(refused_sweeps().into_iter().step_by(5));
     lists.extend(portions());
+    lists.extend(nets());
     lists
 }
 
@@ -562,11 +774,13 @@ fn slips_in_calls_are_found() {
     let missed = missed(&folder, "calls", SLIPS, |built| {
         let mut program = Program::new(built, &[]);
         program.limit = Duration::from_secs(60);
-        agrees(&program, &lists).err().map(|different| different.to_string())
+        agrees(&program, &lists)
+            .err()
+            .map(|different| different.to_string())
     });
     assert!(missed.is_empty(), "slips not found: {missed:#?}");
     println!("slips found: {}", SLIPS.len());
-    assert!(SLIPS.len() >= 85);
+    assert!(SLIPS.len() >= 120);
 }
 
 #[test]

@@ -51,10 +51,11 @@ fn give_their_lines(request: &str, amount: usize) {
         let input: Vec<u8> = hex.lines().flat_map(call).collect();
         let printed = program.run(&input).expect("the program runs");
         let printed = String::from_utf8(printed).expect("the lines are ASCII");
-        // The depths, `D`, are not among the lines of a vector.
+        // The depths, `D`, are not among the lines of a vector, nor are the nets, `N`,
+        // before request 2026-05.
         let lines: String = printed
             .lines()
-            .filter(|line| !line.starts_with("D "))
+            .filter(|line| !line.starts_with("D ") && !line.starts_with("N "))
             .map(|line| format!("{line}\n"))
             .collect();
         assert_eq!(lines, expected, "{}", path.display());

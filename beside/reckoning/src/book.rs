@@ -2,7 +2,7 @@
 
 use crate::frames::Leg;
 use crate::national::National;
-use crate::nets::{add_slot, add_to_pair};
+use crate::nets::{add_slot, add_to_pair, Nets};
 use crate::records::Record;
 use crate::specialist::Specialist;
 use crate::table::Table;
@@ -46,9 +46,16 @@ pub struct Strategy {
     /// "The series of a strategy are a 32-bit set".
     pub series: u32,
     pub legs: Table<Leg, LEGS>,
+    /// Request 2026-05: "store the bid and offer net with each strategy".
+    pub nets: Nets,
 }
 
 impl Strategy {
+    /// Whether a definition is equal to this one: the legs alone are compared.
+    pub fn equals(&self, definition: &Strategy) -> bool {
+        self.legs == definition.legs
+    }
+
     /// Whether one of the legs is in the series.
     pub fn holds(&self, series: u8) -> bool {
         self.series >> series & 1 == 1
@@ -329,13 +336,18 @@ impl Book {
     }
 
     /// Finds the depth of a series and side whose leg orders have changed, in one
-    /// walk over them.
+    /// walk over them; at another best price the nets that take it move.
     fn renew_depth(&mut self, series: u8, side: u8) {
         let mut pair = None;
         for order in self.leg_orders_of(series, side) {
             add_to_pair(&mut pair, side, order.price, order.contracts);
         }
-        self.depths[usize::from(series)][usize::from(side)] = pair;
+        let kept = &mut self.depths[usize::from(series)][usize::from(side)];
+        let old = std::mem::replace(kept, pair);
+        let price = |best: Option<Depth>| best.map(|best| best.price);
+        if price(old) != price(pair) {
+            self.renew_nets(series, side, price(old), price(pair));
+        }
     }
 
     /// Cancels what is live under the number: one record 3, or none if nothing
@@ -381,6 +393,13 @@ impl Book {
                 Ok((shut.count_ones(), shut.trailing_zeros()))
             }
         }
+    }
+
+    /// Request 2026-05: the bid and offer net of a strategy, each known or unknown (4
+    /// if it is not defined).
+    pub fn nets(&self, strategy: u32) -> Result<Nets, u32> {
+        let held = self.strategies.get(strategy as usize).ok_or(4_u32)?;
+        Ok(held.nets)
     }
 
     /// The live leg orders as a row of order entries.

@@ -58,7 +58,8 @@ pub fn calls(input: &[u8], output: &mut impl Write) -> io::Result<Book> {
 }
 
 /// The lookups: `L` number quantity for each number with something live, rising;
-/// `S` strategy count lowest for each defined strategy; `D` series side price
+/// `S` strategy count lowest for each defined strategy; `N` strategy bid offer, the
+/// nets of each defined strategy, `-` for an unknown one; `D` series side price
 /// contracts for each series and side whose depth is not empty.
 pub fn put_lookups(book: &Book, output: &mut impl Write) -> io::Result<()> {
     for number in book.live_numbers() {
@@ -67,6 +68,12 @@ pub fn put_lookups(book: &Book, output: &mut impl Write) -> io::Result<()> {
     for strategy in 0..STRATEGIES as u32 {
         if let Ok((count, lowest)) = book.shut_legs(strategy) {
             writeln!(output, "S {strategy} {count} {lowest}")?;
+        }
+    }
+    let net = |net: Option<i64>| net.map_or("-".to_string(), |cents| cents.to_string());
+    for strategy in 0..STRATEGIES as u32 {
+        if let Ok(nets) = book.nets(strategy) {
+            writeln!(output, "N {strategy} {} {}", net(nets.bid), net(nets.offer))?;
         }
     }
     let row = book.row();

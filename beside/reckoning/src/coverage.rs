@@ -2,13 +2,13 @@
 //! generator. They play no part in any answer.
 
 use crate::book::{
-    depth, Book, Depth, Entry, LegOrder, RowEntry, BUY, DAY, DO_NOT_AUCTION, LAST_NUMBER,
-    LEG_ORDERS, SELL, STRATEGIES, SWEEPS,
+    depth, Book, Depth, Entry, LegOrder, RowEntry, BUY, DAY, DO_NOT_AUCTION, IMMEDIATE,
+    LAST_NUMBER, LEG_ORDERS, SELL, STRATEGIES, SWEEPS,
 };
 use crate::events::Answer;
 use crate::frames::{read, Event};
 use crate::national::{Bounds, FRESH_RANGE};
-use crate::nets::{net, LegPrice};
+use crate::nets::{net, LegPrice, Nets};
 use crate::passes::{meets, strictly_better, Given, Holders};
 use crate::records::{Record, AUCTION_BEGUN, AUCTION_ENDED, CANCELLED, LEG_FILL, WHOLE_FILL};
 use std::cell::{Cell, RefCell};
@@ -18,6 +18,10 @@ use std::collections::{BTreeMap, BTreeSet};
 thread_local! {
     static COUNTING: Cell<bool> = const { Cell::new(false) };
     static REACHED: RefCell<BTreeMap<&'static str, u64>> = const { RefCell::new(BTreeMap::new()) };
+    static AFTER_FILLS: Cell<Option<fn(&Book)>> = const { Cell::new(None) };
+    /// The nets of each strategy as its definition set them, and as the last day ended.
+    static DEFINED: Cell<[Nets; STRATEGIES]> = const { Cell::new([Nets::UNKNOWN; STRATEGIES]) };
+    static ENDED: Cell<[Nets; STRATEGIES]> = const { Cell::new([Nets::UNKNOWN; STRATEGIES]) };
 }
 
 /// Every situation that is counted and can occur.
@@ -108,6 +112,45 @@ pub const SITUATIONS: &[&str] = &[
     "national: both prices missing",
     "national: equal prices",
     "national: one price missing",
+    "nets: 0 after a change",
+    "nets: 15 where the net of the definition would let the sweep in",
+    "nets: a day end with known ones",
+    "nets: a definition over leg orders, both known",
+    "nets: a definition over leg orders, both unknown",
+    "nets: a definition over leg orders, one known",
+    "nets: a definition where the day before had others",
+    "nets: a fill by legs at a net that another strategy's fill changed",
+    "nets: a limit taken after a fill by legs",
+    "nets: a pass ends, its fill made the net unknown",
+    "nets: a pass ends, its fill made the net worse than the limit",
+    "nets: a series shuts, they stay known",
+    "nets: a sweep that the net of the definition would refuse",
+    "nets: a turn by legs at another net than the fill before",
+    "nets: an auction that the net of the definition would not start",
+    "nets: an equal definition after a change",
+    "nets: another by a cancel",
+    "nets: another by a fill by legs",
+    "nets: another by a leg order that rests",
+    "nets: another by a trade",
+    "nets: as before, a better leg order was filled by legs",
+    "nets: below 0 after a change",
+    "nets: both of a strategy changed",
+    "nets: changed beside a shut series",
+    "nets: changed by a cancel in a shut series",
+    "nets: kept, a cancel behind the best price",
+    "nets: kept, a cancel of one of several at the best price",
+    "nets: kept, a fill by legs with a part of the best prices",
+    "nets: kept, a leg order at the best price",
+    "nets: kept, a leg order behind the best price",
+    "nets: kept, a trade with a part of the best price",
+    "nets: known by a leg order that rests",
+    "nets: no auction where the net of the definition would start one",
+    "nets: one changed, the other unknown",
+    "nets: several strategies changed",
+    "nets: unknown at another best price",
+    "nets: unknown by a cancel",
+    "nets: unknown by a fill by legs",
+    "nets: unknown by a trade",
     "opening: a match at a bound",
     "opening: a match fills, then stops",
     "opening: a match stops above the buyer's bound",
@@ -293,11 +336,28 @@ pub fn reach_if(condition: bool, situation: &'static str) {
     }
 }
 
-/// The counts of this thread so far; they begin anew. A thread counts nothing
-/// before its first call.
+/// The counts of this thread so far; they begin anew, with another list. A thread counts
+/// nothing before its first call.
 pub fn take() -> BTreeMap<&'static str, u64> {
     COUNTING.set(true);
+    DEFINED.set([Nets::UNKNOWN; STRATEGIES]);
+    ENDED.set([Nets::UNKNOWN; STRATEGIES]);
     REACHED.with(|reached| std::mem::take(&mut *reached.borrow_mut()))
+}
+
+/// What this thread, once it counts, calls with the book after each fill and each trade
+/// of leg orders.
+pub fn call_after_fills(call: fn(&Book)) {
+    AFTER_FILLS.set(Some(call));
+}
+
+/// A fill or a trade of leg orders was made.
+pub fn filled(book: &Book) {
+    if counting() {
+        if let Some(call) = AFTER_FILLS.get() {
+            call(book);
+        }
+    }
 }
 
 /// Counts the units that were left over after the shares, rounded down.
@@ -561,21 +621,34 @@ fn count_named(before: &Book, event: &Event, answer: u32) {
 /// A turn of a pass, as it was chosen.
 pub struct Turn {
     pub holders: Holders,
+    /// Whether the pass may use legs.
+    pub legs: bool,
     /// Whether the legs fill it, at their net, or an opposite limit.
     pub by_legs: bool,
     pub price: i64,
-    /// The net of the legs that are ready, and the best opposite limit.
-    pub leg_net: Option<i64>,
+    /// The best opposite limit.
     pub whole: Option<i64>,
     pub bounds: Bounds,
 }
 
+/// The net of the legs that the turn could use, where they are ready.
+fn ready_net(book: &Book, active: &Entry, turn: &Turn) -> Option<i64> {
+    let prices = book.leg_prices(active.strategy, active.side);
+    let prices = prices.filter(|prices| turn.legs && crate::nets::ready(prices));
+    prices.map(|prices| net(&prices))
+}
+
 /// Counts what a turn of a pass chose, and how near to the bounds it fills.
-pub fn count_turn(turn: &Turn) {
-    if !counting() {
-        return;
+pub fn count_turn(book: &Book, active: &Entry, turn: &Turn) {
+    if counting() {
+        chosen(book, active, turn);
     }
-    let (legs, leg_net, whole) = (turn.by_legs, turn.leg_net, turn.whole);
+}
+
+#[cold]
+fn chosen(book: &Book, active: &Entry, turn: &Turn) {
+    let (legs, whole) = (turn.by_legs, turn.whole);
+    let leg_net = ready_net(book, active, turn);
     reach(match (turn.holders, legs) {
         (Holders::Nobody, _) => "turn: legs in a legs-only pass",
         (Holders::Shared(_), true) => "turn: legs in a shared pass",
@@ -634,7 +707,7 @@ pub fn count_stop(book: &Book, active: &Entry, turn: &Turn, filled: bool) {
     let taken = |price: i64| meets(side, i64::from(active.limit), price);
     let by_legs = |net: i64| taken(net) && bounds.allow(side, net);
     reach_if(
-        !turn.by_legs && turn.leg_net.is_some_and(by_legs),
+        !turn.by_legs && ready_net(book, active, turn).is_some_and(by_legs),
         "stop: the legs could fill",
     );
     let mut others = book.entries_of(active.strategy).filter(|e| e.side != side);
@@ -1198,6 +1271,313 @@ fn count_net_moves(before: &Book, event: &Event, after: &Book) {
     }
 }
 
+/// The nets that the book keeps for the strategy.
+fn kept(book: &Book, strategy: u8) -> Nets {
+    book.strategies[usize::from(strategy)].nets
+}
+
+/// Counts a definition of this number and the nets that it set, and remembers them; and
+/// a day end with the nets before it (2026-05).
+fn count_set_nets(before: &Book, event: &Event, number: u32, after: &Book) {
+    if let Event::DayEnd { .. } = event {
+        let mut ended = [Nets::UNKNOWN; STRATEGIES];
+        for (nets, held) in ended.iter_mut().zip(before.strategies.iter()) {
+            *nets = held.nets;
+        }
+        reach_if(
+            ended.iter().any(|nets| *nets != Nets::UNKNOWN),
+            "nets: a day end with known ones",
+        );
+        return ENDED.set(ended);
+    }
+    if !matches!(event, Event::Strategy { .. }) {
+        return;
+    }
+    let at = number as usize;
+    let nets = kept(after, number as u8);
+    let mut defined = DEFINED.get();
+    if at < before.strategies.len() {
+        return reach_if(
+            nets != defined[at],
+            "nets: an equal definition after a change",
+        );
+    }
+    defined[at] = nets;
+    DEFINED.set(defined);
+    let ended = ENDED.get()[at];
+    reach_if(
+        ended != Nets::UNKNOWN && ended != nets,
+        "nets: a definition where the day before had others",
+    );
+    let held = after.strategies[at];
+    if (after.leg_orders.iter()).any(|order| held.holds(order.series)) {
+        reach(match (nets.bid, nets.offer) {
+            (None, None) => "nets: a definition over leg orders, both unknown",
+            (Some(_), Some(_)) => "nets: a definition over leg orders, both known",
+            _ => "nets: a definition over leg orders, one known",
+        });
+    }
+}
+
+/// Counts an order or sweep that the net of its definition would judge otherwise than
+/// the net of now (2026-05).
+fn count_checked(before: &Book, event: &Event, answer: &Answer) {
+    let defined = |strategy: u8| DEFINED.get()[usize::from(strategy)];
+    let betters = |net: Option<i64>, side, limit| net.map(|net| cents_better(side, limit, net) > 0);
+    match *event {
+        Event::Complex {
+            strategy,
+            side,
+            class: 1 | 2,
+            life: DAY | IMMEDIATE,
+            limit,
+            ..
+        } if answer.answer == 0 && before.all_open(strategy) && !before.auction_runs(strategy) => {
+            let by_definition = betters(defined(strategy).taken_by(1 - side), side, limit);
+            let would_start = by_definition == Some(true);
+            let starts = answer.records.iter().any(|r| r.kind == AUCTION_BEGUN);
+            reach_if(
+                starts && !would_start,
+                "nets: an auction that the net of the definition would not start",
+            );
+            reach_if(
+                !starts && would_start,
+                "nets: no auction where the net of the definition would start one",
+            );
+        }
+        Event::Sweep {
+            strategy,
+            side,
+            units: 1..,
+            limit,
+            ..
+        } if [0, 15].contains(&answer.answer) => {
+            let by_definition = betters(defined(strategy).taken_by(1 - side), side, limit);
+            let would_refuse = by_definition == Some(false);
+            reach_if(
+                answer.answer == 15 && !would_refuse,
+                "nets: 15 where the net of the definition would let the sweep in",
+            );
+            reach_if(
+                answer.answer == 0 && would_refuse,
+                "nets: a sweep that the net of the definition would refuse",
+            );
+        }
+        _ => {}
+    }
+}
+
+/// What touched leg orders in an event.
+#[derive(Clone, Copy, PartialEq, Eq)]
+enum Touch {
+    Rest,
+    Trade,
+    FillByLegs,
+    Cancel,
+    /// A leg order that rests after trades, or whose rest is filled by legs.
+    Several,
+}
+
+/// What touched leg orders in an event other than a day end; nothing where none changed.
+fn touch(before: &Book, event: &Event, answer: &Answer, after: &Book) -> Option<Touch> {
+    if before.leg_orders == after.leg_orders {
+        return None;
+    }
+    let whole_fills = answer.records.iter().any(|r| r.kind == WHOLE_FILL);
+    let rests = after.live(answer.value) > 0;
+    Some(match event {
+        Event::Cancel { .. } => Touch::Cancel,
+        Event::LegOrder { .. } => match (answer.records.is_empty(), whole_fills, rests) {
+            (true, _, _) => Touch::Rest,
+            (false, false, false) => Touch::Trade,
+            _ => Touch::Several,
+        },
+        _ => Touch::FillByLegs,
+    })
+}
+
+/// Counts how an event other than a day end changed the nets that are kept (2026-05).
+fn count_kept_nets(before: &Book, event: &Event, answer: &Answer, after: &Book) {
+    let known = |strategy: &u8| kept(before, *strategy) != Nets::UNKNOWN;
+    if let Event::Series { series, state: 0 } = *event {
+        reach_if(
+            before.is_open(series) && before.strategies_holding(series).any(|s| known(&s)),
+            "nets: a series shuts, they stay known",
+        );
+    }
+    let Some(touch) = touch(before, event, answer, after) else {
+        return;
+    };
+    let mut changed = 0;
+    for strategy in 0..before.strategies.len() as u8 {
+        let (old, new) = (kept(before, strategy), kept(after, strategy));
+        if old == new {
+            continue;
+        }
+        changed += 1;
+        for side in [BUY, SELL] {
+            count_change(old.taken_by(side), new.taken_by(side), touch);
+        }
+        let both = old.bid != new.bid && old.offer != new.offer;
+        reach_if(both, "nets: both of a strategy changed");
+        let other_unknown = |old: Option<i64>, new: Option<i64>| old.is_none() && new.is_none();
+        reach_if(
+            other_unknown(old.bid, new.bid) || other_unknown(old.offer, new.offer),
+            "nets: one changed, the other unknown",
+        );
+        if !after.all_open(strategy) {
+            let touched = |series: u8| {
+                [BUY, SELL]
+                    .iter()
+                    .any(|side| before.depth(series, *side) != after.depth(series, *side))
+            };
+            let mut legs = after.legs(strategy).iter();
+            let shut = legs.any(|leg| touched(leg.series) && !after.is_open(leg.series));
+            reach(match shut {
+                true => "nets: changed by a cancel in a shut series",
+                false => "nets: changed beside a shut series",
+            });
+        }
+    }
+    reach_if(changed > 1, "nets: several strategies changed");
+    count_unchanged(before, event, answer, after, touch);
+}
+
+/// Counts one net before and after it was touched.
+fn count_change(old: Option<i64>, new: Option<i64>, touch: Touch) {
+    let situation = match (old, new, touch) {
+        (None, Some(_), _) => "nets: known by a leg order that rests",
+        (Some(_), None, Touch::Trade) => "nets: unknown by a trade",
+        (Some(_), None, Touch::FillByLegs) => "nets: unknown by a fill by legs",
+        (Some(_), None, Touch::Cancel) => "nets: unknown by a cancel",
+        (Some(old), Some(new), _) if old == new => return,
+        (Some(_), Some(_), Touch::Rest) => "nets: another by a leg order that rests",
+        (Some(_), Some(_), Touch::Trade) => "nets: another by a trade",
+        (Some(_), Some(_), Touch::FillByLegs) => "nets: another by a fill by legs",
+        (Some(_), Some(_), Touch::Cancel) => "nets: another by a cancel",
+        _ => return,
+    };
+    reach(situation);
+    reach_if(new == Some(0), "nets: 0 after a change");
+    reach_if(
+        new.is_some_and(|net| net < 0),
+        "nets: below 0 after a change",
+    );
+}
+
+/// Counts nets that stay as they are while leg orders of their strategy change.
+fn count_unchanged(before: &Book, event: &Event, answer: &Answer, after: &Book, touch: Touch) {
+    for strategy in 0..before.strategies.len() as u8 {
+        let nets = kept(after, strategy);
+        if kept(before, strategy) != nets {
+            continue;
+        }
+        for leg in after.legs(strategy) {
+            for side in [BUY, SELL] {
+                let (old, new) = (
+                    before.depth(leg.series, side),
+                    after.depth(leg.series, side),
+                );
+                let orders = |book: &Book| book.leg_orders_of(leg.series, side).count();
+                let price = |best: Option<Depth>| best.map(|best| best.price);
+                if price(old) != price(new) {
+                    reach("nets: unknown at another best price");
+                } else if nets == Nets::UNKNOWN {
+                    continue;
+                } else if old == new && orders(before) != orders(after) {
+                    match touch {
+                        Touch::Rest => reach("nets: kept, a leg order behind the best price"),
+                        Touch::Cancel => reach("nets: kept, a cancel behind the best price"),
+                        _ => {}
+                    }
+                } else if old != new {
+                    reach(match touch {
+                        Touch::Rest => "nets: kept, a leg order at the best price",
+                        Touch::Cancel => "nets: kept, a cancel of one of several at the best price",
+                        Touch::Trade => "nets: kept, a trade with a part of the best price",
+                        _ => "nets: kept, a fill by legs with a part of the best prices",
+                    });
+                }
+            }
+        }
+        if let Event::LegOrder {
+            series,
+            side,
+            price,
+            ..
+        } = *event
+        {
+            let best = before.depth(series, side);
+            let better = best.is_none_or(|best| {
+                strictly_better(1 - side, i64::from(price), i64::from(best.price))
+            });
+            let filled = answer.records.iter().any(|r| r.kind == WHOLE_FILL);
+            reach_if(
+                better && filled && after.live(answer.value) == 0 && nets != Nets::UNKNOWN,
+                "nets: as before, a better leg order was filled by legs",
+            );
+        }
+    }
+}
+
+/// Counts fills by legs that read a net which a fill of the same event changed (2026-05).
+fn count_reread(before: &Book, event: &Event, answer: &Answer, after: &Book, fills: &[Fill]) {
+    for pair in fills.windows(2) {
+        let [first, second] = pair else { continue };
+        if first.active != second.active || first.other.is_some() {
+            continue;
+        }
+        reach_if(
+            second.other.is_none() && first.price != second.price,
+            "nets: a turn by legs at another net than the fill before",
+        );
+        reach_if(
+            second.other.is_some(),
+            "nets: a limit taken after a fill by legs",
+        );
+    }
+    match *event {
+        Event::Complex {
+            strategy,
+            side,
+            limit,
+            ..
+        } if fills.last().is_some_and(|fill| fill.other.is_none()) => {
+            let number = answer.value as i32;
+            let cancelled = |r: &Record| r.kind == CANCELLED && r.number == number;
+            if after.live(answer.value) == 0 && !answer.records.iter().any(cancelled) {
+                return;
+            }
+            match kept(after, strategy).taken_by(side) {
+                None => reach("nets: a pass ends, its fill made the net unknown"),
+                Some(net) => reach_if(
+                    !meets(side, i64::from(limit), net),
+                    "nets: a pass ends, its fill made the net worse than the limit",
+                ),
+            }
+        }
+        // No leg order comes in these, so what moved a net was a fill.
+        Event::Series { .. } | Event::Clock { .. } => {
+            let by_legs = |fill: &&Fill| fill.other.is_none();
+            for (at, fill) in fills.iter().enumerate().filter(|(_, fill)| by_legs(fill)) {
+                let strategy = fill.strategy as u8;
+                let other = |earlier: &Fill| earlier.strategy != fill.strategy;
+                let own = |earlier: &Fill| earlier.strategy == fill.strategy;
+                let mut earlier = fills[..at].iter().filter(by_legs);
+                let side = before.entry(fill.active).map_or(BUY, |entry| entry.side);
+                let net = kept(before, strategy).taken_by(side);
+                reach_if(
+                    earlier.clone().any(other)
+                        && !earlier.any(own)
+                        && net != Some(i64::from(fill.price)),
+                    "nets: a fill by legs at a net that another strategy's fill changed",
+                );
+            }
+        }
+        _ => {}
+    }
+}
+
 /// Counts the situations of one event, from the book before it and after it, and its
 /// answer: of a refused one those of a sweep or of kind 11.
 pub fn observe(before: &Book, frame: &[u8], answer: &Answer, after: &Book) {
@@ -1206,8 +1586,13 @@ pub fn observe(before: &Book, frame: &[u8], answer: &Answer, after: &Book) {
     };
     count_sweep(before, &event, answer.answer);
     count_named(before, &event, answer.answer);
+    count_checked(before, &event, answer);
     if answer.answer != 0 {
         return;
+    }
+    count_set_nets(before, &event, answer.value, after);
+    if !matches!(event, Event::DayEnd { .. }) {
+        count_kept_nets(before, &event, answer, after);
     }
     if !matches!(event, Event::Clock { .. }) {
         count_net_moves(before, &event, after);
@@ -1225,6 +1610,7 @@ pub fn observe(before: &Book, frame: &[u8], answer: &Answer, after: &Book) {
         fills_made.windows(2).any(by_legs_again),
         "legs: a pass goes on at the next prices",
     );
+    count_reread(before, &event, answer, after, &fills_made);
     match event {
         Event::Strategy { .. } => {
             let equal = (answer.value as usize) < before.strategies.len();

@@ -2,11 +2,11 @@
 //! of request 2026-01; refusal 15 of request 2026-03; kind 11 of request 2026-04.
 
 use crate::book::{
-    Auction, Book, Entry, LegOrder, BROKER_DEALER, BUY, COMPLEX_ORDERS, CUSTOMER, DAY,
+    Auction, Book, Entry, LegOrder, Strategy, BROKER_DEALER, BUY, COMPLEX_ORDERS, CUSTOMER, DAY,
     DO_NOT_AUCTION, IMMEDIATE, LAST_NUMBER, LEG_ORDERS, RECORDS, RESPONSE, SELL, SPACE, STRATEGIES,
     SWEEPS,
 };
-use crate::coverage::count_opening_pair;
+use crate::coverage::{count_opening_pair, filled};
 use crate::frames::{read, Event, Leg};
 use crate::national::crossed;
 use crate::nets::{normal, refused_5};
@@ -197,7 +197,7 @@ impl Book {
         if refused_5(legs) {
             causes.add(5);
         }
-        if self.strategies.len() >= STRATEGIES && !self.strategies.contains(&normal(legs)) {
+        if self.strategies.len() >= STRATEGIES && self.held(&normal(legs)).is_none() {
             causes.add(12);
         }
     }
@@ -342,15 +342,22 @@ impl Book {
         }
     }
 
+    /// The number of the held strategy that the definition is equal to.
+    fn held(&self, definition: &Strategy) -> Option<usize> {
+        (self.strategies.iter()).position(|held| held.equals(definition))
+    }
+
     /// "an equal one answers its old number and takes no slot, else the next
     /// number from 0".
     fn define(&mut self, legs: &[Leg]) -> u32 {
         let strategy = normal(legs);
-        match self.strategies.iter().position(|held| *held == strategy) {
+        match self.held(&strategy) {
             Some(number) => number as u32,
             None => {
+                let number = self.strategies.len();
                 self.strategies.push(strategy);
-                self.strategies.len() as u32 - 1
+                self.set_nets(number as u8);
+                number as u32
             }
         }
     }
@@ -455,6 +462,7 @@ impl Book {
                     }
                     incoming.contracts -= contracts;
                     self.take_contracts(resting.number, contracts);
+                    filled(self);
                 }
                 _ => break,
             }

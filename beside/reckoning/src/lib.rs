@@ -1,5 +1,5 @@
 //! A second implementation of the complex book of document 01 with requests
-//! 2026-01 to 2026-04 of document 02, written for comparison with the engine:
+//! 2026-01 to 2026-05 of document 02, written for comparison with the engine:
 //! plain structures, one function per sentence.
 
 #![forbid(unsafe_code)]

@@ -1,7 +1,7 @@
 //! Document 01, "Strategies and nets"; request 2026-02, "Best price and its
-//! contracts together".
+//! contracts together"; request 2026-05, "Leg nets kept in the strategy".
 
-use crate::book::{Book, Depth, RowEntry, Strategy, BUY, LEGS};
+use crate::book::{Book, Depth, RowEntry, Strategy, BUY, LEGS, SELL};
 use crate::frames::Leg;
 use crate::table::Table;
 use std::cmp::Ordering;
@@ -33,6 +33,7 @@ pub fn normal(legs: &[Leg]) -> Strategy {
     Strategy {
         series: series_set(&legs),
         legs,
+        nets: Nets::UNKNOWN,
     }
 }
 
@@ -97,40 +98,126 @@ pub struct LegPrice {
     pub contracts: u32,
 }
 
-impl Book {
-    /// The best prices that an order of this side takes leg by leg: "Offer net
-    /// takes offers for buy legs, bids for sell legs; bid net the reverse;
-    /// unknown if a price is missing."
-    pub fn leg_prices(&self, strategy: u8, order_side: u8) -> Option<Table<LegPrice, LEGS>> {
-        let mut prices = Table::default();
-        for leg in self.legs(strategy) {
-            let side = side_taken(order_side, leg);
-            let best = self.depth(leg.series, 1 - side)?;
-            prices.push(LegPrice {
-                leg: *leg,
-                side,
-                price: best.price,
-                contracts: best.contracts,
-            });
+/// What a leg adds to a net at this price: ratio × price of a buy leg, less it of a sell
+/// leg.
+fn value(leg: &Leg, price: u32) -> i64 {
+    let value = i64::from(leg.ratio) * i64::from(price);
+    if leg.side == BUY {
+        value
+    } else {
+        -value
+    }
+}
+
+/// Request 2026-05: the "bid and offer net" that a strategy keeps; none is the "mark for
+/// unknown".
+#[derive(Clone, Copy, Debug, Default, PartialEq, Eq)]
+pub struct Nets {
+    pub bid: Option<i64>,
+    pub offer: Option<i64>,
+}
+
+impl Nets {
+    /// Both are unknown.
+    pub const UNKNOWN: Nets = Nets {
+        bid: None,
+        offer: None,
+    };
+
+    /// The net that an order of this side takes: the offer net for a buy, the bid net for
+    /// a sell.
+    pub fn taken_by(&self, order_side: u8) -> Option<i64> {
+        if order_side == BUY {
+            self.offer
+        } else {
+            self.bid
         }
-        Some(prices)
     }
 
-    /// The net that an order of this side takes: the offer net for a buy, the
-    /// bid net for a sell.
+    fn set(&mut self, order_side: u8, net: Option<i64>) {
+        if order_side == BUY {
+            self.offer = net;
+        } else {
+            self.bid = net;
+        }
+    }
+}
+
+impl Book {
+    /// The best price that an order of this side takes on a leg: "Offer net takes offers
+    /// for buy legs, bids for sell legs; bid net the reverse; unknown if a price is
+    /// missing."
+    fn leg_price(&self, order_side: u8, leg: &Leg) -> Option<LegPrice> {
+        let side = side_taken(order_side, leg);
+        let best = self.depth(leg.series, 1 - side)?;
+        Some(LegPrice {
+            leg: *leg,
+            side,
+            price: best.price,
+            contracts: best.contracts,
+        })
+    }
+
+    /// The best prices that an order of this side takes leg by leg.
+    pub fn leg_prices(&self, strategy: u8, order_side: u8) -> Option<Table<LegPrice, LEGS>> {
+        let legs = self.legs(strategy).iter();
+        legs.map(|leg| self.leg_price(order_side, leg)).collect()
+    }
+
+    /// Finds a net of a strategy from the best prices of its legs, and keeps it.
+    fn renew_net(&mut self, strategy: u8, order_side: u8) {
+        let legs = self.legs(strategy).iter();
+        let values = legs.map(|leg| Some(value(leg, self.leg_price(order_side, leg)?.price)));
+        let net: Option<i64> = values.sum();
+        let held = &mut self.strategies[usize::from(strategy)];
+        held.nets.set(order_side, net);
+    }
+
+    /// "Defining a strategy sets them."
+    pub fn set_nets(&mut self, strategy: u8) {
+        for order_side in [BUY, SELL] {
+            self.renew_net(strategy, order_side);
+        }
+    }
+
+    /// "Each event that touches a leg order keeps them true after each fill": the best bid
+    /// or offer of the series has another price, or none. The one net of each strategy
+    /// holding it that takes the price moves with it; where there was none before, it is
+    /// found from all legs.
+    pub fn renew_nets(&mut self, series: u8, side: u8, old: Option<u32>, new: Option<u32>) {
+        for strategy in self.strategies_holding(series) {
+            let held = &mut self.strategies[usize::from(strategy)];
+            let Some(leg) = held.legs.iter().find(|leg| leg.series == series) else {
+                continue;
+            };
+            // Who takes the leg on the other side takes this price.
+            let order_side = side_taken(1 - side, leg);
+            match (old, new) {
+                (Some(old), Some(new)) => {
+                    let moved = value(leg, new) - value(leg, old);
+                    let net = held.nets.taken_by(order_side);
+                    held.nets.set(order_side, net.map(|net| net + moved));
+                }
+                (None, Some(_)) => self.renew_net(strategy, order_side),
+                (_, None) => held.nets.set(order_side, None),
+            }
+        }
+    }
+
+    /// The net that an order of this side takes, as the strategy keeps it.
     pub fn leg_net(&self, strategy: u8, order_side: u8) -> Option<i64> {
-        self.leg_prices(strategy, order_side)
-            .map(|prices| net(&prices))
+        let held = &self.strategies[usize::from(strategy)];
+        held.nets.taken_by(order_side)
     }
 
     /// "Offer net takes offers for buy legs, bids for sell legs".
     pub fn offer_net(&self, strategy: u8) -> Option<i64> {
-        self.leg_net(strategy, 0)
+        self.leg_net(strategy, BUY)
     }
 
     /// "bid net the reverse".
     pub fn bid_net(&self, strategy: u8) -> Option<i64> {
-        self.leg_net(strategy, 1)
+        self.leg_net(strategy, SELL)
     }
 }
 
@@ -139,14 +226,7 @@ impl Book {
 pub fn net(prices: &[LegPrice]) -> i64 {
     prices
         .iter()
-        .map(|entry| {
-            let value = i64::from(entry.leg.ratio) * i64::from(entry.price);
-            if entry.leg.side == BUY {
-                value
-            } else {
-                -value
-            }
-        })
+        .map(|entry| value(&entry.leg, entry.price))
         .sum()
 }
 

@@ -1,12 +1,13 @@
 //! Document 01, "Passes", within the bounds of request 2026-01, with the specialist's
-//! portion of request 2026-04.
+//! portion of request 2026-04. The leg net is the one that the strategy keeps by request
+//! 2026-05.
 
-use crate::book::{Book, Entry, BUY, COMPLEX_ORDERS, DAY, ENTRIES};
+use crate::book::{Book, Entry, BUY, COMPLEX_ORDERS, DAY, ENTRIES, LEGS};
 use crate::coverage::{
     count_allotment, count_leftover, count_leg_fill, count_specialist, count_stop, count_turn,
-    count_unready, Turn,
+    count_unready, filled, Turn,
 };
-use crate::nets::{net, ready, side_taken, LegPrice};
+use crate::nets::{ready, side_taken, LegPrice};
 use crate::records::{Record, LEG_FILL, WHOLE_FILL};
 use crate::specialist::Specialist;
 use crate::table::Table;
@@ -153,6 +154,28 @@ impl Book {
         }
     }
 
+    /// The leg net, with the prices of the legs, where a turn takes it: "if the legs
+    /// are ready and it is strictly better for the active order or no opposite
+    /// limit stands". The legs are looked at only if the net that is kept is so and
+    /// meets the order's limit: where it does not, no worse opposite limit does.
+    fn legs_taken(
+        &self,
+        active: &Entry,
+        whole: Option<i64>,
+    ) -> Option<(i64, Table<LegPrice, LEGS>)> {
+        let net = self.leg_net(active.strategy, active.side)?;
+        let better = whole.is_none_or(|price| strictly_better(active.side, net, price));
+        if !better || !meets(active.side, i64::from(active.limit), net) {
+            return None;
+        }
+        let prices = self.leg_prices(active.strategy, active.side)?;
+        if !ready(&prices) {
+            count_unready(self, active, &prices);
+            return None;
+        }
+        Some((net, prices))
+    }
+
     /// "A pass fills one active order. Repeat while units of it remain: take
     /// the best opposite limit in the strategy, or the leg net […] if the legs
     /// are ready and it is strictly better for the active order or no opposite
@@ -171,25 +194,13 @@ impl Book {
             } else {
                 self.best_opposite(&active).map(i64::from)
             };
-            let prices = if legs {
-                self.leg_prices(active.strategy, active.side)
+            let taken = if legs {
+                self.legs_taken(&active, whole)
             } else {
                 None
             };
-            let prices = prices.as_deref().filter(|prices| {
-                let ready = ready(prices);
-                if !ready {
-                    count_unready(self, &active, prices);
-                }
-                ready
-            });
-            let leg_net = prices.map(net);
-            let leg_turn = leg_net.filter(|net| match whole {
-                None => true,
-                Some(price) => strictly_better(active.side, *net, price),
-            });
-            let by_legs = leg_turn.is_some();
-            let Some(price) = leg_turn.or(whole) else {
+            let by_legs = taken.is_some();
+            let Some(price) = taken.as_ref().map(|(net, _)| *net).or(whole) else {
                 return;
             };
             if !meets(active.side, limit, price) {
@@ -204,9 +215,9 @@ impl Book {
             };
             let turn = Turn {
                 holders,
+                legs,
                 by_legs,
                 price,
-                leg_net,
                 whole,
                 bounds,
             };
@@ -214,10 +225,10 @@ impl Book {
                 count_stop(self, &active, &turn, records.len() > first);
                 return;
             }
-            count_turn(&turn);
-            match prices {
-                Some(prices) if by_legs => self.leg_fill(&active, prices, records),
-                _ => self.whole_turn(&active, price, holders, records),
+            count_turn(self, &active, &turn);
+            match taken {
+                Some((net, prices)) => self.leg_fill(&active, net, &prices, records),
+                None => self.whole_turn(&active, price, holders, records),
             }
         }
     }
@@ -240,7 +251,13 @@ impl Book {
     /// divided by ratio, rounded down".
     /// Records: the active order's whole fill, its leg fills by leg, then the
     /// leg orders' leg fills.
-    fn leg_fill(&mut self, active: &Entry, prices: &[LegPrice], records: &mut Vec<Record>) {
+    fn leg_fill(
+        &mut self,
+        active: &Entry,
+        net: i64,
+        prices: &[LegPrice],
+        records: &mut Vec<Record>,
+    ) {
         let units = prices
             .iter()
             .map(|entry| entry.contracts / u32::from(entry.leg.ratio))
@@ -252,7 +269,7 @@ impl Book {
             active.strategy,
             active.side,
             units,
-            net(prices),
+            net,
         ));
         for entry in prices {
             records.push(Record::new(
@@ -268,6 +285,7 @@ impl Book {
             self.fill_leg_orders(entry, units * u32::from(entry.leg.ratio), records);
         }
         self.take_units(active.number, units);
+        filled(self);
     }
 
     /// "leg orders at one price go by number." Those at the best price hold
@@ -320,6 +338,7 @@ impl Book {
             }
             self.take_units(number, units);
         }
+        filled(self);
     }
 
     /// The legs-only passes after a leg order or an opening: "each day order by

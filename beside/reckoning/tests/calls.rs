@@ -122,6 +122,8 @@ fn the_lookups_after_a_list() {
             "L 9 6",
             "S 0 0 32",
             "S 1 2 5",
+            "N 0 200 -",
+            "N 1 - -",
             "D 0 0 300 9",
             "D 0 1 305 7",
             "D 1 1 100 8",
@@ -134,7 +136,7 @@ fn the_lookups_after_a_list() {
     let text = printed(&events(&list));
     let lookups = text.split_once("R 5 8 0 0 0 0\n").expect("the end").1;
     assert!(lookups.starts_with("L 1 5\n") && !lookups.contains("L 9"));
-    assert!(lookups.contains("L 8 10\nS 0 1 0\nS 1 2 5\nD 0 0 300 9\n"));
+    assert!(lookups.contains("L 8 10\nS 0 1 0\nS 1 2 5\nN 0 200 -\nN 1 - -\nD 0 0 300 9\n"));
 }
 
 #[test]
@@ -212,6 +214,7 @@ fn an_input_cut_after_each_byte() {
         }
         if whole >= 5 {
             expected.push("S 0 1 1");
+            expected.push("N 0 - -");
         }
         if whole >= 3 {
             expected.push("D 0 0 300 5");

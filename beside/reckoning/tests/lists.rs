@@ -151,9 +151,9 @@ impl Reached {
                     assert!(!(1..=3).contains(&record.kind) || record.quantity > 0);
                 }
             }
-        }
-        for (situation, count) in coverage::take() {
-            *self.situations.entry(situation).or_default() += count;
+            for (situation, count) in coverage::take() {
+                *self.situations.entry(situation).or_default() += count;
+            }
         }
     }
 

@@ -1,7 +1,7 @@
 //! Days made by hand: ends of the input, long frames, full tables, numbers at the
 //! ends of their ranges, fills at the bounds of the execution range, fills by the
-//! contracts of a best price, sweeps near the net of their side, and specialists'
-//! portions.
+//! contracts of a best price, sweeps near the net of their side, specialists'
+//! portions, and the nets that strategies keep.
 
 use crate::days::Day;
 use reckoning::book::{Book, COMPLEX_ORDERS, LEG_ORDERS, SPACE, STRATEGIES, SWEEPS};
@@ -1253,4 +1253,431 @@ fn specialist_tables() -> Day {
         }
     }
     day("full tables with a specialist", &made.events)
+}
+
+impl Made {
+    /// A day with a timer of 1 ms, all series open, and these strategies.
+    fn asked(list: &[&[(u8, u8, u8)]]) -> Made {
+        let mut made = Made {
+            events: Vec::new(),
+            book: Book::first(),
+        };
+        made.next_day();
+        for legs in list {
+            made.push(strategy(legs));
+        }
+        made
+    }
+
+    /// A day end, and all series open.
+    fn next_day(&mut self) {
+        self.push(day_end(1));
+        (0..32).for_each(|number| self.push(series(number, 1)));
+    }
+
+    /// The net that an order of this side takes in a strategy.
+    fn net_taken(&self, of: u8, side: u8) -> Option<i32> {
+        self.book.leg_net(of, side).map(|net| net as i32)
+    }
+
+    /// Customers in each strategy and on each side, at the net of their side and a cent
+    /// better: what starts an auction tells the net. Where it is unknown none does, a cent
+    /// worse than the other net, or anywhere.
+    fn ask(&mut self) {
+        for of in 0..self.book.strategies.len() as u8 {
+            for side in [BUY, SELL] {
+                let better = if side == BUY { 1 } else { -1 };
+                let own = self.net_taken(of, 1 - side);
+                let other = self.net_taken(of, side);
+                let limits = match (own, other) {
+                    (Some(net), _) => [net, net + better],
+                    (None, Some(net)) => [net - better, net - 2 * better],
+                    (None, None) => [better, 9_999_999 * better],
+                };
+                for limit in limits {
+                    self.order_in(of, side, CUSTOMER, IMMEDIATE, 1, limit);
+                    if self.book.auction_runs(of) {
+                        self.end();
+                    }
+                }
+            }
+        }
+    }
+
+    fn order_in(&mut self, of: u8, side: u8, class: u8, life: u8, units: u16, limit: i32) {
+        self.push(Event::Complex {
+            member: 9,
+            strategy: of,
+            side,
+            class,
+            life,
+            units,
+            limit,
+        });
+    }
+
+    /// The event, and then the nets are asked for. Answers the last number that was given
+    /// before.
+    fn then_ask(&mut self, event: Event) -> u32 {
+        self.push(event);
+        let number = self.book.given;
+        self.ask();
+        number
+    }
+
+    /// The leg orders of one side of a series go.
+    fn clear_side(&mut self, series: u8, side: u8) {
+        let held: Vec<_> = self.book.leg_orders_of(series, side).copied().collect();
+        for order in held {
+            self.push(cancel(order.member, order.number));
+        }
+    }
+
+    /// All leg orders go.
+    fn clear_all(&mut self) {
+        (0..32).for_each(|series| self.clear(series));
+    }
+
+    /// The series of the held strategies, rising.
+    fn held_series(&self) -> Vec<u8> {
+        let set = (self.book.strategies.iter()).fold(0, |set, held| set | held.series);
+        (0..32).filter(|series| set >> series & 1 == 1).collect()
+    }
+
+    /// In each series a bid of 290 and an offer of 310.
+    fn wide_market(&mut self) {
+        for series in self.held_series() {
+            self.push(leg_order(1, series, BUY, 90, 290));
+            self.push(leg_order(1, series, SELL, 90, 310));
+        }
+    }
+}
+
+/// Lists of strategies that share series.
+fn sharing() -> Vec<Vec<Vec<(u8, u8, u8)>>> {
+    let many = (0..16_u8).map(|number| {
+        vec![
+            (number % 4, number / 4 % 2, 1 + number % 3),
+            (4 + number / 8, number % 2, 1 + number / 6),
+        ]
+    });
+    vec![
+        vec![PAIR.to_vec()],
+        vec![
+            PAIR.to_vec(),
+            vec![(0, SELL, 1), (1, BUY, 1)],
+            vec![(0, BUY, 3), (2, BUY, 2)],
+            vec![(1, SELL, 1), (2, SELL, 3)],
+        ],
+        vec![vec![(0, SELL, 2), (1, SELL, 3), (31, BUY, 1)]],
+        vec![six_legs(3), six_legs(6)],
+        many.collect(),
+    ]
+}
+
+fn lists_of(strategies: &[Vec<(u8, u8, u8)>]) -> Vec<&[(u8, u8, u8)]> {
+    strategies.iter().map(Vec::as_slice).collect()
+}
+
+/// Days that ask for the nets after each event that touches a leg order (2026-05).
+pub fn kept_nets() -> Vec<Day> {
+    let mut days = Vec::new();
+    for strategies in sharing() {
+        days.push(touched_nets(&strategies));
+    }
+    for side in [BUY, SELL] {
+        days.push(nets_in_passes(side));
+        days.push(nets_of_waiting_orders(side));
+        days.push(nets_at_auction_ends(side));
+    }
+    days.push(nets_of_definitions());
+    days.push(nets_beside_shut_series());
+    days.push(nets_around_0());
+    days.push(largest_nets());
+    days
+}
+
+/// The ways in which leg orders of a series and side come and go: the first, one behind
+/// it, one at its price, a better one, trades with a part of it and with the rest,
+/// cancels of one of several, behind the best, of the best, a trade with all at the best
+/// of which something rests, and one with the last.
+fn touched_nets(strategies: &[Vec<(u8, u8, u8)>]) -> Day {
+    let mut made = Made::asked(&lists_of(strategies));
+    made.wide_market();
+    made.ask();
+    for touched in made.held_series() {
+        for side in [BUY, SELL] {
+            made.clear_side(touched, side);
+            made.ask();
+            let own = |member, contracts, cents| {
+                leg_order(member, touched, side, contracts, worse(side, cents))
+            };
+            let against =
+                |contracts, cents| leg_order(6, touched, 1 - side, contracts, worse(side, cents));
+            let first = made.then_ask(own(2, 3, 5));
+            let behind = made.then_ask(own(3, 3, 6));
+            made.then_ask(own(4, 3, 5));
+            made.then_ask(own(5, 2, 3));
+            made.then_ask(against(1, 3));
+            made.then_ask(against(1, 3));
+            made.then_ask(cancel(2, first));
+            made.then_ask(cancel(3, behind));
+            let best = made.then_ask(own(5, 2, 4));
+            made.then_ask(cancel(5, best));
+            made.then_ask(own(3, 3, 9));
+            made.then_ask(against(4, 5));
+            made.then_ask(against(3, 9));
+            made.clear_side(touched, 1 - side);
+            made.ask();
+            for side in [BUY, SELL] {
+                made.push(leg_order(
+                    1,
+                    touched,
+                    side,
+                    90,
+                    if side == BUY { 290 } else { 310 },
+                ));
+            }
+            made.ask();
+        }
+    }
+    let amount = strategies.len();
+    let series = made.held_series();
+    day(
+        &format!("nets of {amount} strategies in series {series:?}"),
+        &made.events,
+    )
+}
+
+/// Orders of this side that fill by legs at three nets in one pass, or at fewer by their
+/// limit, by their units, or since the leg orders end; another strategy takes one of the
+/// legs too.
+fn nets_in_passes(side: u8) -> Day {
+    let mut made = Made::asked(&[
+        PAIR,
+        &[(0, BUY, 2), (2, SELL, 1)],
+        &[(0, SELL, 1), (1, BUY, 1)],
+    ]);
+    made.wide_market();
+    for units in 1..=9 {
+        for cents in 0..=4 {
+            for of in 0..2 {
+                // On each leg two prices better than the wide market's.
+                for leg in made.book.legs(0).to_vec() {
+                    let taken = if side == BUY { 1 - leg.side } else { leg.side };
+                    if units % 3 == 0 {
+                        made.clear_side(leg.series, taken);
+                    }
+                    for (contracts, away) in [(2, 3), (3, 4 + u32::from(leg.series))] {
+                        made.push(leg_order(
+                            3,
+                            leg.series,
+                            taken,
+                            contracts,
+                            worse(taken, away),
+                        ));
+                    }
+                }
+                made.ask();
+                let net = made.net_taken(of, side).unwrap_or(0);
+                let limit = if side == BUY {
+                    net + cents
+                } else {
+                    net - cents
+                };
+                // A limit of the other side between the nets.
+                let other = if side == BUY { net + 2 } else { net - 2 };
+                if units % 2 == 0 {
+                    made.order_in(of, 1 - side, MARKET_MAKER, DAY, 1, other);
+                }
+                made.order_in(of, side, MARKET_MAKER, IMMEDIATE, units, limit);
+                made.ask();
+                made.order_in(of, side, MARKET_MAKER, IMMEDIATE, 9, other);
+                made.ask();
+                made.clear_all();
+                made.wide_market();
+            }
+        }
+    }
+    day(&format!("nets in passes of side {side}"), &made.events)
+}
+
+/// Day orders of this side in strategies that share series 0, and leg orders that fill
+/// them in turn, at the net that the one before has left.
+fn nets_of_waiting_orders(side: u8) -> Day {
+    let mut made = Made::asked(&[
+        PAIR,
+        &[(0, BUY, 1), (2, SELL, 1)],
+        &[(0, BUY, 1), (1, SELL, 1), (2, SELL, 1)],
+    ]);
+    for contracts in 1..=8 {
+        for shut in [false, true] {
+            made.wide_market();
+            for of in [0, 0, 1, 2] {
+                let net = made.net_taken(of, side).unwrap_or(0);
+                let limit = if side == BUY { net - 5 } else { net + 5 };
+                made.order_in(of, side, MARKET_MAKER, DAY, 2, limit);
+            }
+            if shut {
+                made.push(series(2, 0));
+            }
+            // On the first leg the price that they take, then one a cent worse.
+            let better = if side == BUY { 305 } else { 295 };
+            let behind = if side == BUY { 306 } else { 294 };
+            made.then_ask(leg_order(3, 0, 1 - side, 1, behind));
+            made.then_ask(leg_order(3, 0, 1 - side, contracts, better));
+            made.then_ask(leg_order(3, 1, side, contracts, 300));
+            if shut {
+                made.then_ask(series(2, 1));
+            }
+            made.clear_complex();
+            made.clear_all();
+        }
+    }
+    day(
+        &format!("nets of waiting orders of side {side}"),
+        &made.events,
+    )
+}
+
+impl Made {
+    /// Cancels the complex orders.
+    fn clear_complex(&mut self) {
+        let held: Vec<_> = self.book.complex_orders().copied().collect();
+        for order in held {
+            self.push(cancel(order.member, order.number));
+        }
+    }
+}
+
+/// Auctions of strategies that share series 0 and end together: starters of this side and
+/// waiting orders take the legs in turn, while leg orders come, trade and go.
+fn nets_at_auction_ends(side: u8) -> Day {
+    let list: [&[(u8, u8, u8)]; 3] = [
+        PAIR,
+        &[(0, BUY, 1), (2, SELL, 1)],
+        &[(0, BUY, 2), (1, SELL, 1), (2, BUY, 1)],
+    ];
+    let mut made = Made::asked(&list);
+    for units in 1..=4 {
+        for moved in 0..4 {
+            made.wide_market();
+            let (best, next) = if side == BUY { (303, 306) } else { (297, 294) };
+            made.push(leg_order(3, 0, 1 - side, 3, best));
+            made.push(leg_order(3, 0, 1 - side, 3, next));
+            for of in 0..3 {
+                let net = made.net_taken(of, side).unwrap_or(0);
+                let limit = if side == BUY { net + 4 } else { net - 4 };
+                made.order_in(of, side, CUSTOMER, IMMEDIATE, units, limit);
+                made.order_in(of, side, MARKET_MAKER, RESPONSE, units, limit);
+            }
+            match moved {
+                0 => {}
+                1 => made.push(leg_order(
+                    4,
+                    0,
+                    1 - side,
+                    1,
+                    if side == BUY { 302 } else { 298 },
+                )),
+                2 => made.push(leg_order(4, 0, side, 3, best)),
+                _ => made.clear_side(0, 1 - side),
+            }
+            made.end();
+            made.ask();
+            made.clear_all();
+        }
+    }
+    day(&format!("nets at auction ends, side {side}"), &made.events)
+}
+
+/// Strategies defined over each choice of the sides of two legs that have an order; the
+/// same once more after the nets have changed; and the next day, with others in the slots.
+fn nets_of_definitions() -> Day {
+    let mut made = Made::asked(&[]);
+    let sides = [(0, BUY, 290), (0, SELL, 310), (1, BUY, 90), (1, SELL, 110)];
+    for choice in 0..1 << sides.len() {
+        for (at, (number, side, price)) in sides.into_iter().enumerate() {
+            if choice >> at & 1 == 1 {
+                made.push(leg_order(2, number, side, 9, price));
+            }
+        }
+        let mirror = strategy(&[(0, SELL, 1), (1, BUY, 1)]);
+        let (first, second) = match choice % 2 {
+            0 => (strategy(PAIR), mirror),
+            _ => (mirror, strategy(PAIR)),
+        };
+        made.then_ask(first);
+        made.then_ask(second);
+        made.then_ask(leg_order(3, 0, BUY, 1, 295));
+        made.then_ask(leg_order(3, 1, SELL, 1, 105));
+        made.then_ask(strategy(&[(1, SELL, 12), (0, BUY, 12)]));
+        made.then_ask(strategy(&[(0, BUY, 2), (1, BUY, 3)]));
+        made.next_day();
+        // Without a leg order all are unknown.
+        made.then_ask(strategy(PAIR));
+        made.next_day();
+    }
+    day("nets of definitions", &made.events)
+}
+
+/// Leg orders that come, trade and go while another series of their strategies is shut,
+/// and cancels in the shut one; the nets are asked for when it opens.
+fn nets_beside_shut_series() -> Day {
+    let mut made = Made::asked(&[PAIR, &[(0, SELL, 2), (2, BUY, 1)]]);
+    for side in [BUY, SELL] {
+        for turn in 0..4 {
+            made.wide_market();
+            made.push(leg_order(3, 0, side, 2, worse(side, 4)));
+            let better = made.book.given;
+            made.push(series(0, 0));
+            if turn % 2 == 0 {
+                made.push(cancel(3, better));
+            }
+            if turn / 2 == 0 {
+                made.push(leg_order(4, 1, side, 2, worse(side, 3)));
+                made.push(leg_order(4, 2, side, 2, worse(side, 3)));
+                made.push(leg_order(5, 2, 1 - side, 2, worse(side, 3)));
+            }
+            made.push(strategy(&[(0, side, 1), (1 + turn / 3, BUY, 1 + turn % 3)]));
+            made.ask();
+            made.then_ask(series(0, 1));
+            made.clear_all();
+        }
+    }
+    day("nets beside shut series", &made.events)
+}
+
+/// Nets that pass 0 cent by cent, by better leg orders and by cancels of them.
+fn nets_around_0() -> Day {
+    let mut made = Made::asked(&[PAIR, &[(0, SELL, 1), (1, BUY, 1)]]);
+    made.ask();
+    for (bought, sold) in [(0, 1), (1, 0)] {
+        made.push(leg_order(1, bought, BUY, 9, 290));
+        made.push(leg_order(1, sold, SELL, 9, 310));
+        let mut better = Vec::new();
+        for cents in 0..3 {
+            better.push(made.then_ask(leg_order(2, bought, BUY, 1, 300 + cents)));
+            better.push(made.then_ask(leg_order(2, sold, SELL, 1, 302 - cents)));
+        }
+        for number in better.into_iter().rev() {
+            made.then_ask(cancel(2, number));
+        }
+        made.clear_all();
+        made.ask();
+    }
+    day("nets around 0", &made.events)
+}
+
+/// Nets of six legs with the largest ratios and prices.
+fn largest_nets() -> Day {
+    let mut made = Made::asked(&[&six_legs(6), &six_legs(5), &six_legs(3), &six_legs(0)]);
+    for series in made.held_series() {
+        made.push(leg_order(1, series, BUY, 9, 1));
+        made.then_ask(leg_order(1, series, SELL, 9, 99_999));
+    }
+    for series in made.held_series() {
+        made.then_ask(leg_order(2, series, BUY, 9, 99_990));
+    }
+    day("the largest nets", &made.events)
 }

@@ -13,7 +13,8 @@ use tapes::days::{
     any_frames, damaged_frames, every_number, generated, inputs_of_any_bytes, several_days, Day,
 };
 use tapes::hand::{
-    best_prices, ends, extremes, full_tables, long_frames, national, near_nets, specialists,
+    best_prices, ends, extremes, full_tables, kept_nets, long_frames, national, near_nets,
+    specialists,
 };
 use tapes::program::{Delivery, Program};
 use tapes::tally::{Tally, OTHER};
@@ -83,7 +84,7 @@ fn generated_days() {
         let count = tally.of(kind, 0);
         assert!(count >= 20_000, "accepted events of kind {kind}: {count}");
     }
-    assert!(SITUATIONS.len() >= 219);
+    assert!(SITUATIONS.len() >= 258);
     for situation in SITUATIONS {
         let count = tally.reached(situation);
         assert!(count >= 100, "{situation}: {count}");
@@ -369,4 +370,18 @@ fn specialists_and_their_portions() {
         let count = tally.reached(situation);
         assert!(count >= least, "{situation}: {count}");
     }
+}
+
+#[test]
+fn nets_that_strategies_keep() {
+    let days = kept_nets();
+    let tally = agreed("nets that strategies keep", &days);
+    assert!(days.len() >= 15 && tally.written(4) >= 5_000);
+    // Sweeps are those of `near_nets`.
+    let own = |situation: &&&str| situation.starts_with("nets: ") && !situation.contains("sweep");
+    let missing: Vec<(&&str, u64)> = (SITUATIONS.iter().filter(own))
+        .map(|situation| (situation, tally.reached(situation)))
+        .filter(|(_, count)| *count < 4)
+        .collect();
+    assert!(missing.is_empty(), "{missing:#?}");
 }

@@ -1,7 +1,7 @@
 //! The comparison finds slips in the book itself: the reckoning's sources with
 //! one edit each are built anew, and their tape has to differ from the
 //! reckoning's. Among them are the slips that document 01 names, and those of
-//! requests 2026-01 to 2026-04.
+//! requests 2026-01 to 2026-05.
 
 #![forbid(unsafe_code)]
 #![deny(warnings)]
@@ -11,7 +11,9 @@ use std::path::Path;
 use std::time::Duration;
 use tapes::agree::agrees;
 use tapes::days::{any_frames, every_number, generated, several_days, Day};
-use tapes::hand::{best_prices, ends, extremes, full_tables, national, near_nets, specialists};
+use tapes::hand::{
+    best_prices, ends, extremes, full_tables, kept_nets, national, near_nets, specialists,
+};
 use tapes::program::Program;
 use tapes::slips::{built, missed, Slip};
 
@@ -38,8 +40,8 @@ const SLIPS: &[Slip] = &[
     (
         "a sell leg added into a net",
         "nets.rs",
-        "                -value\n",
-        "                value\n",
+        "        -value\n",
+        "        value\n",
     ),
     (
         "sweeps kept past the end",
@@ -423,8 +425,8 @@ const SLIPS: &[Slip] = &[
     (
         "the legs tried after a forbidden limit",
         "passes.rs",
-        "            let leg_net = prices.map(net);\n",
-        "            let leg_net = prices.map(net);\n            let whole = whole.filter(|price| self.bounds(active.strategy).allow_both(*price));\n",
+        "            let taken = if legs {\n",
+        "            let whole = whole.filter(|price| self.bounds(active.strategy).allow_both(*price));\n            let taken = if legs {\n",
     ),
     (
         "the next limit tried after a forbidden one",
@@ -677,14 +679,14 @@ const SLIPS: &[Slip] = &[
     (
         "an empty side as a price of 0",
         "nets.rs",
-        "            let best = self.depth(leg.series, 1 - side)?;\n",
-        "            let best = self.depth(leg.series, 1 - side).unwrap_or(Depth { price: 0, contracts: 0 });\n",
+        "        let best = self.depth(leg.series, 1 - side)?;\n",
+        "        let best = self.depth(leg.series, 1 - side).unwrap_or(Depth { price: 0, contracts: 0 });\n",
     ),
     (
         "the pair of the same side taken",
         "nets.rs",
-        "            let best = self.depth(leg.series, 1 - side)?;\n",
-        "            let best = self.depth(leg.series, side)?;\n",
+        "        let best = self.depth(leg.series, 1 - side)?;\n",
+        "        let best = self.depth(leg.series, side)?;\n",
     ),
     // Request 2026-03: sweeps better the leg market.
     (
@@ -1103,14 +1105,14 @@ const SLIPS: &[Slip] = &[
     (
         "the portion at the first limit alone",
         "passes.rs",
-        "                _ => self.whole_turn(&active, price, holders, records),\n",
-        "                _ => {\n                    let how = match holders {\n                        Holders::Shared(_) if records.len() > first => Holders::Shared(None),\n                        other => other,\n                    };\n                    self.whole_turn(&active, price, how, records)\n                }\n",
+        "                None => self.whole_turn(&active, price, holders, records),\n",
+        "                None => {\n                    let how = match holders {\n                        Holders::Shared(_) if records.len() > first => Holders::Shared(None),\n                        other => other,\n                    };\n                    self.whole_turn(&active, price, how, records)\n                }\n",
     ),
     (
         "the portion at a limit of several alone",
         "passes.rs",
-        "                _ => self.whole_turn(&active, price, holders, records),\n",
-        "                _ => {\n                    let how = match holders {\n                        Holders::Shared(_) if records.len() == first => Holders::Shared(None),\n                        other => other,\n                    };\n                    self.whole_turn(&active, price, how, records)\n                }\n",
+        "                None => self.whole_turn(&active, price, holders, records),\n",
+        "                None => {\n                    let how = match holders {\n                        Holders::Shared(_) if records.len() == first => Holders::Shared(None),\n                        other => other,\n                    };\n                    self.whole_turn(&active, price, how, records)\n                }\n",
     ),
     (
         "the specialist in the numbered passes",
@@ -1329,6 +1331,253 @@ const SLIPS: &[Slip] = &[
         "                self.specialists[usize::from(strategy)] = Some(Specialist { member, percentage });\n",
         "                self.specialists[usize::from(strategy)] = Some(Specialist { member, percentage });\n                self.given = (self.given + 1).min(LAST_NUMBER);\n",
     ),
+    // Request 2026-05: nets that strategies keep.
+    (
+        "nets as their definition set them",
+        "nets.rs",
+        "        for strategy in self.strategies_holding(series) {\n            let held = &mut self.strategies[usize::from(strategy)];\n",
+        "        for strategy in self.strategies_holding(series).take(0) {\n            let held = &mut self.strategies[usize::from(strategy)];\n",
+    ),
+    (
+        "nets not set at the definition",
+        "events.rs",
+        "                self.set_nets(number as u8);\n",
+        "",
+    ),
+    (
+        "the bid net alone set at the definition",
+        "nets.rs",
+        "        for order_side in [BUY, SELL] {\n",
+        "        for order_side in [SELL] {\n",
+    ),
+    (
+        "an equal definition that forgets the nets",
+        "events.rs",
+        "            Some(number) => number as u32,\n",
+        "            Some(number) => {\n                self.strategies[number].nets = crate::nets::Nets::UNKNOWN;\n                number as u32\n            }\n",
+    ),
+    (
+        "a cancel that leaves the nets",
+        "book.rs",
+        "            records.push(order.cancelled());\n            self.take_contracts(number, order.contracts);\n",
+        "            let held = self.strategies;\n            records.push(order.cancelled());\n            self.take_contracts(number, order.contracts);\n            self.strategies = held;\n",
+    ),
+    (
+        "a trade of leg orders that leaves the nets of the resting side",
+        "events.rs",
+        "                    self.take_contracts(resting.number, contracts);\n",
+        "                    let held = self.strategies;\n                    self.take_contracts(resting.number, contracts);\n                    self.strategies = held;\n",
+    ),
+    (
+        "a fill by legs that leaves the nets",
+        "passes.rs",
+        "            self.take_contracts(order.number, taken);\n",
+        "            let held = self.strategies;\n            self.take_contracts(order.number, taken);\n            self.strategies = held;\n",
+    ),
+    (
+        "a fill by legs that is seen on its first leg alone",
+        "passes.rs",
+        "        for entry in prices {\n            self.fill_leg_orders(entry, units * u32::from(entry.leg.ratio), records);\n        }\n",
+        "        for (at, entry) in prices.iter().enumerate() {\n            let held = self.strategies;\n            self.fill_leg_orders(entry, units * u32::from(entry.leg.ratio), records);\n            if at > 0 {\n                self.strategies = held;\n            }\n        }\n",
+    ),
+    (
+        "a fill by legs that is seen in its own strategy alone",
+        "passes.rs",
+        "        for entry in prices {\n            self.fill_leg_orders(entry, units * u32::from(entry.leg.ratio), records);\n        }\n",
+        "        let held = self.strategies;\n        for entry in prices {\n            self.fill_leg_orders(entry, units * u32::from(entry.leg.ratio), records);\n        }\n        for (at, held) in held.iter().enumerate() {\n            if at != usize::from(active.strategy) {\n                self.strategies[at].nets = held.nets;\n            }\n        }\n",
+    ),
+    (
+        "a leg order that rests after trades and leaves the nets",
+        "events.rs",
+        "            self.rest(incoming);\n",
+        "            let held = self.strategies;\n            self.rest(incoming);\n            if !records.is_empty() {\n                self.strategies = held;\n            }\n",
+    ),
+    (
+        "nets found before the fill and not after",
+        "book.rs",
+        "        let kept = &mut self.depths[usize::from(series)][usize::from(side)];\n        let old = std::mem::replace(kept, pair);\n        let price = |best: Option<Depth>| best.map(|best| best.price);\n        if price(old) != price(pair) {\n            self.renew_nets(series, side, price(old), price(pair));\n        }\n",
+        "        let old = self.depth(series, side);\n        if old.map(|best| best.price) != pair.map(|best| best.price) {\n            for strategy in self.strategies_holding(series) {\n                self.set_nets(strategy);\n            }\n        }\n        self.depths[usize::from(series)][usize::from(side)] = pair;\n",
+    ),
+    (
+        "only a better price seen",
+        "book.rs",
+        "        if price(old) != price(pair) {\n",
+        "        let better = match (old, pair) {\n            (Some(old), Some(new)) if side == BUY => new.price > old.price,\n            (Some(old), Some(new)) => new.price < old.price,\n            (None, new) => new.is_some(),\n            _ => false,\n        };\n        if better {\n",
+    ),
+    (
+        "a side that becomes empty not seen",
+        "book.rs",
+        "        if price(old) != price(pair) {\n",
+        "        if pair.is_some() && price(old) != price(pair) {\n",
+    ),
+    (
+        "a first price not seen",
+        "book.rs",
+        "        if price(old) != price(pair) {\n",
+        "        if old.is_some() && price(old) != price(pair) {\n",
+    ),
+    (
+        "unknown as 0 cents",
+        "nets.rs",
+        "    fn set(&mut self, order_side: u8, net: Option<i64>) {\n",
+        "    fn set(&mut self, order_side: u8, net: Option<i64>) {\n        let net = Some(net.unwrap_or(0));\n",
+    ),
+    (
+        "a net that does not become unknown",
+        "nets.rs",
+        "    fn set(&mut self, order_side: u8, net: Option<i64>) {\n",
+        "    fn set(&mut self, order_side: u8, net: Option<i64>) {\n        if net.is_none() {\n            return;\n        }\n",
+    ),
+    (
+        "an unknown net that makes both unknown",
+        "nets.rs",
+        "    fn set(&mut self, order_side: u8, net: Option<i64>) {\n",
+        "    fn set(&mut self, order_side: u8, net: Option<i64>) {\n        if net.is_none() {\n            *self = Nets::UNKNOWN;\n        }\n",
+    ),
+    (
+        "a net of 16 bits",
+        "nets.rs",
+        "    fn set(&mut self, order_side: u8, net: Option<i64>) {\n",
+        "    fn set(&mut self, order_side: u8, net: Option<i64>) {\n        let net = net.map(|net| i64::from(net as i16));\n",
+    ),
+    (
+        "a net without its sign",
+        "nets.rs",
+        "    fn set(&mut self, order_side: u8, net: Option<i64>) {\n",
+        "    fn set(&mut self, order_side: u8, net: Option<i64>) {\n        let net = net.map(i64::abs);\n",
+    ),
+    (
+        "the net of the other side found anew",
+        "nets.rs",
+        "            let order_side = side_taken(1 - side, leg);\n",
+        "            let order_side = side_taken(side, leg);\n",
+    ),
+    (
+        "the net of the price's side, whatever the leg",
+        "nets.rs",
+        "            let order_side = side_taken(1 - side, leg);\n",
+        "            let order_side = if leg.ratio > 0 { 1 - side } else { side };\n",
+    ),
+    (
+        "the nets exchanged",
+        "nets.rs",
+        "            self.offer\n        } else {\n            self.bid\n",
+        "            self.bid\n        } else {\n            self.offer\n",
+    ),
+    (
+        "the first strategy that holds the series alone",
+        "nets.rs",
+        "        for strategy in self.strategies_holding(series) {\n            let held = &mut self.strategies[usize::from(strategy)];\n",
+        "        for strategy in self.strategies_holding(series).take(1) {\n            let held = &mut self.strategies[usize::from(strategy)];\n",
+    ),
+    (
+        "the last strategy that holds the series left out",
+        "nets.rs",
+        "        for strategy in self.strategies_holding(series) {\n            let held = &mut self.strategies[usize::from(strategy)];\n",
+        "        for strategy in self.strategies_holding(series) {\n            if strategy > 0 && self.strategies_holding(series).last() == Some(strategy) {\n                continue;\n            }\n            let held = &mut self.strategies[usize::from(strategy)];\n",
+    ),
+    (
+        "strategies beside a shut series left as they are",
+        "nets.rs",
+        "        for strategy in self.strategies_holding(series) {\n            let held = &mut self.strategies[usize::from(strategy)];\n",
+        "        for strategy in self.strategies_holding(series) {\n            if !self.all_open(strategy) {\n                continue;\n            }\n            let held = &mut self.strategies[usize::from(strategy)];\n",
+    ),
+    (
+        "strategies in an auction left as they are",
+        "nets.rs",
+        "        for strategy in self.strategies_holding(series) {\n            let held = &mut self.strategies[usize::from(strategy)];\n",
+        "        for strategy in self.strategies_holding(series) {\n            if self.auction_runs(strategy) {\n                continue;\n            }\n            let held = &mut self.strategies[usize::from(strategy)];\n",
+    ),
+    (
+        "the first leg of a strategy alone seen",
+        "nets.rs",
+        "            let Some(leg) = held.legs.iter().find(",
+        "            let Some(leg) = held.legs[..1].iter().find(",
+    ),
+    (
+        "the nets of another slot renewed",
+        "nets.rs",
+        "        for strategy in self.strategies_holding(series) {\n            let held = &mut self.strategies[usize::from(strategy)];\n",
+        "        let slots = self.strategies.len() as u8;\n        for strategy in self.strategies_holding(series).map(|strategy| (strategy ^ 1).min(slots - 1)) {\n            let held = &mut self.strategies[usize::from(strategy)];\n",
+    ),
+    (
+        "the nets of strategy 0 for all",
+        "nets.rs",
+        "        let held = &self.strategies[usize::from(strategy)];\n        held.nets.taken_by(order_side)\n",
+        "        let held = self.strategies.first().filter(|_| strategy < 16)?;\n        held.nets.taken_by(order_side)\n",
+    ),
+    (
+        "prices without the ratio in contracts as missing",
+        "nets.rs",
+        "        let values = legs.map(|leg| Some(value(leg, self.leg_price(order_side, leg)?.price)));\n",
+        "        let enough = |price: &LegPrice| price.contracts >= u32::from(price.leg.ratio);\n        let values = legs.map(|leg| Some(value(leg, self.leg_price(order_side, leg).filter(enough)?.price)));\n",
+    ),
+    (
+        "prices of shut series as missing",
+        "nets.rs",
+        "        let values = legs.map(|leg| Some(value(leg, self.leg_price(order_side, leg)?.price)));\n",
+        "        let open = |price: &LegPrice| self.is_open(price.leg.series);\n        let values = legs.map(|leg| Some(value(leg, self.leg_price(order_side, leg).filter(open)?.price)));\n",
+    ),
+    (
+        "a series that shuts makes the nets unknown",
+        "events.rs",
+        "            self.open &= !(1 << series);\n",
+        "            self.open &= !(1 << series);\n            for strategy in self.strategies_holding(series) {\n                self.strategies[usize::from(strategy)].nets = crate::nets::Nets::UNKNOWN;\n            }\n",
+    ),
+    (
+        "a net that moves without the ratio",
+        "nets.rs",
+        "                    let moved = value(leg, new) - value(leg, old);\n",
+        "                    let unit = Leg { ratio: 1, ..*leg };\n                    let moved = value(&unit, new) - value(&unit, old);\n",
+    ),
+    (
+        "a net that moves the other way",
+        "nets.rs",
+        "                    let moved = value(leg, new) - value(leg, old);\n",
+        "                    let moved = value(leg, old) - value(leg, new);\n",
+    ),
+    (
+        "a net that moves and becomes known",
+        "nets.rs",
+        "                    held.nets.set(order_side, net.map(|net| net + moved));\n",
+        "                    held.nets.set(order_side, Some(net.unwrap_or(0) + moved));\n",
+    ),
+    (
+        "a net known by the first price of one leg",
+        "nets.rs",
+        "                (None, Some(_)) => self.renew_net(strategy, order_side),\n",
+        "                (None, Some(new)) => {\n                    let net = held.nets.taken_by(order_side).unwrap_or(0);\n                    held.nets.set(order_side, Some(net + value(leg, new)));\n                }\n",
+    ),
+    (
+        "a fill by legs that leaves units of its order and the nets",
+        "passes.rs",
+        "        for entry in prices {\n            self.fill_leg_orders(entry, units * u32::from(entry.leg.ratio), records);\n        }\n",
+        "        let held = self.strategies;\n        for entry in prices {\n            self.fill_leg_orders(entry, units * u32::from(entry.leg.ratio), records);\n        }\n        if units < active.units {\n            self.strategies = held;\n        }\n",
+    ),
+    (
+        "strategies and their nets kept over the day end",
+        "events.rs",
+        "        *self = Book::fresh(timer);\n",
+        "        let held = self.strategies;\n        *self = Book::fresh(timer);\n        self.strategies = held;\n",
+    ),
+    (
+        "fills and cancels that leave the nets",
+        "book.rs",
+        "                self.leg_orders.remove(at);\n            }\n            self.renew_depth(series, side);\n",
+        "                self.leg_orders.remove(at);\n            }\n            let held = self.strategies;\n            self.renew_depth(series, side);\n            self.strategies = held;\n",
+    ),
+    (
+        "the nets from before a leg order read by its passes",
+        "events.rs",
+        "            self.rest(incoming);\n            self.legs_only_passes(incoming.series, records);\n",
+        "            let held = self.strategies;\n            self.rest(incoming);\n            self.strategies = held;\n            self.legs_only_passes(incoming.series, records);\n            for strategy in 0..self.strategies.len() as u8 {\n                self.set_nets(strategy);\n            }\n",
+    ),
+    (
+        "a pass that reads the net of the other side",
+        "passes.rs",
+        "        let net = self.leg_net(active.strategy, active.side)?;\n",
+        "        let net = self.leg_net(active.strategy, 1 - active.side)?;\n",
+    ),
 ];
 
 /// A part of the days that the proved tape is compared on.
@@ -1342,6 +1591,7 @@ fn days() -> Vec<Day> {
     days.extend(best_prices());
     days.extend(near_nets());
     days.extend(specialists());
+    days.extend(kept_nets());
     days.extend(ends().into_iter().step_by(40));
     days.extend(every_number(1));
     days
@@ -1360,9 +1610,11 @@ fn slips_in_the_book_are_found() {
     let missed = missed(&folder, "tape", SLIPS, |built| {
         let mut program = Program::new(built, &[]);
         program.limit = Duration::from_secs(20);
-        agrees(&program, &days).err().map(|different| different.to_string())
+        agrees(&program, &days)
+            .err()
+            .map(|different| different.to_string())
     });
     assert!(missed.is_empty(), "slips not found: {missed:#?}");
     println!("slips found: {}", SLIPS.len());
-    assert!(SLIPS.len() >= 216);
+    assert!(SLIPS.len() >= 257);
 }
