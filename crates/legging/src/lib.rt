@@ -3,7 +3,7 @@ ghost use mathlib.Core.Path.{_≡_};
 ghost use Prim.Native.Nat.{_+_, _*_, _-_, _<_, _≤_};
 ghost use Rattle.base.specs.Walks.{joinN};
 ghost use Rattle.rules.specs.Sizes.{tableRows};
-ghost use Rattle.rules.specs.Fills.{legQuotas, orderRows, orderRecordsAt, cutOrders, takesAt, legTake};
+ghost use Rattle.rules.specs.Fills.{legQuotas, orderRows, orderRecordsAt, takesAt, legTake};
 ghost use Rattle.records.specs.Space.{Appended, Room};
 ghost use Rattle.ranges.specs.Fit.{FitLegs};
 ghost use Rattle.nets.specs.Legs.{legBests};
@@ -13,8 +13,7 @@ ghost use Rattle.legging.specs.Left.{FilledAt, LegsLeft};
 ghost use Rattle.legging.specs.Legging.{OneLeg, AllLegs, recordsByLegs, FilledByLegs};
 use fills::party_records;
 use nets::LegBests;
-use nets::lots;
-use quotas::in_turn;
+use nets::lot;
 use records::least;
 use rules::Entry;
 use rules::Leg;
@@ -41,78 +40,41 @@ pub struct AfterLegs {
     pub count: usize,
 }
 
-// The quotas of one leg, by number, for c contracts at a price.
-fn leg_quotas(
-    os: [LegOrder; State::LEG_ORDERS],
-    side: u8,
-    c: u32,
-    price: u32,
-    l: Leg,
-) -> [u32; State::ROWS]
-    ensures { λ qs. ⌜ qs ≡ legQuotas os (legTake side c price l) ⌝ }
-{
-    let on = other(leg_side(side, l));
-    let xs = lots(os, l.series, on, price);
-    in_turn(c, xs)
-}
-
-// The leg orders' records of one leg, by number.
-fn order_rows(
-    space: &mut [i32],
-    n: usize,
-    os: [LegOrder; State::LEG_ORDERS],
-    qs: [u32; State::ROWS],
-    price: u32,
-) -> usize
-    requires { ⌜ Room (now space) n (joinN (orderRows os qs price) tableRows) ⌝ }
-    ensures { λ m. ⌜ Appended (now (space .entry)) (now (space .exit)) n m (joinN (orderRows os qs price) tableRows) ⌝ }
-{
-    let mut m = n;
-    let mut i: usize = 0;
-    while i < State::LEG_ORDERS {
-        m = order_row(space, m, os[i], qs[i], price);
-        i += 1;
-    }
-    m
-}
-
-// The leg orders with quotas taken from them.
-fn cut_orders(
-    os: [LegOrder; State::LEG_ORDERS],
-    qs: [u32; State::ROWS],
-) -> [LegOrder; State::LEG_ORDERS]
-    ensures { λ ps. ⌜ ps ≡ cutOrders os qs ⌝ }
-{
-    let mut ps = os;
-    let mut i: usize = 0;
-    while i < State::LEG_ORDERS {
-        ps[i] = cut_order(os[i], qs[i]);
-        i += 1;
-    }
-    ps
-}
-
-// What q units take on one leg: quotas from the orders as they stood, their records, and the cuts.
+// What q units take on one leg, in one walk: each order that stood there at the price gives by number, with its record, and is cut.
 fn one_leg(
-    c: Cuts,
+    cut: [LegOrder; State::LEG_ORDERS],
     os: [LegOrder; State::LEG_ORDERS],
     side: u8,
     q: u32,
     price: u32,
     l: Leg,
     space: &mut [i32],
+    n: usize,
 ) -> Cuts
     requires { ⌜ (l .ratio ≤ 12) × (q ≤ 9999) ⌝ }
-    requires { ⌜ Room (now space) (c .count) (joinN (orderRows os (legQuotas os (legTake side (l .ratio * q) price l)) price) tableRows) ⌝ }
-    ensures { λ d. ⌜ OneLeg (now (space .entry)) (now (space .exit)) (c .count) (d .count) (c .rows) (d .rows) os side q price l ⌝ }
+    requires { ⌜ Room (now space) n (joinN (orderRows os (legQuotas os (legTake side (l .ratio * q) price l)) price) tableRows) ⌝ }
+    ensures { λ d. ⌜ OneLeg (now (space .entry)) (now (space .exit)) n (d .count) cut (d .rows) os side q price l ⌝ }
 {
+    let on = other(leg_side(side, l));
     let ratio = l.ratio as u32;
-    let qs = leg_quotas(os, side, ratio * q, price, l);
-    let m = order_rows(space, c.count, os, qs, price);
-    let rows = c.rows;
-    let left = cut_orders(rows, qs);
+    let mut left = ratio * q;
+    let mut rows = cut;
+    let mut m = n;
+    let mut i: usize = 0;
+    while i < State::LEG_ORDERS {
+        let o = os[i];
+        let x = lot(l.series, on, price, o);
+        let k = least(left, x);
+        if 0 < k {
+            let r = rows[i];
+            m = order_row(space, m, o, k, price);
+            rows[i] = cut_order(r, k);
+            left -= k;
+        }
+        i += 1;
+    }
     Cuts {
-        rows: left,
+        rows: rows,
         count: m,
     }
 }
@@ -136,7 +98,8 @@ fn all_legs(
     let mut c = Cuts { rows: os, count: n };
     let mut i: usize = 0;
     while i < count {
-        c = one_leg(c, os, side, q, ps[i], legs[i], space);
+        let rows = c.rows;
+        c = one_leg(rows, os, side, q, ps[i], legs[i], space, c.count);
         i += 1;
     }
     c
@@ -179,11 +142,11 @@ pub fn nets_left(
     requires { ⌜ All FitLegs ss × All FitOrder os × All Priced os × FitLegs t × FilledAt ns ss side (t .legs) (t .count) ps ⌝ }
     ensures { λ ms. ⌜ LegsLeft ns ss os side (t .legs) (t .count) ps (t .count) ms ⌝ }
 {
-    let count = t.count as usize;
+    let met = t.count as usize;
     let legs = t.legs;
     let mut ms = ns;
     let mut i: usize = 0;
-    while i < count {
+    while i < met {
         let l = legs[i];
         let on = other(leg_side(side, l));
         let p = ps[i];

@@ -2,7 +2,7 @@
 ghost use mathlib.Core.Path.{_≡_};
 ghost use Prim.Native.Nat.{_+_, _*_, _-_, _/_, _<_, _≤_};
 ghost use Rattle.base.specs.All.{All};
-ghost use Rattle.rules.specs.Nets.{stands, priceWith, priceOf, lot, lots, known, weight, weighed, netOf, netsIn, betters, bestOf, startsAfresh, bestWith};
+ghost use Rattle.rules.specs.Nets.{stands, priceWith, priceOf, lot, known, weight, weighed, netOf, netsIn, betters, bestOf, startsAfresh, bestWith};
 ghost use Rattle.rules.specs.Valid.{FitLeg, FitOrder, Priced};
 ghost use Rattle.ranges.specs.Most.{AtMost};
 ghost use Rattle.ranges.specs.Fit.{FitLegs};
@@ -70,7 +70,8 @@ pub fn stands(s: u8, side: u8, o: LegOrder) -> bool
     o.contracts != 0
 }
 
-fn lot(s: u8, side: u8, price: u32, o: LegOrder) -> u32
+// What a leg order holds of a series and side at a price.
+pub fn lot(s: u8, side: u8, price: u32, o: LegOrder) -> u32
     ensures { λ r. ⌜ r ≡ lot s side price o ⌝ }
 {
     if stands(s, side, o) {
@@ -80,19 +81,6 @@ fn lot(s: u8, side: u8, price: u32, o: LegOrder) -> u32
         return 0;
     }
     0
-}
-
-// What each leg order holds of a series and side at a price.
-pub fn lots(os: [LegOrder; State::LEG_ORDERS], s: u8, side: u8, price: u32) -> [u32; State::ROWS]
-    ensures { λ xs. ⌜ xs ≡ lots os s side price ⌝ }
-{
-    let mut xs: [u32; State::ROWS] = [0; State::ROWS];
-    let mut i: usize = 0;
-    while i < State::LEG_ORDERS {
-        xs[i] = lot(s, side, price, os[i]);
-        i += 1;
-    }
-    xs
 }
 
 // Whether no price is missing.

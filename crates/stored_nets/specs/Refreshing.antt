@@ -3,17 +3,15 @@ use mathlib.Core.Path.{_≡_, refl, sym, _∙_, ap}
 use mathlib.Core.Bool.{Bool, true, false}
 use mathlib.Core.Logic.{⊎-elim}
 use mathlib.Core.List.{List}
-use Prim.Native.Nat.{ℕ, suc, _+_, _≤_, _<_}
-use native.Mathlib.Numerals.{add-one}
+use Prim.Native.Nat.{ℕ, _+_, _≤_, _<_}
 use native.Mathlib.Omega.{arith}
 use borrow.Author.Tests.{eqb-true, eqb-false, ne-eqb}
 use lib.Dec.{eqb}
-use lib.ListN.{length, getD, set, drop}
-use lib.Seq.{drop-cons, append-snoc}
+use lib.ListN.{length, getD, set}
 use Rattle.base.specs.Pick.{pick, pick-by, pick-true, pick-false}
 use Rattle.base.specs.All.{All}
 use Rattle.base.specs.Sets.{has}
-use Rattle.base.specs.Walks.{table, seam, seam-first, seam-next, seam-last}
+use Rattle.base.specs.Walks.{table, seam, seam-first, seam-next, seam-skip, seam-last}
 use Rattle.rules.specs.declared.Leg.{Leg}
 use Rattle.rules.specs.declared.Strategy.{Strategy}
 use Rattle.rules.specs.declared.LegOrder.{LegOrder}
@@ -214,9 +212,7 @@ module _ (f : ℕ → LegNets) (ns : List LegNets) where
   step-set {i} n h e g = rw (e, g) (seam-next f ns noNets i (omega arith))
 
   pub step-skip : {i : ℕ} {ms : List LegNets} → length ns ≡ 16 → i < 16 → f i ≡ getD ns i noNets → ms ≡ seam f ns i → ms ≡ seam f ns (i + 1)
-  unfolding seam table
-  step-skip {i} n h e g =
-      g ∙ rw (add-one, drop-cons ns i noNets (omega arith), sym e) (sym (append-snoc (table f i) (f i) (drop (suc i) ns)))
+  step-skip {i} n h e g = g ∙ seam-skip f ns noNets i (omega arith) e
 
   pub step-last : {i : ℕ} {ms : List LegNets} → length ns ≡ 16 → i ≡ 16 → ms ≡ seam f ns i → ms ≡ table f 16
   step-last n h g = rw (g, h) (seam-last f ns 16 (omega arith))

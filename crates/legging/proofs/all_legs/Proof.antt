@@ -32,7 +32,9 @@ array-copy-out-one-leg : tie.Need-array-copy-out-one-leg Inv-loop μ-loop
 array-copy-out-one-leg c = omega arith
 
 one-leg-requires : tie.Need-one-leg-requires Inv-loop μ-loop
-one-leg-requires c κs = ((fit-leg (c .before .before .before .before .before .before .pre .0 .0 .legs) _ .ratio, c .before .before .before .before .before .before .pre .0 .1), room-row _ _ _ (c .before .before .before .before .before .before .pre .1) (c .before .before .loop-test .taken) (c .before .before .before .loop .inv .1 .wrote))
+one-leg-requires c κs = let l = c .before .before .before .before in
+    let p = l .before .before .before in
+    ((fit-leg (p .pre .0 .0 .legs) _ .ratio, p .pre .0 .1), room-row _ _ _ (p .pre .1) (c .before .before .before .loop-test .taken) (l .loop .inv .1 .wrote))
 
 add-i : tie.Need-add-i Inv-loop μ-loop
 add-i c = omega arith
@@ -41,7 +43,7 @@ loop-less : tie.Need-loop-less Inv-loop μ-loop
 loop-less c = omega arith
 
 loop-again : tie.Need-loop-again Inv-loop μ-loop
-loop-again c = (omega arith, legs-next (c .before .before .before .before .before .loop .inv .1) (c .before .one-leg .ensures))
+loop-again c = (omega arith, legs-next (c .before .before .before .before .before .before .loop .inv .1) (c .before .one-leg .ensures))
 
 same-length : tie.Need-same-length Inv-loop μ-loop
 same-length c = wrote-length (c .before .loop .inv .1 .wrote)

@@ -13,8 +13,8 @@ abbrev μ-loop : tie.MeasureT-loop
 μ-loop ss os side ps count legs ms₀ i₀ ms i = count - i
 
 -- src/lib.rt:182:17
-cast-count : tie.Need-cast-count Inv-loop μ-loop
-cast-count c = search needs
+cast-met : tie.Need-cast-met Inv-loop μ-loop
+cast-met c = search needs
 
 -- src/lib.rt:186:5
 loop-holds : tie.Need-loop-holds Inv-loop μ-loop
@@ -72,7 +72,7 @@ nets-left-spec =
     (tie.spec
     Inv-loop
     μ-loop
-    cast-count
+    cast-met
     loop-holds
     mul-l
     array-copy-out-l
