@@ -20,11 +20,11 @@ use Rattle.rules.specs.declared.Allocation.the-variants.{LegsOnly, Shared, ForS
 use Rattle.rules.specs.declared.Bounds.{Bounds}
 use Rattle.rules.specs.declared.Turn.{Turn}
 use Rattle.rules.specs.declared.Turn.the-variants.{Stop, ByLegs, AtLimit}
-use Rattle.rules.specs.State.{noStrategy, noNets, entryAt, strategyAt, strategyOf, withEntries, withOrders}
+use Rattle.rules.specs.State.{noEntry, noStrategy, noNets, entryAt, strategyAt, strategyOf, withEntries, withOrders}
 use Rattle.rules.specs.Sides.{meets, better}
 use Rattle.rules.specs.Nets.{prices, netOf, unitsOf}
 use Rattle.rules.specs.Moves.{still, each}
-use Rattle.rules.specs.Fills.{cut, legFill}
+use Rattle.rules.specs.Fills.{cutEntry, cut, legFill}
 use Rattle.rules.specs.National.{boundsAt, mayTake, mayMeet}
 use Rattle.rules.specs.Passes.{bestOpposite, opposite, ready, readyNet, legsFirst, meetLimit, turnAt, allowed, choice, turnOf, takeTurn, turn, pass}
 use Rattle.rules.proofs.Control.{each-kept, turn-kept, shrinks-kept}
@@ -33,7 +33,7 @@ use Rattle.rules.proofs.Firsts.{better-turn}
 use Rattle.rules.proofs.Ends.{no-better-fails}
 use Rattle.rules.proofs.Choices.{apart, turn-sentence}
 use Rattle.rules.proofs.Shrinks.{Shrinks}
-use Rattle.rules.proofs.Gives.{bounds-same}
+use Rattle.rules.proofs.Gives.{cut-at, bounds-same}
 use Rattle.records.specs.Space.{Room}
 use Rattle.records.specs.Done.{Visited, RoomIn, DoneIn, done-of, visit-none, visit-moves, visit-room}
 use Rattle.ranges.specs.Fit.{Fit, fit-entry, fit-shrinks, fit-done}
@@ -285,6 +285,26 @@ turn-limit way legs a b level e = ap (λ (t : Turn). takeTurn way a t b) e
 pub turning-none : (way : Allocation) (legs : Bool) (a k : ℕ) (b : State) (sp : List ℤ) (n : ℕ) → Turning way legs a k b sp sp n n b 0
 turning-none way legs a k b sp n = record { visited = visit-none _ _ _ _ _; strategies = refl }
 
+module _ (way : Allocation) (legs : Bool) (a : ℕ) {k i : ℕ} {b₀ b : State} {sp sq : List ℤ} {n m : ℕ} (g : Turning way legs a k b₀ sp sq n m b i) where
+  pub turning-stops : turnOf way legs a b ≡ Stop → Turning way legs a k b₀ sp sq n m b k
+  unfolding stopsAt
+  turning-stops e = record {
+    visited = record { most = omega arith; done = done-of (pass-stops way legs a k i b₀ b (g .visited .most) (g .visited .done .state) (ap stopsAt e)) (g .visited .done) };
+    strategies = g .strategies;
+  }
+
+  -- the end is as good as the next turn, where nothing of the entry f is left
+  turning-next : {f : Entry} → f ≡ entryAt b a → {r : ℕ} → r ≡ pick (eqb (f .units) 0) k i → Turning way legs a k b₀ sp sq n m b r
+  turning-next {f} p e =
+      rw e
+      (pick-by (Turning way legs a k b₀ sp sq n m b) (eqb (f .units) 0)
+      (λ z. turning-stops (sym (turn-none way legs a b (sym (ap (λ (x : Entry). x .units) p) ∙ eqb-true _ _ z))))
+      (λ z. g))
+
+-- either way fewer turns are left
+pub next-less : (t : Bool) {i k r : ℕ} → i < k → r ≡ pick t k (i + 1) → k - r < k - i
+next-less t {i} {k} l e = rw e (pick-all (λ (x : ℕ). k - x < k - i) t (omega arith) (omega arith))
+
 module _ (way : Allocation) (legs : Bool) (a : ℕ) {k i : ℕ} {b₀ b : State} {sp sq : List ℤ} {n m : ℕ} (fit : Fit b₀) (g : Turning way legs a k b₀ sp sq n m b i) where
   -- the strategy of the active entry
   abbrev own : Strategy
@@ -355,13 +375,6 @@ module _ (way : Allocation) (legs : Bool) (a : ℕ) {k i : ℕ} {b₀ b : State}
     pub turning-chosen : Chosen way legs a b own t p
     turning-chosen = record { turn = turning-turn; found = turning-found; some = turning-some }
 
-  pub turning-stops : turnOf way legs a b ≡ Stop → Turning way legs a k b₀ sp sq n m b k
-  unfolding stopsAt
-  turning-stops e = record {
-    visited = record { most = omega arith; done = done-of (pass-stops way legs a k i b₀ b (g .visited .most) (g .visited .done .state) (ap stopsAt e)) (g .visited .done) };
-    strategies = g .strategies;
-  }
-
   pub legs-room : turnOf way legs a b ≡ ByLegs → i < k → Room sp n (each (turn way legs a) k b₀ .records) → Room sq m (recordsByLegs (entryAt b a) (b .orders) own)
   legs-room e l r = rw same-own at (L.legs-room a b (visit-room (g .visited) l (turn-legs way legs a b e) r))
 
@@ -371,17 +384,26 @@ module _ (way : Allocation) (legs : Bool) (a : ℕ) {k i : ℕ} {b₀ b : State}
       fit-done (L.legs-done a b (rw (sym same-own) at d)) (rw (turn-legs way legs a b e) at (turn-kept shrinks-kept way legs a i b (turning-fit .orderRows))) turning-fit
 
   pub turning-legs : turnOf way legs a b ≡ ByLegs → i < k → {sr : List ℤ} {t : AfterLegs} → FilledByLegs sq sr m t (entryAt b a) (b .orders) own
-      → Turning way legs a k b₀ sp sr n (t .count) (withOrders (cut b a (t .units)) (t .rows)) (i + 1)
+      → {f : Entry} → f ≡ cutEntry (entryAt b a) (t .units) → {r : ℕ} → r ≡ pick (eqb (f .units) 0) k (i + 1)
+      → Turning way legs a k b₀ sp sr n (t .count) (withOrders (cut b a (t .units)) (t .rows)) r
   unfolding withOrders cut withEntries
-  turning-legs e l d = record { visited = visit-moves (g .visited) l (turn-legs way legs a b e) (L.legs-done a b (rw (sym same-own) at d)); strategies = g .strategies }
+  turning-legs e l {t = t} d p q =
+      turning-next way legs a
+      (record { visited = visit-moves (g .visited) l (turn-legs way legs a b e) (L.legs-done a b (rw (sym same-own) at d)); strategies = g .strategies })
+      (p ∙ sym (cut-at b a (t .units)))
+      q
 
   pub limit-room : {level : ℕ} → turnOf way legs a b ≡ AtLimit level → i < k → Room sp n (each (turn way legs a) k b₀ .records) → RoomIn (HasRows (b .entries) own a) (meetLimit way a level) sq m
   limit-room {level} e l r = record { book = b; held = turning-rows; room = visit-room (g .visited) l (turn-limit way legs a b level e) r }
 
   pub turning-limit : (rows : List Entry) {level : ℕ} → turnOf way legs a b ≡ AtLimit level → i < k → {sr : List ℤ} {o : ℕ} → DoneIn (HasRows (b .entries) own a) (meetLimit way a level) sq sr m o (putEntries rows)
-      → Turning way legs a k b₀ sp sr n o (withEntries b rows) (i + 1)
+      → {r : ℕ} → r ≡ pick (eqb (getD rows a noEntry .units) 0) k (i + 1) → Turning way legs a k b₀ sp sr n o (withEntries b rows) r
   unfolding withEntries
-  turning-limit rows {level} e l d = record { visited = visit-moves (g .visited) l (turn-limit way legs a b level e) (d .done b turning-rows); strategies = g .strategies }
+  turning-limit rows {level} e l d q =
+      turning-next way legs a
+      (record { visited = visit-moves (g .visited) l (turn-limit way legs a b level e) (d .done b turning-rows); strategies = g .strategies })
+      refl
+      q
 
 -- whether a turn stops, by what the calls have found
 pub stops-by : (e : Entry) (net : ℕ) (os : List LegOrder) (s : Strategy) (x : ℕ) {r : ℕ} {t : Turn} {p : LegBests} {y : Bool} → y ≡ stopsAt t → t ≡ turnAt e x r → r ≡ netWhere p → p ≡ legsMet e x net os s

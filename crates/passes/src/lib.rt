@@ -1,7 +1,8 @@
 // Passes: an active entry is filled at the best opposite limits of its strategy, by its legs, or by both, within what the
 // national prices and the execution range allow.
 ghost use mathlib.Core.Path.{_≡_};
-ghost use Prim.Native.Nat.{_+_, _-_, _<_};
+ghost use Prim.Native.Nat.{_+_, _<_};
+ghost use lib.Dec.{eqb};
 ghost use Rattle.base.specs.All.{All};
 ghost use Rattle.rules.specs.Sizes.{tableRows};
 ghost use Rattle.rules.specs.Valid.{FitOrder, Priced};
@@ -210,6 +211,17 @@ fn net_over(legs: bool, n: LegNets, side: u8) -> u32
     0
 }
 
+// What comes after turn i of so many: the next, or the end, where nothing of the entry is left.
+fn next_turn(g: Entry, i: u32, turns: u32) -> u32
+    requires { ⌜ i < turns ⌝ }
+    ensures { λ r. ⌜ r ≡ pick (eqb (g .units) 0) turns (i + 1) ⌝ }
+{
+    if g.units == 0 {
+        return turns;
+    }
+    i + 1
+}
+
 // A pass of entry a: turn after turn, each chosen anew, until one stops. There are no more than it has units. No turn changes
 // what bounds them, and only one by the legs the nets.
 pub fn pass(way: Allocation, legs: bool, b: State, a: usize, space: &mut [i32], n: usize) -> After
@@ -251,14 +263,15 @@ pub fn pass(way: Allocation, legs: bool, b: State, a: usize, space: &mut [i32], 
                 c.nets = nets_left(ns, ss, rows, f.side, s, ps);
                 c.entries[a] = g;
                 m = y.count;
-                i += 1;
+                i = next_turn(g, i, units);
             }
             Turn::AtLimit(level) => {
                 let y = meet_limit(way, es, s, a, level, space, m);
                 let rows = y.rows;
+                let g = rows[a];
                 c.entries = rows;
                 m = y.count;
-                i += 1;
+                i = next_turn(g, i, units);
             }
         }
     }

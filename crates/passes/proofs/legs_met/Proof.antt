@@ -5,29 +5,23 @@ use borrow.Author.Needs.{needs}
 use Rattle.passes.proofs.legs_met.Statement.{statement}
 use Rattle.passes.proofs.legs_met.Tie as tie
 
--- src/lib.rt:101:8
 legs-first-requires : tie.Need-legs-first-requires
 legs-first-requires c κs = search needs
 
--- src/lib.rt:102:12
 meets-requires : tie.Need-meets-requires
 meets-requires c κs = search needs
 
--- src/lib.rt:103:13
 leg-bests-requires : tie.Need-leg-bests-requires
 leg-bests-requires c κs = c .before .before .before .before .pre
 
--- src/lib.rt:103:13
 returns : tie.Need-returns
 unfolding legsMet
 returns c = c .leg-bests .ensures ∙ sym (pick-true _ _ _ (told (c .before .before .before .before .legs-first .ensures) (c .before .before .before .if1 .taken)) ∙ pick-true _ _ _ (told (c .before .before .meets .ensures) (c .before .if2 .taken)))
 
--- src/lib.rt:94:1
 returns-2 : tie.Need-returns-2
 unfolding legsMet
 returns-2 c = sym (pick-true _ _ _ (told (c .before .before .before .legs-first .ensures) (c .before .before .if1 .taken)) ∙ pick-false _ _ _ (told (c .before .meets .ensures) (c .if2 .left)))
 
--- src/lib.rt:94:1
 returns-3 : tie.Need-returns-3
 unfolding legsMet
 returns-3 c = sym (pick-false _ _ _ (told (c .before .legs-first .ensures) (c .if1 .left)))

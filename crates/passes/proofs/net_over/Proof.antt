@@ -4,15 +4,12 @@ use borrow.Author.Needs.{needs}
 use Rattle.passes.proofs.net_over.Statement.{statement}
 use Rattle.passes.proofs.net_over.Tie as tie
 
--- src/lib.rt:203:9
 net-for-requires : tie.Need-net-for-requires
 net-for-requires c κs = search needs
 
--- src/lib.rt:203:9
 returns : tie.Need-returns
 returns c = c .net-for .ensures ∙ sym (pick-true _ _ _ (c .before .if1 .taken))
 
--- src/lib.rt:199:1
 returns-2 : tie.Need-returns-2
 returns-2 c = sym (pick-false _ _ _ (c .if1 .left))
 

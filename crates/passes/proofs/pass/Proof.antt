@@ -1,7 +1,7 @@
 use Rattle.rules.specs.Nets.{priceOf}
 use native.Mathlib.Omega.{arith}
 use borrow.Author.Needs.{needs}
-use mathlib.Core.Path.{_≡_, refl, sym, _∙_}
+use mathlib.Core.Path.{_∙_}
 use Prim.Native.Nat.{_-_, _<_}
 use Rattle.rules.specs.declared.Strategy.{Strategy}
 use Rattle.rules.specs.State.{entryAt, strategyOf, withEntries, withOrders}
@@ -11,7 +11,7 @@ use Rattle.records.specs.Done.{visit-all, done-length}
 use Rattle.ranges.specs.Fit.{Fit, fit-entry, fit-legs}
 use Rattle.stored_nets.specs.Laws.{nets-by}
 use Rattle.legging.specs.Left.{met-at, nets-left}
-use Rattle.passes.specs.Passes.{Turning, Chosen, turning-none, turning-fit, turning-chosen, turning-stops, legs-room, legs-fit, turning-legs, limit-room, turning-limit}
+use Rattle.passes.specs.Passes.{Turning, Chosen, turning-none, turning-fit, turning-chosen, turning-stops, next-less, legs-room, legs-fit, turning-legs, limit-room, turning-limit}
 use Rattle.passes.proofs.pass.Statement.{statement}
 use Rattle.passes.proofs.pass.Tie as tie
 
@@ -45,97 +45,71 @@ chosen k = turning-chosen _ _ _ (first (around k) .pre .0 .1) (around k .loop .i
 tested : (k : tie.After-turn-of Inv-loop μ-loop) → around k .loop .i < entryAt (first (around k) .args .b) (first (around k) .args .a) .units
 tested k = k .before .before .before .before .before .before .before .before .before .loop-test .taken
 
--- there are no more than an entry may have
-few : (k : tie.After-turn-of Inv-loop μ-loop) → around k .loop .i < 9999
-few k = let p = first (around k) in omega (arith, fit-entry (p .pre .0 .1 .entries) (p .args .a) .units, tested k)
-
--- src/lib.rt:216:13
 mul-e : tie.Need-mul-e Inv-loop μ-loop
 mul-e c = search needs
 
--- src/lib.rt:216:13
 element-copy-out-e : tie.Need-element-copy-out-e Inv-loop μ-loop
 element-copy-out-e c = c .pre .0 .0
 
--- src/lib.rt:217:17
 cast-units : tie.Need-cast-units Inv-loop μ-loop
 cast-units c = search needs
 
--- src/lib.rt:218:13
 cast-k : tie.Need-cast-k Inv-loop μ-loop
 cast-k c = search needs
 
--- src/lib.rt:219:13
 mul-s : tie.Need-mul-s Inv-loop μ-loop
 mul-s c = search needs
 
--- src/lib.rt:219:13
 element-copy-out-s : tie.Need-element-copy-out-s Inv-loop μ-loop
 element-copy-out-s c = fit-entry (c .before .before .before .pre .0 .1 .entries) (c .before .before .before .args .a) .strategy
 
--- src/lib.rt:221:9
 bounds-requires : tie.Need-bounds-requires Inv-loop μ-loop
 bounds-requires c κs = (c .before .before .before .before .before .pre .0 .1 .quotes, fit-legs (c .before .before .before .before .before .pre .0 .1 .strategies) _)
 
--- src/lib.rt:224:5
 loop-holds : tie.Need-loop-holds Inv-loop μ-loop
 loop-holds c = turning-none _ _ _ _ _ _ _
 
--- src/lib.rt:225:17
 mul-f : tie.Need-mul-f Inv-loop μ-loop
 mul-f c = search needs
 
--- src/lib.rt:225:17
 element-copy-out-f : tie.Need-element-copy-out-f Inv-loop μ-loop
 element-copy-out-f c = c .before .before .before .before .before .before .before .before .pre .0 .0
 
--- src/lib.rt:228:20
 mul-held : tie.Need-mul-held Inv-loop μ-loop
 mul-held c = omega (arith, fit-entry (c .before .before .before .before .before .before .before .before .before .before .before .pre .0 .1 .entries) (c .before .before .before .before .before .before .before .before .before .before .before .args .a) .strategy)
 
--- src/lib.rt:228:20
 element-copy-out-held : tie.Need-element-copy-out-held Inv-loop μ-loop
 element-copy-out-held c = fit-entry (c .before .before .before .before .before .before .before .before .before .before .before .pre .0 .1 .entries) (c .before .before .before .before .before .before .before .before .before .before .before .args .a) .strategy
 
--- src/lib.rt:229:13
 net-over-requires : tie.Need-net-over-requires Inv-loop μ-loop
 net-over-requires c κs = search needs
 
--- src/lib.rt:230:13
 opposite-requires : tie.Need-opposite-requires Inv-loop μ-loop
 opposite-requires c κs = search needs
 
--- src/lib.rt:231:13
 legs-met-requires : tie.Need-legs-met-requires Inv-loop μ-loop
 legs-met-requires c κs = let f = turning-fit _ _ _ (c .before .before .before .before .before .before .before .before .before .before .before .before .before .before .pre .0 .1) (c .before .before .before .before .before .before .before .loop .inv) in (f .orders, f .priced, fit-legs (c .before .before .before .before .before .before .before .before .before .before .before .before .before .before .pre .0 .1 .strategies) _)
 
--- src/lib.rt:232:13
 ready-net-requires : tie.Need-ready-net-requires Inv-loop μ-loop
 ready-net-requires c κs = search needs
 
--- src/lib.rt:233:13
 turn-of-requires : tie.Need-turn-of-requires Inv-loop μ-loop
 turn-of-requires c κs = search needs
 
--- src/lib.rt:236:17
 enum-told : tie.Need-enum-told Inv-loop μ-loop
 enum-told c = search needs
 
--- src/lib.rt:224:5
 loop-less : tie.Need-loop-less Inv-loop μ-loop
 loop-less c = omega arith
 
--- src/lib.rt:224:5
 loop-again : tie.Need-loop-again Inv-loop μ-loop
 loop-again c = let k = c .before .before in
     let l = around k in
-    turning-stops _ _ _ (first l .pre .0 .1) (l .loop .inv) (chosen k .turn ∙ c .enum-told .given .1)
+    turning-stops _ _ _ (l .loop .inv) (chosen k .turn ∙ c .enum-told .given .1)
 
--- src/lib.rt:239:47
 enum-told-2 : tie.Need-enum-told-2 Inv-loop μ-loop
 enum-told-2 c = search needs
 
--- src/lib.rt:239:21
 leg-fill-requires : tie.Need-leg-fill-requires Inv-loop μ-loop
 unfolding pass
 leg-fill-requires c κs = let k = c .before .before .before in
@@ -144,11 +118,9 @@ leg-fill-requires c κs = let k = c .before .before .before in
     let e = c .before .enum-told2 .given .1 in
     ((fit-legs (p .pre .0 .1 .strategies) _, fit-entry (fits l .entries) (p .args .a) .units, chosen k .found e, chosen k .some e), legs-room _ _ _ (p .pre .0 .1) (l .loop .inv) (chosen k .turn ∙ e) (tested k) (p .pre .1))
 
--- src/lib.rt:243:21
 cut-entry-requires : tie.Need-cut-entry-requires Inv-loop μ-loop
 cut-entry-requires c κs = search needs
 
--- src/lib.rt:246:26
 nets-left-requires : tie.Need-nets-left-requires Inv-loop μ-loop
 unfolding cut withEntries withOrders
 nets-left-requires c κs = let k = c .before .before .before .before .before .before .before .before .before .before in
@@ -159,39 +131,33 @@ nets-left-requires c κs = let k = c .before .before .before .before .before .be
     let s = fit-legs (p .pre .0 .1 .strategies) _ in
     (fits l .strategies, fit .orders, fit .priced, s, record { prices = priceOf (l .loop .c .orders); at = met-at _ _ (own k) (fits l .orders) (s .count) (chosen k .found e) (chosen k .some e); nets = fits l .nets .are ∙ nets-by _ _ })
 
--- src/lib.rt:247:17
 mul-g : tie.Need-mul-g Inv-loop μ-loop
 mul-g c = omega (arith, first (around (c .before .before .before .before .before .before .before .before .before .before .before)) .pre .0 .0)
 
--- src/lib.rt:247:17
 element-set-from-g : tie.Need-element-set-from-g Inv-loop μ-loop
 element-set-from-g c = first (around (c .before .before .before .before .before .before .before .before .before .before .before)) .pre .0 .0
 
--- src/lib.rt:249:17
-add-i : tie.Need-add-i Inv-loop μ-loop
-add-i c = omega (arith, few (c .before .before .before .before .before .before .before .before .before .before .before))
+next-turn-requires : tie.Need-next-turn-requires Inv-loop μ-loop
+next-turn-requires c κs = tested (c .before .before .before .before .before .before .before .before .before .before .before)
 
--- src/lib.rt:224:5
 loop-less-2 : tie.Need-loop-less-2 Inv-loop μ-loop
-loop-less-2 c = omega (arith, tested (c .before .before .before .before .before .before .before .before .before .before .before))
+loop-less-2 c = next-less _ (tested (c .before .before .before .before .before .before .before .before .before .before .before .before)) (c .next-turn .ensures)
 
--- src/lib.rt:224:5
 loop-again-2 : tie.Need-loop-again-2 Inv-loop μ-loop
 unfolding cut withEntries withOrders
-loop-again-2 c = let k = c .before .before .before .before .before .before .before .before .before .before .before in
+loop-again-2 c = let k = c .before .before .before .before .before .before .before .before .before .before .before .before in
     let l = around k in
     let p = first l in
-    let e = c .before .before .before .before .before .before .before .before .before .enum-told2 .given .1 in
-    let d = c .before .before .before .before .before .before .before .leg-fill .ensures in
+    let e = c .before .before .before .before .before .before .before .before .before .before .enum-told2 .given .1 in
+    let d = c .before .before .before .before .before .before .before .before .leg-fill .ensures in
+    let g = c .before .before .before .cut-entry .ensures in
     let s = fit-legs (p .pre .0 .1 .strategies) _ in
-    rw (c .before .before .cut-entry .ensures, nets-left _ _ (own k) _ (fits l .orders) (s .count) (chosen k .found e) (chosen k .some e) (fits l .nets .are) (d .rows) (c .nets-left .ensures))
-    (turning-legs _ _ _ (p .pre .0 .1) (l .loop .inv) (chosen k .turn ∙ e) (tested k) d)
+    rw (g, nets-left _ _ (own k) _ (fits l .orders) (s .count) (chosen k .found e) (chosen k .some e) (fits l .nets .are) (d .rows) (c .before .nets-left .ensures))
+    (turning-legs _ _ _ (p .pre .0 .1) (l .loop .inv) (chosen k .turn ∙ e) (tested k) d g (c .next-turn .ensures))
 
--- src/lib.rt:251:27
 enum-known-t : tie.Need-enum-known-t Inv-loop μ-loop
 enum-known-t c = search needs
 
--- src/lib.rt:252:21
 meet-limit-requires : tie.Need-meet-limit-requires Inv-loop μ-loop
 unfolding pass
 meet-limit-requires c κs = let k = c .before .before .before .before in
@@ -199,26 +165,27 @@ meet-limit-requires c κs = let k = c .before .before .before .before in
     let p = first l in
     (p .pre .0 .0, limit-room _ _ _ (p .pre .0 .1) (l .loop .inv) (chosen k .turn ∙ c .before .before .t .given .1) (tested k) (p .pre .1))
 
--- src/lib.rt:256:17
-add-i-2 : tie.Need-add-i-2 Inv-loop μ-loop
-add-i-2 c = omega (arith, few (c .before .before .before .before .before .before .before))
+mul-g-2 : tie.Need-mul-g-2 Inv-loop μ-loop
+mul-g-2 c = omega (arith, first (around (c .before .before .before .before .before .before .before)) .pre .0 .0)
 
--- src/lib.rt:224:5
+array-copy-out-g : tie.Need-array-copy-out-g Inv-loop μ-loop
+array-copy-out-g c = first (around (c .before .before .before .before .before .before .before)) .pre .0 .0
+
+next-turn-requires-2 : tie.Need-next-turn-requires-2 Inv-loop μ-loop
+next-turn-requires-2 c κs = tested (c .before .before .before .before .before .before .before .before)
+
 loop-less-3 : tie.Need-loop-less-3 Inv-loop μ-loop
-loop-less-3 c = omega arith
+loop-less-3 c = next-less _ (tested (c .before .before .before .before .before .before .before .before .before)) (c .next-turn2 .ensures)
 
--- src/lib.rt:224:5
 loop-again-3 : tie.Need-loop-again-3 Inv-loop μ-loop
 unfolding withEntries
-loop-again-3 c = let k = c .before .before .before .before .before .before .before in
+loop-again-3 c = let k = c .before .before .before .before .before .before .before .before .before in
     let l = around k in
-    turning-limit _ _ _ (first l .pre .0 .1) (l .loop .inv) (c .before .before .meet-limit .result .rows) (chosen k .turn ∙ c .before .before .before .before .before .t .given .1) (tested k) (c .before .before .meet-limit .ensures)
+    turning-limit _ _ _ (first l .pre .0 .1) (l .loop .inv) (c .before .before .before .before .meet-limit .result .rows) (chosen k .turn ∙ c .before .before .before .before .before .before .before .t .given .1) (tested k) (c .before .before .before .before .meet-limit .ensures) (c .next-turn2 .ensures)
 
--- src/lib.rt:210:1
 same-length : tie.Need-same-length Inv-loop μ-loop
 same-length c = done-length (c .before .loop .inv .visited .done)
 
--- src/lib.rt:210:1
 returns : tie.Need-returns Inv-loop μ-loop
 unfolding pass
 returns c = visit-all (c .before .loop .inv .visited) (c .loop-test .left)
@@ -255,12 +222,14 @@ pass-spec =
     nets-left-requires
     mul-g
     element-set-from-g
-    add-i
+    next-turn-requires
     loop-less-2
     loop-again-2
     enum-known-t
     meet-limit-requires
-    add-i-2
+    mul-g-2
+    array-copy-out-g
+    next-turn-requires-2
     loop-less-3
     loop-again-3
     same-length

@@ -3,15 +3,12 @@ use borrow.Author.Needs.{needs}
 use Rattle.passes.proofs.turn_of.Statement.{statement}
 use Rattle.passes.proofs.turn_of.Tie as tie
 
--- src/lib.rt:137:9
 turn-at-requires : tie.Need-turn-at-requires
 turn-at-requires c κs = search needs
 
--- src/lib.rt:138:5
 allowed-requires : tie.Need-allowed-requires
 allowed-requires c κs = search needs
 
--- src/lib.rt:134:1
 returns : tie.Need-returns
 unfolding turnIn
 returns c = rw (c .allowed .ensures, c .before .turn-at .ensures)
