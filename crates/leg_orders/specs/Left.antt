@@ -178,5 +178,11 @@ left-nets os left o ss a b m p f =
     λ x e. with-price-is (butOwn os left o) (o .series) (o .side) _ (λ (y : ℕ). y ≡ priceOf left x e) x e (λ u v. rw (u, v) refl) (λ u. with-price-other (priceOf left) (o .series) (o .side) _ u) in
     f .by (butOwn os left o) (with-price-most (priceOf left) _ _ _ (price-most left b) (price-most os a _ _)) m (with-price-at (priceOf left) _ _ _ ∙ sym p) (λ _. all) ∙ all-nets-ext ss all ∙ sym (nets-by left ss)
 
+-- .. as they are where that price is as it was
+pub same-nets : (os left : List LegOrder) (o : LegOrder) (ss : List Strategy) {ms : List LegNets} → ms ≡ allNetsBy (butOwn os left o) ss → priceOf left (o .series) (o .side) ≡ priceOf os (o .series) (o .side)
+    → ms ≡ netsOf left ss
+same-nets os left o ss m p =
+    m ∙ all-nets-ext ss (λ x e. with-price-is (priceOf left) (o .series) (o .side) _ (λ (y : ℕ). y ≡ priceOf left x e) x e (λ u v. rw (u, v) (sym p)) (λ u. refl)) ∙ sym (nets-by left ss)
+
 pub left-fits : (os left : List LegOrder) (o : LegOrder) (ss : List Strategy) {ms : List LegNets} → All FitOrder os → All FitOrder left → All FitLegs ss → ms ≡ allNetsBy (butOwn os left o) ss → All FitNets ms
 left-fits os left o ss a b l m = rw m (fit-all-by (butOwn os left o) (with-price-most (priceOf left) _ _ _ (price-most left b) (price-most os a _ _)) ss l)

@@ -1,9 +1,10 @@
 -- The rules of a leg order by what the code tests, and the ranges that they keep.
-use mathlib.Core.Path.{_≡_, refl, sym, _∙_}
+use mathlib.Core.Path.{_≡_, refl, sym, _∙_, ap}
 use mathlib.Core.List.{List}
 use Prim.Native.Nat.{ℕ, _≤_, _<_}
 use borrow.Author.Tests.{eq-eqb, ne-eqb}
 use lib.IntN.{ℤ}
+use lib.ListN.{length, getD}
 use Rattle.rules.specs.declared.LegOrder.{LegOrder}
 use Rattle.rules.specs.declared.LegNets.{LegNets}
 use Rattle.rules.specs.declared.State.{State}
@@ -17,14 +18,15 @@ use Rattle.rules.proofs.Control.{tradeAll-kept, shrinks-kept}
 use Rattle.rules.proofs.Entering.{fit-no-order}
 use Rattle.rules.proofs.Tables.{behind-all, behind-length}
 use Rattle.records.specs.Space.{Room}
-use Rattle.records.specs.Done.{Done, RoomIn, room-of, room-then}
+use Rattle.records.specs.Done.{Done, RoomIn, done-length, room-of, room-then}
 use Rattle.ranges.specs.Fit.{FitLegs, Fit, fit-done}
 use Rattle.rules.proofs.Bests.{priced-none}
+use Rattle.rules.proofs.LegPrices.{filled-price}
 use Rattle.rules.proofs.BetterNets.{price-most}
 use Rattle.matching.specs.Places.{nextAt, passes-none}
 use Rattle.trades.specs.Trades.{putOrders}
 use Rattle.stored_nets.specs.Stored.{FitNets, Refreshed}
-use Rattle.leg_orders.specs.Left.{Enters, HasRows, TradesLeft, has-orders, left-nets, left-fits}
+use Rattle.leg_orders.specs.Left.{Enters, HasRows, TradesLeft, has-orders, left-nets, same-nets, left-fits}
 use Rattle.base.specs.All.{All}
 use Rattle.base.specs.Pick.{pick-true, pick-false}
 
@@ -94,9 +96,12 @@ module _ (o : LegOrder) (b : State) {a : ℕ} {rows : List LegOrder} (slot : a �
   pub enters-room : {sp : List ℤ} {n : ℕ} → Room sp n (onLegOrder o b .records) → RoomIn (HasRows rows) (tradeAll a) sp n
   enters-room r = record { book = enterOrder o b; held = enter-rows o b entered own priced fit; room = room-then _ _ (room-of (leg-is o b slot refl) r) }
 
-  module _ (left : List LegOrder) (nets : List LegNets) (before : ℕ) {sp sq : List ℤ} {n m : ℕ} {ms : List LegNets} (t : TradesLeft (b .orders) rows a o (b .strategies) sp sq n left ms m) where
+  module _ (left : List LegOrder) {sp sq : List ℤ} {n m : ℕ} {ms : List LegNets} (t : TradesLeft (b .orders) rows a o (b .strategies) sp sq n left ms m) where
     done-here : Done sp sq n m (putOrders left (enterOrder o b)) (tradeAll a (enterOrder o b))
     done-here = t .done .done (enterOrder o b) (has-orders (enter-rows o b entered own priced fit))
+
+    pub left-length : length sq ≡ length sp
+    left-length = done-length done-here
 
     fit-left : Fit (putOrders left (enterOrder o b))
     fit-left = fit-trades a (enterOrder o b) (enter-fit o b own priced fit) done-here
@@ -104,16 +109,30 @@ module _ (o : LegOrder) (b : State) {a : ℕ} {rows : List LegOrder} (slot : a �
     left-orders : All FitOrder left
     left-orders = unfold withOrders in fit-left .orders
 
-    -- what the last of the nets asks for
-    pub left-asks : before ≡ priceOf (b .orders) (o .series) (o .side) → All FitLegs (b .strategies) × All FitOrder left × All Priced left × All FitNets ms × (o .side ≤ 1) × (before ≤ 99_999)
-    unfolding withOrders
-    left-asks p =
-        (fit .strategies, fit-left .orders, fit-left .priced, left-fits (b .orders) left o (b .strategies) (fit .orders) left-orders (fit .strategies) (t .nets), own .side, rw p (price-most (b .orders) (fit .orders) _ _))
-
     -- the trades in the state that the code has stored
-    pub left-done : before ≡ priceOf (b .orders) (o .series) (o .side) → Refreshed ms (b .strategies) left (o .series) (o .side) before nets → Done sp sq n m (leftState o left nets b) (tradeAll a (enterOrder o b))
-    left-done p f =
-        rw (left-state o b left (left-nets (b .orders) left o (b .strategies) (fit .orders) left-orders (t .nets) p f)) done-here
+    done-in : {nets : List LegNets} → nets ≡ netsOf left (b .strategies) → Done sp sq n m (leftState o left nets b) (tradeAll a (enterOrder o b))
+    done-in e = rw (left-state o b left e) done-here
 
-    pub left-fit : before ≡ priceOf (b .orders) (o .series) (o .side) → Refreshed ms (b .strategies) left (o .series) (o .side) before nets → Fit (leftState o left nets b)
-    left-fit p f = fit-trades a (enterOrder o b) (enter-fit o b own priced fit) (left-done p f)
+    -- NOTHING RESTS: the own side's price is as it was, so the nets by the trades are those of the leg orders left
+    own-price : getD left a noOrder .contracts ≡ 0 → priceOf left (o .series) (o .side) ≡ priceOf (b .orders) (o .series) (o .side)
+    unfolding freeOrderSlot withOrders
+    own-price z =
+        let is : left ≡ tradeAll a (enterOrder o b) .state .orders = ap (λ (c : State). c .orders) (done-here .state) in
+        rw is (filled-price o (b .orders) a (o .series) (enterOrder o b) free (fit .orderRows) slot (enter-rows o b entered own priced fit .orders ∙ entered) (rw is at z))
+
+    pub gone-done : getD left a noOrder .contracts ≡ 0 → Done sp sq n m (leftState o left ms b) (tradeAll a (enterOrder o b))
+    gone-done z = done-in (same-nets (b .orders) left o (b .strategies) (t .nets) (own-price z))
+
+    -- SOMETHING RESTS: the nets are made anew by the own side's price, which was `before`
+    module _ {before : ℕ} (p : before ≡ priceOf (b .orders) (o .series) (o .side)) where
+      -- what they ask for
+      pub left-asks : All FitLegs (b .strategies) × All FitOrder left × All Priced left × All FitNets ms × (o .side ≤ 1) × (before ≤ 99_999)
+      unfolding withOrders
+      left-asks =
+          (fit .strategies, fit-left .orders, fit-left .priced, left-fits (b .orders) left o (b .strategies) (fit .orders) left-orders (fit .strategies) (t .nets), own .side, rw p (price-most (b .orders) (fit .orders) _ _))
+
+      pub left-done : {nets : List LegNets} → Refreshed ms (b .strategies) left (o .series) (o .side) before nets → Done sp sq n m (leftState o left nets b) (tradeAll a (enterOrder o b))
+      left-done f = done-in (left-nets (b .orders) left o (b .strategies) (fit .orders) left-orders (t .nets) p f)
+
+      pub left-fit : {nets : List LegNets} → Refreshed ms (b .strategies) left (o .series) (o .side) before nets → Fit (leftState o left nets b)
+      left-fit f = fit-trades a (enterOrder o b) (enter-fit o b own priced fit) (left-done f)

@@ -66,7 +66,8 @@ fn trades_of(
     }
 }
 
-// A leg order enters and trades; if any rests, the passes by legs only.
+// A leg order enters and trades; if any rests, the passes by legs only. If none does, its own side's price is as it was, and so the nets
+// that its trades leave are true.
 pub fn on_leg_order(b: State, o: LegOrder, space: &mut [i32], n: usize) -> After
     requires { ⌜ (freeOrderSlot b < tableRows) × FitOrder o × Priced o × Fit b ⌝ }
     requires { ⌜ Room (now space) n (onLegOrder o b .records) ⌝ }
@@ -81,16 +82,17 @@ pub fn on_leg_order(b: State, o: LegOrder, space: &mut [i32], n: usize) -> After
     let left = x.rows;
     let ms = x.nets;
     let m = x.count;
-    let before = price_of(os, o.series, o.side);
-    let nets = refreshed(ms, ss, left, o.series, o.side, before);
     let mut c = b;
     c.orders = left;
-    c.nets = nets;
+    c.nets = ms;
     c.last = o.number;
     let p = c.orders[a];
     if p.contracts == 0 {
         return After { state: c, count: m };
     }
+    let before = price_of(os, o.series, o.side);
+    let nets = refreshed(ms, ss, left, o.series, o.side, before);
+    c.nets = nets;
     let es = c.entries;
     let from = next_pass(ss, es, left, nets, c.opened, o.series, 0);
     if from == PLACES {

@@ -1,4 +1,5 @@
--- The best prices that a move of leg orders leaves as they were: those of every series and side of which it changes no order that stands.
+-- The best prices that a move of leg orders leaves as they were: those of every series and side of which it changes no order that stands, and
+-- the own side's of an order that is wholly filled as it enters.
 use mathlib.Core.Path.{_≡_, refl, sym, _∙_, ap}
 use mathlib.Core.Bool.{Bool, true, false}
 use mathlib.Core.Logic.{⊎-elim}
@@ -6,7 +7,7 @@ use mathlib.Core.List.{List, [], _∷_, _++_}
 use Prim.Native.Nat.{ℕ, zero, suc, _≤_, _<_, min}
 use native.Mathlib.Nat.{sub-zero}
 use native.Mathlib.Omega.{arith}
-use borrow.Author.Tests.{not-false, ltb-true}
+use borrow.Author.Tests.{eqb-true, eq-eqb, not-false, ltb-true}
 use lib.ListN.{length, getD, set, take}
 use Rattle.base.specs.Pick.{pick, pick-all, pick-by, pick-true, pick-false}
 use Rattle.base.specs.All.{All, all-nil, all-cons, all-replicate}
@@ -15,14 +16,15 @@ use Rattle.rules.specs.declared.LegOrder.{LegOrder}
 use Rattle.rules.specs.declared.State.{State}
 use Rattle.rules.specs.State.{noOrder, orderAt, withOrders}
 use Rattle.rules.specs.Moves.{Moved}
-use Rattle.rules.specs.Sides.{bestPrice}
+use Rattle.rules.specs.Sides.{other, bestPrice}
 use Rattle.rules.specs.Nets.{stands, priceWith, priceStep, priceOf}
 use Rattle.rules.specs.Fills.{LegTake, cutOrder, cutLeg, legQuotas, cutByLegs, legTrade}
 use Rattle.rules.specs.Events.{liveOrder, keep, behind, bestOrder, tradeOnce, tradeAll}
-use Rattle.rules.proofs.Tables.{all-take, behind-length}
+use Rattle.rules.proofs.Tables.{all-take, behind-length, behind-slot}
 use Rattle.rules.proofs.Shrinks.{set-by, cutLeg-shrinks, trade-shrinks}
+use Rattle.rules.proofs.Gives.{other-apart}
 use Rattle.rules.proofs.Control.{standing, meets-standing, best-order}
-use Rattle.rules.proofs.Settled.{each-keeps}
+use Rattle.rules.proofs.Settled.{same-or, each-keeps}
 use Rattle.rules.proofs.LegAccounts.{held, quota-lot, takenBy, legs-row}
 use Rattle.rules.proofs.Bests.{with-no, stands-none}
 
@@ -164,9 +166,13 @@ module _ (x e : ℕ) where
   over-behind (suc n) p (o ∷ os) h a = over-behind n (priceWith x e p o) os (omega arith) a
 
   -- a row with no contracts
+  stands-not : (o : LegOrder) → o .contracts ≡ 0 → Elsewhere o
+  unfolding stands
+  stands-not o h = pick-true _ _ _ (eq-eqb _ _ h)
+
   stands-dead : (o : LegOrder) → liveOrder o ≡ false → Elsewhere o
-  unfolding stands liveOrder
-  stands-dead o h = pick-true _ _ _ (not-false _ h)
+  unfolding liveOrder
+  stands-dead o h = stands-not o (eqb-true _ _ (not-false _ h))
 
   -- the live rows alone
   over-live : (p : ℕ) (os : List LegOrder) → over x e p (keep liveOrder os) ≡ over x e p os
@@ -190,10 +196,85 @@ stands-other x e o n = by (stands x e o) refl
     by true t = let s = standing x e o t in absurd (n (sym (s .inSeries), sym (s .onSide)))
     by false t = t
 
--- behind the live ones: of every other series or side
-pub enter-price : (o : LegOrder) (os : List LegOrder) (x e : ℕ) → length (keep liveOrder os) < 32 → length os ≡ 32 → ¬ ((x ≡ o .series) × (e ≡ o .side)) → priceOf (behind liveOrder noOrder o os) x e ≡ priceOf os x e
+-- behind the live ones: where it stands elsewhere or not at all
+enter-elsewhere : (o : LegOrder) (os : List LegOrder) (x e : ℕ) → length (keep liveOrder os) < 32 → length os ≡ 32 → stands x e o ≡ false → priceOf (behind liveOrder noOrder o os) x e ≡ priceOf os x e
 unfolding behind
-enter-price o os x e room rows n =
+enter-elsewhere o os x e room rows h =
     price-over x e (behind liveOrder noOrder o os) (behind-length liveOrder noOrder o os)
-    ∙ over-behind x e 32 0 (keep liveOrder os) (omega arith) (all-cons (stands-other x e o n) (all-replicate noOrder (stands-none x e) 32))
+    ∙ over-behind x e 32 0 (keep liveOrder os) (omega arith) (all-cons h (all-replicate noOrder (stands-none x e) 32))
     ∙ over-live x e 0 os ∙ sym (price-over x e os rows)
+
+-- .. of every other series or side
+pub enter-price : (o : LegOrder) (os : List LegOrder) (x e : ℕ) → length (keep liveOrder os) < 32 → length os ≡ 32 → ¬ ((x ≡ o .series) × (e ≡ o .side)) → priceOf (behind liveOrder noOrder o os) x e ≡ priceOf os x e
+enter-price o os x e room rows n = enter-elsewhere o os x e room rows (stands-other x e o n)
+
+-- AN ORDER THAT IS WHOLLY FILLED as it enters
+-- what one cut leaves of a slot, for a side that the order cut is not of
+cutLeg-row : (b : State) (i q x e j p : ℕ) → (j ≡ i → ¬ (orderAt b i .side ≡ e)) → priceWith x e p (orderAt (cutLeg b i q) j) ≡ priceWith x e p (orderAt b j)
+unfolding cutLeg withOrders
+cutLeg-row b i q x e j p n =
+    set-by (λ (o : LegOrder). priceWith x e p o ≡ priceWith x e p (orderAt b j)) noOrder (cutOrder (orderAt b i) q) (b .orders) i j refl
+    (λ z. rw z (with-cut x e p q (orderAt b i) (λ s d. absurd (n z d))))
+
+-- the order at slot a keeps its side, and every other slot counts on that side as it did
+record Beside (a : ℕ) (b c : State) : Type 0 where
+  side : orderAt c a .side ≡ orderAt b a .side
+  rows : (x p j : ℕ) → ¬ (j ≡ a) → priceWith x (orderAt b a .side) p (orderAt c j) ≡ priceWith x (orderAt b a .side) p (orderAt b j)
+
+-- the other party is of the other side
+deal-beside : (b : State) (a h : ℕ) → orderAt b h .side ≡ other (orderAt b a .side) → Beside a b (legTrade b a h .state)
+unfolding legTrade
+deal-beside b a h s =
+    let q : ℕ = min (orderAt b a .contracts) (orderAt b h .contracts) in
+    let e : ℕ = orderAt b a .side in
+    record {
+      side = trade-shrinks b a h .order a .side;
+      rows = λ x p j n.
+          cutLeg-row (cutLeg b a q) h q x e j p (λ _ d. other-apart e (sym d ∙ cutLeg-shrinks b a q .order h .side ∙ s))
+          ∙ cutLeg-row b a q x e j p (λ z. absurd (n z));
+    }
+
+-- one trade at most
+once-beside : (a i : ℕ) (b : State) → Beside a b (tradeOnce a i b .state)
+unfolding tradeOnce
+once-beside a i b =
+    let P : Moved → Type 0 = λ (m : Moved). Beside a b (m .state) in
+    let same : Beside a b b = record { side = refl; rows = λ x p j n. refl } in
+    let h : ℕ = bestOrder b (orderAt b a) in
+    pick-all P _ same
+    (pick-by P _ (λ l. deal-beside b a h (meets-standing (orderAt b a) (orderAt b h) (best-order b (orderAt b a) (ltb-true _ _ l)) .onSide)) (λ l. same))
+
+-- all its trades
+all-beside : (a : ℕ) (b : State) → Beside a b (tradeAll a b .state)
+unfolding tradeAll
+all-beside a b =
+    each-keeps (Beside a b) (tradeOnce a) 32
+    (λ i l c h. let k = once-beside a i c in record { side = k .side ∙ h .side; rows = λ x p j n. rw (h .side) at (k .rows x p j n) ∙ h .rows x p j n })
+    b (record { side = refl; rows = λ x p j n. refl })
+
+-- a slot that is not the new one's is the same whichever row is new
+swapped-row : {A : Type 0} (d x y : A) (r : List A) (n : ℕ) (l : List A) (j : ℕ) → ¬ (j ≡ length l) → getD (take n (l ++ (x ∷ r))) j d ≡ getD (take n (l ++ (y ∷ r))) j d
+swapped-row d x y r zero l j n = refl
+swapped-row d x y r (suc k) [] zero n = absurd (n refl)
+swapped-row d x y r (suc k) [] (suc j) n = refl
+swapped-row d x y r (suc k) (z ∷ l) zero n = refl
+swapped-row d x y r (suc k) (z ∷ l) (suc j) n = swapped-row d x y r k l j (λ e. n (ap suc e))
+
+behind-swapped : (o q : LegOrder) (os : List LegOrder) (j : ℕ) → ¬ (j ≡ length (keep liveOrder os)) → getD (behind liveOrder noOrder o os) j noOrder ≡ getD (behind liveOrder noOrder q os) j noOrder
+unfolding behind
+behind-swapped o q os j n = swapped-row noOrder o q _ 32 (keep liveOrder os) j n
+
+-- its own side's price is as it was before it entered
+pub filled-price : (o : LegOrder) (os : List LegOrder) (a x : ℕ) (b : State) → length (keep liveOrder os) < 32 → length os ≡ 32 → a ≡ length (keep liveOrder os) → b .orders ≡ behind liveOrder noOrder o os
+    → orderAt (tradeAll a b .state) a .contracts ≡ 0 → priceOf (tradeAll a b .state .orders) x (o .side) ≡ priceOf os x (o .side)
+filled-price o os a x b room size at entered z =
+    let ps : List LegOrder = behind liveOrder noOrder noOrder os in
+    let e : ℕ = o .side in
+    let own : orderAt b a ≡ o = rw (entered, at) (behind-slot liveOrder noOrder o os room) in
+    let s : orderAt b a .side ≡ e = ap (λ (p : LegOrder). p .side) own in
+    let gone : getD ps a noOrder ≡ noOrder = rw at (behind-slot liveOrder noOrder noOrder os room) in
+    price-rows ps (tradeAll a b .state .orders) x e
+    (λ i p l. same-or _ i a
+    (λ q. rw q (with-no x e p (orderAt (tradeAll a b .state) a) (stands-not x e _ z) ∙ sym (rw gone (with-no x e p noOrder (stands-none x e)))))
+    (λ n. rw s at (all-beside a b .rows x p i n) ∙ ap (priceWith x e p) (ap (λ (l : List LegOrder). getD l i noOrder) entered ∙ behind-swapped o noOrder os i (λ q. n (q ∙ sym at)))))
+    ∙ enter-elsewhere noOrder os x e room size (stands-none x e)
