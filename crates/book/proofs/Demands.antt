@@ -1,4 +1,4 @@
--- THE BUYER'S THREE DEMANDS, of every call of the entry and every list of calls.
+-- THE BUYER'S THREE DEMANDS, of every call of the entry and every list of calls; and the stored nets (2026-05) after every list of calls.
 use mathlib.Core.Path.{_≡_, refl, sym, _∙_, ap, subst}
 use mathlib.Core.Bool.{Bool, true, false}
 use mathlib.Core.List.{List, [], _∷_, _++_, map}
@@ -26,9 +26,11 @@ use Rattle.rules.specs.Step.{Outcome, refused, step, answerOf, answerNumber, an
 use Rattle.rules.specs.Records.{Line, lineOf, numbersOf}
 use Rattle.rules.specs.Totals.{Sent, outcome, after, logOf, run}
 use Rattle.rules.specs.Valid.{Valid}
+use Rattle.rules.specs.Sentences.{NetsTrue}
 use Rattle.rules.proofs.Lists.{Went, refusedAs, acceptedAs, went}
 use Rattle.rules.proofs.Refusals.{refusals-exact, refused-still}
 use Rattle.rules.proofs.Room.{room}
+use Rattle.rules.proofs.StoredNets.{valid-nets}
 use Rattle.rules.proofs.Totals.{totals}
 use Rattle.rules.proofs.Validity.{valid-fresh}
 use Rattle.records.specs.Space.{laid, numbers, length-numbers, wrote-nil}
@@ -188,3 +190,16 @@ totals-after-calls timer low high b g cs end r =
 -- .. from the first book, which the constructor gives
 pub totals-after-first : (b : Book) → First b → (cs : List Call) (end : Book) → Calls b cs end → TotalsHold cs end
 totals-after-first b f cs end r = totals-after-calls 5000 (omega arith) (omega arith) b (f .state) cs end r
+
+-- every list of calls from a valid book leads to one
+pub valid-after-calls : {b : Book} {cs : List Call} {end : Book} → Valid (b .state) → Calls b cs end → Valid (end .state)
+valid-after-calls v (no-call b) = v
+valid-after-calls v (a-call b frame s t x w cs end r) = valid-after-calls (w .valid) r
+
+-- 2026-05: "After every list of events from a fresh book the stored nets of each strategy held are those of the leg books", of every list of calls
+pub nets-after-calls : (timer : ℕ) → 1 ≤ timer → timer ≤ 5000 → (b : Book) → b .state ≡ fresh timer → (cs : List Call) (end : Book) → Calls b cs end → NetsTrue (end .state)
+nets-after-calls timer low high b g cs end r = valid-nets (valid-after-calls (rw g (valid-fresh timer low high)) r)
+
+-- .. from the first book
+pub nets-after-first : (b : Book) → First b → (cs : List Call) (end : Book) → Calls b cs end → NetsTrue (end .state)
+nets-after-first b f cs end r = valid-nets (valid-after-calls (f .valid) r)

@@ -14,12 +14,16 @@ use Rattle.rules.specs.State.{strategyAt, legNet, netsStored}
 use Rattle.rules.specs.Records.{cents}
 use Rattle.rules.specs.Nets.{prices}
 use Rattle.rules.specs.Refusals.{undefined}
-use Rattle.rules.specs.Lookups.{LookedUp, nets, toldNet, legNets, netsTells}
+use Rattle.rules.specs.Lookups.{LookedUp, nets, refusedBy, toldNet, legNets, netsTells}
 use Rattle.rules.specs.Valid.{Sound, Valid}
 use Rattle.rules.proofs.StoredNets.{valid-nets}
 use Rattle.records.specs.Space.{cents-fits}
 use Rattle.ranges.specs.Fit.{fit-legs, fit-sound}
 use Rattle.nets.specs.Nets.{net-most, prices-most}
+
+-- what the lookup reads: both nets of the row that is stored of the strategy, each in cents or unknown (4 if undefined)
+unfoldable pub storedNets : State → ℕ → LookedUp
+storedNets b k = pick (undefined b k) (refusedBy 4) (nets (toldNet (netsStored b k .bid)) (toldNet (netsStored b k .offer)))
 
 -- a net in cents fits a word
 pub cents-word : (l : ℕ) {z : ℤ} → l < 2_147_483_648 → z ≡ cents l → toZ w32 (ofZ w32 z) ≡ cents l
@@ -43,9 +47,15 @@ module _ (bid offer : ℕ) where
   unfolding netsTells toldNet
   tells-both n m e g = rw (e, g) (search tests)
 
-pub nets-undefined : (b : State) (k : ℕ) → b .defined ≤ k → netsTells (N.Refused 4) ≡ legNets b k
-unfolding legNets netsTells undefined
-nets-undefined b k h = search tests
+-- a strategy that is not defined
+module _ (b : State) (k : ℕ) (h : b .defined ≤ k) where
+  pub nets-undefined : netsTells (N.Refused 4) ≡ legNets b k
+  unfolding legNets netsTells undefined
+  nets-undefined = search tests
+
+  pub row-undefined : netsTells (N.Refused 4) ≡ storedNets b k
+  unfolding storedNets netsTells undefined
+  row-undefined = search tests
 
 -- a leg net has a level that fits
 net-fits : (b : State) → Sound b → (side k : ℕ) → legNet b side k ≤ 17_199_928
@@ -63,3 +73,8 @@ module _ (b : State) (v : Valid b) (k : ℕ) (h : k < b .defined) where
   pub nets-stored : {x : LookedUp} → x ≡ nets (toldNet (netsStored b k .bid)) (toldNet (netsStored b k .offer)) → x ≡ legNets b k
   unfolding legNets undefined
   nets-stored e = e ∙ rw stored (search tests)
+
+-- .. as it is read
+pub row-stored : (b : State) (k : ℕ) → k < b .defined → {x : LookedUp} → x ≡ nets (toldNet (netsStored b k .bid)) (toldNet (netsStored b k .offer)) → x ≡ storedNets b k
+unfolding storedNets undefined
+row-stored b k h e = e ∙ search tests

@@ -6,6 +6,7 @@ ghost use Rattle.base.specs.Pick.{pick};
 ghost use Rattle.base.specs.All.{All};
 ghost use Rattle.rules.specs.Lookups.{nets, toldNet, liveQuantity, shutLegs, legNets, depthTells, shutTells, netsTells};
 ghost use Rattle.rules.specs.Valid.{FitOrder, Priced, Valid};
+ghost use Rattle.lookups.specs.LegNets.{storedNets};
 ghost use Rattle.lookups.specs.Lookups.{bookDepth, entryOf, lentRow};
 use nets::best_of;
 use records::cents;
@@ -79,6 +80,7 @@ fn told_nets(bid: u32, offer: u32) -> StrategyNets
 pub fn nets(b: State, strategy: u32) -> StrategyNets
     requires { ⌜ Valid b ⌝ }
     ensures { λ r. ⌜ netsTells r ≡ legNets b strategy ⌝ }
+    ensures { λ r. ⌜ netsTells r ≡ storedNets b strategy ⌝ }
 {
     let defined = b.defined as u32;
     if defined <= strategy {

@@ -22,8 +22,8 @@ use Rattle.rules.specs.declared.LegOrder.{LegOrder}
 use Rattle.rules.specs.declared.Quote.{Quote}
 use Rattle.rules.specs.declared.LegNets.{LegNets}
 use Rattle.rules.specs.declared.State.{State}
-use Rattle.rules.specs.Sizes.{seriesCount}
-use Rattle.rules.specs.State.{noSpecialist, noLeg, noEntry, noOrder, noQuote, noStrategy, freeStrategy, fresh, entryAt, orderAt, strategyAt, withEntries, withOrders, withStrategies, withOpened, withClock, withLast, withNational, withRange, withNets}
+use Rattle.rules.specs.Sizes.{strategySlots, seriesCount}
+use Rattle.rules.specs.State.{noSpecialist, noLeg, noEntry, noOrder, noQuote, noStrategy, freeStrategy, fresh, entryAt, orderAt, strategyAt, withEntries, withOrders, withStrategies, withOpened, withClock, withLast, withNational, withRange, withNets, Netted}
 use Rattle.rules.specs.Nets.{netsIn}
 use Rattle.rules.specs.Strategies.{held, added, define}
 use Rattle.rules.specs.Events.{live, liveOrder, keep, enter, enterOrder, freeSlot}
@@ -319,6 +319,12 @@ module _ (b : State) (o : LegOrder) (s : Sound b) (n : EnteringOrder b o) where
 
 -- A strategy that is defined.
 
+pub netted-added : (b : State) (t : Strategy) → b .defined < strategySlots → length (b .strategies) ≡ strategySlots → Netted b → Netted (added t b)
+unfolding added withStrategies withNets
+netted-added b t room rows n = record {
+  are = ap (λ (ns : List LegNets). set ns (b .defined) (netsIn (b .orders) t)) (n .are) ∙ nets-set (b .orders) (b .strategies) (b .defined) t room rows;
+}
+
 pub sound-define : (b : State) (t : Strategy) → Sound b → FitStrategy t → 2 ≤ t .count → (held b t ≡ false → b .defined < 16) → Sound (define t b)
 unfolding define added withStrategies withNets
 sound-define b t s f two room =
@@ -340,7 +346,7 @@ sound-define b t s f two room =
       national = s .national;
       quoteRows = s .quoteRows;
       range = s .range;
-      nets = record { are = ap (λ (ns : List LegNets). set ns (b .defined) (netsIn (b .orders) t)) (s .nets .are) ∙ nets-set (b .orders) (b .strategies) (b .defined) t r (s .strategyRows) };
+      nets = netted-added b t r (s .strategyRows) (s .nets);
       undefined = λ k h. rw (getD-set-other (b .strategies) (b .defined) k t noStrategy (λ q. omega arith)) (s .undefined k (omega arith));
       legs = λ k h. ⊎-elim
           (λ q. rw (q, getD-set-same (b .strategies) (b .defined) t noStrategy (omega (arith, s .strategyRows))) two)

@@ -1,7 +1,7 @@
 -- Sentences of "Events", "Passes" and "Refusals by cause" in another form than their definitions have: what can be seen of the state before an
 -- event, the state after it and its records. Each holds of every accepted event in every state that frames lead to (proofs
 -- Sentences.event-sentence, step-sentence; of the passes: Groups, PassEnds, Bars, WholeFills; of the causes: Causes; of best prices: Bests;
--- of the stored nets: OfToday).
+-- of the stored nets: StoredNets, OfToday).
 -- Many a rule that is changed in its definition and in the code alike is refused here; docs/RULES.md has the list, and what no sentence says.
 use mathlib.Core.Path.{_≡_}
 use mathlib.Core.Bool.{Bool, true, false, not}
@@ -825,6 +825,7 @@ pub record NetsTrue (b : State) : Type 0 where
 -- .. and what keeps it so from move to move: the tables have their rows, and each strategy held has legs
 pub record NetsKept (b : State) : Type 0 where
   pub stored : Netted b
+  pub strategyRows : length (b .strategies) ≡ strategySlots
   pub orderRows : length (b .orders) ≡ tableRows
   pub defined : b .defined ≤ strategySlots
   pub legs : (k : ℕ) → k < b .defined → 0 < strategyAt b k .count

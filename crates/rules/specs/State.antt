@@ -61,7 +61,7 @@ unfoldable pub withEntries : State → List Entry → State
 withEntries b es = record { strategies = b .strategies; nets = b .nets; entries = es; orders = b .orders; defined = b .defined; opened = b .opened; clock = b .clock; timer = b .timer; last = b .last; national = b .national; range = b .range }
 
 -- the state with these leg orders. 2026-05: "Each event that touches a leg order keeps [the stored nets] true after each fill, cancels .. included":
--- no rule changes a leg order but by this
+-- no rule changes a leg order but by this, the fresh book of a day's end apart
 unfoldable pub withOrders : State → List LegOrder → State
 withOrders b os = record { strategies = b .strategies; nets = netsOf os (b .strategies); entries = b .entries; orders = os; defined = b .defined; opened = b .opened; clock = b .clock; timer = b .timer; last = b .last; national = b .national; range = b .range }
 
@@ -114,6 +114,6 @@ ownNet b side k = legNet b (other side) k
 abbrev pub netsStored : State → ℕ → LegNets
 netsStored b k = getD (b .nets) k noNets
 
--- 2026-05: "the stored nets .. are those of the leg books", slot by slot
+-- 2026-05: the whole table is the one reckoned from the leg orders and the strategies, rows of free slots included
 pub record Netted (b : State) : Type 0 where
   pub are : b .nets ≡ netsOf (b .orders) (b .strategies)

@@ -7,6 +7,7 @@ use lib.ListN.{getD}
 use Rattle.base.specs.Pick.{pick, both}
 use Rattle.base.specs.Walks.{table}
 use Rattle.base.specs.Sets.{has}
+use Rattle.rules.specs.Sizes.{strategySlots}
 use Rattle.rules.specs.declared.Leg.{Leg}
 use Rattle.rules.specs.declared.Strategy.{Strategy}
 use Rattle.rules.specs.declared.LegOrder.{LegOrder}
@@ -34,7 +35,7 @@ netsBy f t = pick (eqb (t .count) 0) noNets (record { bid = netOf t (legPrices f
 
 -- .. of each of the 16
 unfoldable pub allNetsBy : Prices → List Strategy → List LegNets
-allNetsBy f ss = table (λ (k : ℕ). netsBy f (getD ss k noStrategy)) 16
+allNetsBy f ss = table (λ (k : ℕ). netsBy f (getD ss k noStrategy)) strategySlots
 
 -- the ranges of stored nets
 pub record FitNets (n : LegNets) : Type 0 where
@@ -69,7 +70,7 @@ movedAt ns ss s side p q k = pick (has (getD ss k noStrategy .series) s) (netsMo
 
 -- .. of each of the 16
 unfoldable pub allMoved : List LegNets → List Strategy → ℕ → ℕ → ℕ → ℕ → List LegNets
-allMoved ns ss s side p q = table (movedAt ns ss s side p q) 16
+allMoved ns ss s side p q = table (movedAt ns ss s side p q) strategySlots
 
 -- both nets of strategy t, of which the one that takes the price of leg l on that side is that of these leg orders
 unfoldable pub netsAnew : LegNets → Strategy → Leg → ℕ → List LegOrder → LegNets
@@ -83,7 +84,7 @@ anewAt ns ss os s side k = pick (has (getD ss k noStrategy .series) s) (netsAnew
 
 -- .. of each of the 16
 unfoldable pub allAnew : List LegNets → List Strategy → List LegOrder → ℕ → ℕ → List LegNets
-allAnew ns ss os s side = table (anewAt ns ss os s side) 16
+allAnew ns ss os s side = table (anewAt ns ss os s side) strategySlots
 
 -- what becomes of the nets ns where the best price of series s on side d goes from p to that among these leg orders: if they were those of some
 -- prices, they are those of these prices with that one changed. Where there was no price before, the other prices have to be those of the leg orders.

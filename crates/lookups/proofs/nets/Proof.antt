@@ -1,4 +1,4 @@
-use Rattle.lookups.specs.LegNets.{nets-undefined, stored-fits, nets-stored}
+use Rattle.lookups.specs.LegNets.{nets-undefined, row-undefined, stored-fits, nets-stored, row-stored}
 use borrow.Author.Needs.{needs}
 use Rattle.lookups.proofs.nets.Statement.{statement}
 use Rattle.lookups.proofs.nets.Tie as tie
@@ -7,7 +7,7 @@ cast-defined : tie.Need-cast-defined
 cast-defined c = search needs
 
 returns : tie.Need-returns
-returns c = nets-undefined _ _ (c .if1 .taken)
+returns c = (nets-undefined _ _ (c .if1 .taken), row-undefined _ _ (c .if1 .taken))
 
 mul-stored : tie.Need-mul-stored
 mul-stored c = search needs
@@ -19,7 +19,9 @@ told-nets-requires : tie.Need-told-nets-requires
 told-nets-requires c κs = stored-fits _ (c .before .before .pre) _ (c .before .if1 .left)
 
 returns-2 : tie.Need-returns-2
-returns-2 c = nets-stored _ (c .before .before .before .pre) _ (c .before .before .if1 .left) (c .told-nets .ensures)
+returns-2 c =
+    let l = c .before .before .if1 .left in
+    (nets-stored _ (c .before .before .before .pre) _ l (c .told-nets .ensures), row-stored _ _ l (c .told-nets .ensures))
 
 pub nets-spec : {M : Type 1} → statement M
 nets-spec =
