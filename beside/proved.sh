@@ -104,7 +104,7 @@ proved_library() {
 proved_tape() {
     tape=${TAPE-$root/target/bin/tape}
     if [ -z "${TAPE+set}" ]; then
-        [ -x "$tape" ] || echo "$name: proving the program tape and the $(($(crates_below tape) - 1)) crates below it: about 6 minutes on two cores the first time" >&2
+        [ -x "$tape" ] || echo "$name: proving the program tape and the $(($(crates_below tape) - 1)) crates below it: 6 to 13 minutes on two cores the first time" >&2
         proves tape tape rt check tape || return 1
     fi
     if [ ! -x "$tape" ]; then
