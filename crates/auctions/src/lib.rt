@@ -1,4 +1,6 @@
 // Auctions: their start, their answer, what lapses at their end, and their end without fills.
+#![tactic(auto)]
+
 ghost use Rattle.std.specs.Prelude.{◌≡◌, false, ◌+◌, ◌-◌, ◌<◌, eqb, get_or};
 ghost use Rattle.base.specs.Pick.{pick};
 ghost use Rattle.rules.specs.Sizes.{strategy_slots, table_rows};

@@ -1,4 +1,6 @@
 // The book of complex orders. Its state is private, so that no other crate can make a book.
+#![tactic(auto)]
+
 ghost use Rattle.std.specs.Prelude.{◌≡◌, [], ◌∷◌, eqb, length, ◌≤◌, ◌<◌};
 ghost use Rattle.rules.specs.Lookups.{live_quantity, shut_legs, leg_nets, depth_tells, shut_tells, nets_tells};
 ghost use Rattle.rules.specs.Valid.{Valid};
@@ -33,13 +35,13 @@ use strategies::{add, number_of};
 use sweeps::on_sweep;
 use tables::fresh;
 
-#[derive(Drop)]
+#[derive(Clone, Copy)]
 pub struct Book {
     state: State,
 }
 
 // What an event hands back.
-#[derive(Drop)]
+#[derive(Clone, Copy)]
 pub struct Taken {
     pub book: Book,
     pub answer: Answer,

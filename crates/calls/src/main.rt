@@ -1,5 +1,7 @@
 // The program `calls`: from standard input calls of the book's entry, each a frame of any bytes and the length of the record
 // space that it is lent; to standard output what `tape` prints of each, and at the end what the lookups say of the book.
+#![tactic(auto)]
+
 ghost use Rattle.std.specs.Prelude.{◌≡◌, ◌+◌, ◌≤◌, ◌<◌, length, drop};
 ghost use Rattle.rules.specs.Sizes.{record_space};
 ghost use Rattle.rules.specs.Valid.{Valid};

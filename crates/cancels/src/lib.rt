@@ -1,4 +1,6 @@
 // Cancel: what is live of a number.
+#![tactic(auto)]
+
 ghost use Rattle.std.specs.Prelude.{◌≡◌};
 ghost use Rattle.rules.specs.Events.{cancel_number};
 ghost use Rattle.rules.specs.Valid.{Sound};

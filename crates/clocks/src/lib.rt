@@ -1,4 +1,6 @@
 // Clock: the auctions begun at least the timer ago end.
+#![tactic(auto)]
+
 ghost use Rattle.std.specs.Prelude.{◌≡◌, false, not, ◌+◌, ◌<◌, ◌≤◌, eqb, leb};
 ghost use Rattle.base.specs.Pick.{pick};
 ghost use Rattle.rules.specs.State.{with_clock};

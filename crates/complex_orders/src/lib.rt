@@ -1,4 +1,6 @@
 // Complex order: it enters, and rests, waits, starts an auction or has its shared pass.
+#![tactic(auto)]
+
 ghost use Rattle.std.specs.Prelude.{◌≡◌, true, ◌<◌, eqb};
 ghost use Rattle.base.specs.Pick.{pick};
 ghost use Rattle.base.specs.All.{All};
@@ -24,7 +26,7 @@ use stored_nets::net_for;
 
 // What an order does that has entered: it stays, resting or waiting in the auction; it is cancelled; it waits and answers
 // the auction; it starts one; or it has its shared pass.
-#[derive(Drop)]
+#[derive(Clone, Copy)]
 pub enum Arrival {
     Rests,
     Cancelled,

@@ -1,4 +1,6 @@
 // Day end: the records of the auctions by strategy, the cancels by number, and a fresh book with the new timer.
+#![tactic(auto)]
+
 ghost use Rattle.std.specs.Prelude.{◌≡◌, not, ◌+◌, eqb};
 ghost use Rattle.base.specs.Pick.{pick};
 ghost use Rattle.rules.specs.Sizes.{strategy_slots, table_rows};

@@ -1,5 +1,7 @@
 // The depth of a series and side, read from leg orders that a caller lends as a row of order entries. The row is walked
 // once: each entry becomes a leg order of an array, and the lookup over the array gives the depth.
+#![tactic(auto)]
+
 ghost use Rattle.std.specs.Prelude.{true, ◌≡◌, ◌<◌, ◌≤◌, length};
 ghost use Rattle.base.specs.All.{All};
 ghost use Rattle.rules.specs.Sizes.{table_rows};
@@ -12,7 +14,7 @@ use rules::{Depth, LegOrder, OrderEntry, State};
 use tables::NO_ORDER;
 
 // The leg orders of the entries read so far, by their places, and whether each was well formed.
-#[derive(Drop)]
+#[derive(Clone, Copy)]
 struct RowOrders {
     orders: [LegOrder; State::LEG_ORDERS],
     fine: bool,

@@ -1,4 +1,6 @@
 // The end of an auction: the starter's pass, the others' by number, the cancels and its record.
+#![tactic(auto)]
+
 ghost use Rattle.std.specs.Prelude.{◌≡◌, false, not, ◌+◌, ◌-◌, ◌%◌, ◌<◌, eqb};
 ghost use Rattle.base.specs.Sets.{has};
 ghost use Rattle.rules.specs.Sizes.{strategy_slots, table_rows};

@@ -1,4 +1,6 @@
 // The table of complex orders and sweeps: insertion, its counts, and the sweep that a new one replaces.
+#![tactic(auto)]
+
 ghost use Rattle.std.specs.Prelude.{◌≡◌, length};
 ghost use Rattle.base.specs.Pick.{pick};
 ghost use Rattle.base.specs.Walks.{sum_n};
@@ -19,7 +21,7 @@ pub fn live(e: Entry) -> bool
 }
 
 // The table with a new entry, and the slot of it.
-#[derive(Drop)]
+#[derive(Clone, Copy)]
 pub struct Inserted {
     pub rows: [Entry; State::ROWS],
     pub slot: usize,

@@ -1,4 +1,6 @@
 // Events as rows of 19 numbers: the values of the fields in order, and zeros after them.
+#![tactic(auto)]
+
 ghost use Rattle.std.specs.Prelude.{◌≡◌, ◌+◌, ◌<◌};
 ghost use Rattle.events.specs.Rows.{kind_in, row_of, leg_from, event_of, length_in, fitting};
 

@@ -1,9 +1,11 @@
 // Events, their kinds, and the fields of their frames.
+#![tactic(auto)]
+
 pub mod kinds; // the number and the length of each kind
 pub mod table; // the fields of each kind
 
 // The kinds of frames.
-#[derive(Drop)]
+#[derive(Clone, Copy)]
 pub enum Kind {
     Strategy,
     Order,
@@ -19,7 +21,7 @@ pub enum Kind {
     Unknown,
 }
 
-#[derive(Drop)]
+#[derive(Clone, Copy)]
 pub struct Leg {
     pub series: u32,
     pub side: u32,
@@ -27,18 +29,18 @@ pub struct Leg {
 }
 
 // Six legs as fields, since an enum may not hold an array.
-#[derive(Drop)]
+#[derive(Clone, Copy)]
 pub struct Legs(pub Leg, pub Leg, pub Leg, pub Leg, pub Leg, pub Leg);
 
 // Legs past the count hold zeros.
-#[derive(Drop)]
+#[derive(Clone, Copy)]
 pub struct Strategy {
     pub count: u32,
     pub legs: Legs,
 }
 
 // A complex order. A limit is held as its level: the limit in cents and 10,000,000 more.
-#[derive(Drop)]
+#[derive(Clone, Copy)]
 pub struct Order {
     pub member: u32,
     pub strategy: u32,
@@ -49,7 +51,7 @@ pub struct Order {
     pub level: u32,
 }
 
-#[derive(Drop)]
+#[derive(Clone, Copy)]
 pub struct Sweep {
     pub member: u32,
     pub strategy: u32,
@@ -58,7 +60,7 @@ pub struct Sweep {
     pub level: u32,
 }
 
-#[derive(Drop)]
+#[derive(Clone, Copy)]
 pub struct LegOrder {
     pub member: u32,
     pub series: u32,
@@ -67,30 +69,30 @@ pub struct LegOrder {
     pub price: u32,
 }
 
-#[derive(Drop)]
+#[derive(Clone, Copy)]
 pub struct Cancel {
     pub member: u32,
     pub number: u32,
 }
 
-#[derive(Drop)]
+#[derive(Clone, Copy)]
 pub struct Series {
     pub series: u32,
     pub state: u32,
 }
 
-#[derive(Drop)]
+#[derive(Clone, Copy)]
 pub struct Clock {
     pub time: u32,
 }
 
-#[derive(Drop)]
+#[derive(Clone, Copy)]
 pub struct DayEnd {
     pub timer: u32,
 }
 
 // The national best bid and offer of a series; 0 is a missing one.
-#[derive(Drop)]
+#[derive(Clone, Copy)]
 pub struct National {
     pub series: u32,
     pub bid: u32,
@@ -98,20 +100,20 @@ pub struct National {
 }
 
 // The execution range in cents.
-#[derive(Drop)]
+#[derive(Clone, Copy)]
 pub struct Range {
     pub range: u32,
 }
 
 // The specialist of a strategy, and the percentage of its portion.
-#[derive(Drop)]
+#[derive(Clone, Copy)]
 pub struct Specialist {
     pub member: u32,
     pub strategy: u32,
     pub percentage: u32,
 }
 
-#[derive(Drop)]
+#[derive(Clone, Copy)]
 pub enum Event {
     Strategy(Strategy),
     Order(Order),
@@ -127,12 +129,12 @@ pub enum Event {
 }
 
 // What reading answers: the event, or the refusal.
-#[derive(Drop)]
+#[derive(Clone, Copy)]
 pub enum Reading {
     Event(Event),
     Refused(u32),
 }
 
 // A field of a frame: its width in bytes, its least and its greatest value, and what is added to the number in the frame to give the value.
-#[derive(Drop)]
+#[derive(Clone, Copy)]
 pub struct Field(pub usize, pub u32, pub u32, pub u32);

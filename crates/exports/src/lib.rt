@@ -1,5 +1,7 @@
 // What C and Rust call: the judge, and the reader and the writer over plain numbers, a kind's number and then the row of 19. Their
 // header is include/complex_book.h.
+#![tactic(auto)]
+
 ghost use Rattle.std.specs.Prelude.{◌≡◌, ◌++◌, ◌≤◌, length, take, drop};
 ghost use Rattle.frames.specs.Frames.{judge_of};
 ghost use Rattle.exports.specs.Exports.{values_of, event_in, ReadOut, WrittenOut, WriteOut};

@@ -1,4 +1,6 @@
 // Fills of whole against whole, the ways that the holders of one limit are met, and cancels.
+#![tactic(auto)]
+
 ghost use Rattle.std.specs.Prelude.{◌≡◌, ◌++◌, ◌+◌, ◌*◌, ◌-◌, ◌<◌, ◌≤◌};
 ghost use Rattle.base.specs.Walks.{join_n};
 ghost use Rattle.rules.specs.Sizes.{table_rows, zero_level};
@@ -146,7 +148,7 @@ pub fn whole_fill(
 }
 
 // The entries after fills, and the next free place for records.
-#[derive(Drop)]
+#[derive(Clone, Copy)]
 pub struct AfterFills {
     pub rows: [Entry; State::ROWS],
     pub count: usize,

@@ -12,7 +12,7 @@ use events::{
 };
 
 // The value of a field, and whether it and those before it are in their ranges.
-#[derive(Drop)]
+#[derive(Clone, Copy)]
 struct Tested {
     value: u32,
     ok: bool,

@@ -1,4 +1,6 @@
 // Frames of bytes: which are refused, the event that a frame carries, and the frame of an event.
+#![tactic(auto)]
+
 ghost use Rattle.std.specs.Prelude.{◌≡◌, ◌≤◌, true, length};
 ghost use Rattle.std.proofs.lemmas.List.Edits.{sets};
 ghost use Rattle.events.specs.Rows.{fitting, length_in};
@@ -17,7 +19,7 @@ use events::{Event, Reading};
 use numbers::{number, put};
 
 // What writing an event answers: the frame's length, or the refusal.
-#[derive(Drop)]
+#[derive(Clone, Copy)]
 pub enum Written {
     Length(usize),
     Refused(u32),

@@ -1,5 +1,7 @@
 // What the events of kinds 1 to 4, 9 and 11 bring: the row that enters, the strategy defined, whether its definition is
 // ill-formed, the national prices, and the specialist.
+#![tactic(auto)]
+
 ghost use Rattle.std.specs.Prelude.{◌≡◌, ◌<◌};
 ghost use Rattle.rules.specs.Given.{leg_given, legs_given, strategy_given, sweep_given, order_given, leg_order_given, specialist_given, quote_given};
 ghost use Rattle.rules.specs.Fits.{FitGiven, FitSweepGiven, FitOrderGiven, FitLegOrderGiven};

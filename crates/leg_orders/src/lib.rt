@@ -1,4 +1,6 @@
 // Leg order: it enters and trades, and if any rests the passes by legs only follow.
+#![tactic(auto)]
+
 ghost use Rattle.std.specs.Prelude.{◌<◌};
 ghost use Rattle.rules.specs.Sizes.{table_rows};
 ghost use Rattle.rules.specs.Events.{free_order_slot, trade_all, on_leg_order};
@@ -18,7 +20,7 @@ use stored_nets::refreshed;
 use trades::{next_trade, trade_all};
 
 // The leg orders, the nets and the next free place for records after the trades of an order.
-#[derive(Drop)]
+#[derive(Clone, Copy)]
 struct Traded {
     rows: [LegOrder; State::LEG_ORDERS],
     nets: [LegNets; State::STRATEGIES],

@@ -1,4 +1,6 @@
 // Fills of whole against legs.
+#![tactic(auto)]
+
 ghost use Rattle.std.specs.Prelude.{◌≡◌, ◌+◌, ◌*◌, ◌-◌, ◌<◌, ◌≤◌};
 ghost use Rattle.base.specs.Walks.{join_n};
 ghost use Rattle.rules.specs.Sizes.{table_rows};
@@ -20,14 +22,14 @@ use stored_nets::refreshed;
 use trades::{cut_order, order_row};
 
 // The leg orders left, and the next free place for records.
-#[derive(Drop)]
+#[derive(Clone, Copy)]
 struct Cuts {
     rows: [LegOrder; State::LEG_ORDERS],
     count: usize,
 }
 
 // The leg orders left, the units taken, and the next free place for records.
-#[derive(Drop)]
+#[derive(Clone, Copy)]
 pub struct AfterLegs {
     pub rows: [LegOrder; State::LEG_ORDERS],
     pub units: u32,

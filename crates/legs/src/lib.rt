@@ -1,4 +1,6 @@
 // The table of leg orders: insertion, and the best opposite order.
+#![tactic(auto)]
+
 ghost use Rattle.std.specs.Prelude.{◌≡◌, length};
 ghost use Rattle.rules.specs.State.{no_order};
 ghost use Rattle.rules.specs.Events.{live_order, keep, behind, free_order_slot, meets_order, best_order};

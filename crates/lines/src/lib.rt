@@ -1,4 +1,6 @@
 // The pure parts of the programs: frames cut from the input, and lines put into a space of bytes.
+#![tactic(auto)]
+
 ghost use Rattle.std.specs.Prelude.{◌+◌, ◌*◌, ◌≤◌, ◌<◌, ◌≡◌, [], ◌∷◌, pos, nat_abs, length, take, drop};
 ghost use Rattle.frames.specs.Number.{number};
 ghost use Rattle.rules.specs.Step.{answer_number, answer_value, answer_count};
@@ -265,7 +267,7 @@ fn put_records(out: &mut [u8], at: usize, space: &[i32], n: usize) -> usize
 }
 
 // The numbers of an answer.
-#[derive(Drop)]
+#[derive(Clone, Copy)]
 struct Numbers {
     answer: u32,
     value: u32,
@@ -314,7 +316,7 @@ pub fn put_event(out: &mut [u8], at: usize, index: u64, answer: Answer, space: &
 }
 
 // A net in cents, or none that is known.
-#[derive(Drop)]
+#[derive(Clone, Copy)]
 pub enum Net {
     Known(i32),
     Unknown,

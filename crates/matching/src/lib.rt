@@ -1,4 +1,6 @@
 // Where a series opens or its leg orders change: the match of the resting orders, and the passes by legs only.
+#![tactic(auto)]
+
 ghost use Rattle.std.specs.Prelude.{◌≡◌, ◌+◌, ◌-◌, ◌<◌};
 ghost use Rattle.base.specs.All.{All};
 ghost use Rattle.rules.specs.Sizes.{strategy_slots, table_rows};

@@ -1,4 +1,6 @@
 // National prices and the execution range: the national nets of a strategy, and what they let its fills be.
+#![tactic(auto)]
+
 ghost use Rattle.std.specs.Prelude.{◌≡◌, ◌<◌, eqb};
 ghost use Rattle.base.specs.Pick.{pick};
 ghost use Rattle.base.specs.All.{All};

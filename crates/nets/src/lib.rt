@@ -1,4 +1,6 @@
 // Best prices of the leg orders with the contracts at them, nets, and the units that the legs give.
+#![tactic(auto)]
+
 ghost use Rattle.std.specs.Prelude.{◌≡◌, ◌+◌, ◌*◌, ◌-◌, ◌/◌, ◌<◌, ◌≤◌};
 ghost use Rattle.base.specs.All.{All};
 ghost use Rattle.rules.specs.Nets.{stands, price_with, price_of, lot, known, weight, weighed, net_of, nets_in, betters, best_of, starts_afresh, best_with};
@@ -22,7 +24,7 @@ const NO_BEST: Best = Best {
 
 // What a complex party meets on the legs of a strategy: the best price of each leg, the units that the contracts at these
 // prices give, at most 9,999, and the net of the prices, as a level. All are 0 where a leg has no price.
-#[derive(Drop)]
+#[derive(Clone, Copy)]
 pub struct LegBests {
     pub prices: [u32; 6],
     pub units: u32,
@@ -30,7 +32,7 @@ pub struct LegBests {
 }
 
 // The sums of the legs walked so far, over the buy legs and over the sell legs, and the units that they give.
-#[derive(Drop)]
+#[derive(Clone, Copy)]
 struct LegSums {
     buys: u32,
     sells: u32,

@@ -1,5 +1,7 @@
 // Passes: an active entry is filled at the best opposite limits of its strategy, by its legs, or by both, within what the
 // national prices and the execution range allow.
+#![tactic(auto)]
+
 ghost use Rattle.std.specs.Prelude.{◌≡◌, ◌+◌, ◌<◌, eqb};
 ghost use Rattle.base.specs.All.{All};
 ghost use Rattle.rules.specs.Sizes.{table_rows};

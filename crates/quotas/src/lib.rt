@@ -1,4 +1,6 @@
 // Who stands opposite an entry and at what limit, and how a quantity is divided over the holders of one price.
+#![tactic(auto)]
+
 ghost use Rattle.std.specs.Prelude.{◌≡◌, ◌+◌, ◌*◌, ◌<◌, ◌≤◌};
 ghost use Rattle.base.specs.Walks.{sum_n, slot};
 ghost use Rattle.rules.specs.Sizes.{table_rows};

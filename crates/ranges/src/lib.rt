@@ -1,1 +1,2 @@
 // Ranges of the state that the code relies on; they stand in specs/.
+#![tactic(auto)]

@@ -1,4 +1,6 @@
 // Whether the legs of a strategy are ready, for many strategies at once: the contracts at the best prices of all series, in one walk.
+#![tactic(auto)]
+
 ghost use Rattle.std.specs.Prelude.{◌≡◌, ◌+◌, ◌<◌, ◌≤◌};
 ghost use Rattle.base.specs.All.{All};
 ghost use Rattle.rules.specs.Nets.{best_with};

@@ -1,4 +1,6 @@
 // Records written into a space that the caller lends, and what every function that moves the state hands back.
+#![tactic(auto)]
+
 ghost use Rattle.std.specs.Prelude.{◌≡◌, [], ◌∷◌, ◌+◌, ◌*◌, ◌-◌, ◌<◌, min};
 ghost use Rattle.rules.specs.Records.{kind_number, cents};
 ghost use Rattle.records.specs.Space.{Appended, Room};
@@ -6,7 +8,7 @@ ghost use Rattle.records.specs.Space.{Appended, Room};
 use rules::{Kind, Record, State};
 
 // A state that moved, and the next free place for records.
-#[derive(Drop)]
+#[derive(Clone, Copy)]
 pub struct After {
     pub state: State,
     pub count: usize,

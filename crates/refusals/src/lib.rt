@@ -1,4 +1,6 @@
 // The causes of refusals, each by what the book holds, and the refusal of each kind of event: 0 where no cause applies.
+#![tactic(auto)]
+
 ghost use Rattle.std.specs.Prelude.{◌≡◌, false, not, ◌+◌, ◌<◌, eqb};
 ghost use Rattle.base.specs.Pick.{pick};
 ghost use Rattle.events.specs.declared.Event.TheVariants as E;

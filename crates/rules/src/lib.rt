@@ -1,7 +1,8 @@
 // The state of the book and its records, of which specs/ gives the rules.
+#![tactic(auto)]
 
 // One leg of a strategy. Its side is 0 where a buyer of the strategy buys the series, 1 where he sells it.
-#[derive(Drop)]
+#[derive(Clone, Copy)]
 pub struct Leg {
     pub series: u8,
     pub side: u8,
@@ -9,7 +10,7 @@ pub struct Leg {
 }
 
 // The specialist of a strategy, 0 where none is named, and the percentage of its portion.
-#[derive(Drop)]
+#[derive(Clone, Copy)]
 pub struct Specialist {
     pub member: u16,
     pub percentage: u16,
@@ -18,7 +19,7 @@ pub struct Specialist {
 // A strategy: its legs by rising series, `count` of them; its series as a set of 32 bits; the number of the order that
 // started the running auction (0: none runs), the clock at its start, and whether an opposite sweep or waiting order was
 // accepted during it; its specialist.
-#[derive(Drop)]
+#[derive(Clone, Copy)]
 pub struct Strategy {
     pub legs: [Leg; 6],
     pub count: u8,
@@ -30,7 +31,7 @@ pub struct Strategy {
 }
 
 // A complex order, or a sweep (life 4). An entry of 0 units is empty. Its level is the limit in cents and 10,000,000 more.
-#[derive(Drop)]
+#[derive(Clone, Copy)]
 pub struct Entry {
     pub number: u32,
     pub level: u32,
@@ -43,7 +44,7 @@ pub struct Entry {
 }
 
 // A leg order. One of 0 contracts is empty.
-#[derive(Drop)]
+#[derive(Clone, Copy)]
 pub struct LegOrder {
     pub number: u32,
     pub member: u16,
@@ -54,28 +55,28 @@ pub struct LegOrder {
 }
 
 // The best price of a series and side and the contracts at it, both 0 where no leg order stands there.
-#[derive(Drop)]
+#[derive(Clone, Copy)]
 pub struct Best {
     pub price: u32,
     pub contracts: u32,
 }
 
 // The national bid and offer of a series, 0 where one is missing.
-#[derive(Drop)]
+#[derive(Clone, Copy)]
 pub struct Quote {
     pub bid: u32,
     pub offer: u32,
 }
 
 // The leg nets of a strategy, its bid net and its offer net, as levels; 0 where one is unknown.
-#[derive(Drop)]
+#[derive(Clone, Copy)]
 pub struct LegNets {
     pub bid: u32,
     pub offer: u32,
 }
 
 // What bounds the fills of a strategy: its national nets as levels, 0 where one is missing, and the execution range.
-#[derive(Drop)]
+#[derive(Clone, Copy)]
 pub struct Bounds {
     pub offer: u32,
     pub bid: u32,
@@ -84,7 +85,7 @@ pub struct Bounds {
 
 // The whole state: the tables, the leg nets of the strategy in each slot, how many strategies are defined, the open series as a set of 32 bits, the last accepted
 // clock, the timer of auctions, the last number given, the national prices of each series, and the execution range.
-#[derive(Drop)]
+#[derive(Clone, Copy)]
 pub struct State {
     pub strategies: [Strategy; State::STRATEGIES],
     pub nets: [LegNets; State::STRATEGIES],
@@ -123,7 +124,7 @@ impl State {
 pub const ZERO_LEVEL: u32 = 10000000;
 
 // What a record tells. A complex party's leg fill and a leg order's are both written 2, and both cancels 3.
-#[derive(Drop)]
+#[derive(Clone, Copy)]
 pub enum Kind {
     WholeFill,
     LegFill,
@@ -134,7 +135,7 @@ pub enum Kind {
     AuctionEnded,
 }
 
-#[derive(Drop)]
+#[derive(Clone, Copy)]
 pub struct Record {
     pub kind: Kind,
     pub number: u32,
@@ -145,7 +146,7 @@ pub struct Record {
 }
 
 // How a pass meets the holders of a limit: not at all, shared by groups, so for an auction's starter, or by number alone.
-#[derive(Drop)]
+#[derive(Clone, Copy)]
 pub enum Allocation {
     LegsOnly,
     Shared,
@@ -154,7 +155,7 @@ pub enum Allocation {
 }
 
 // What an active order does next: nothing more, a fill by the legs, or fills at the best opposite limit, given as a level.
-#[derive(Drop)]
+#[derive(Clone, Copy)]
 pub enum Turn {
     Stop,
     ByLegs,
@@ -162,7 +163,7 @@ pub enum Turn {
 }
 
 // An entry of a row of leg orders that a caller lends. One of 0 contracts is empty.
-#[derive(Drop)]
+#[derive(Clone, Copy)]
 pub struct OrderEntry {
     pub series: u32,
     pub side: u32,
@@ -171,7 +172,7 @@ pub struct OrderEntry {
 }
 
 // The best price of a series and side and its contracts, nothing, or a refusal.
-#[derive(Drop)]
+#[derive(Clone, Copy)]
 pub enum Depth {
     Best(u32, u32),
     Empty,
@@ -179,14 +180,14 @@ pub enum Depth {
 }
 
 // The shut legs of a strategy: how many, and the lowest series; or a refusal.
-#[derive(Drop)]
+#[derive(Clone, Copy)]
 pub enum Shut {
     Legs(u32, u32),
     Refused(u32),
 }
 
 // The leg nets of a strategy, in cents: bid and offer net, one of them where the other is unknown, or none; or a refusal.
-#[derive(Drop)]
+#[derive(Clone, Copy)]
 pub enum StrategyNets {
     Both(i32, i32),
     BidAlone(i32),
@@ -196,7 +197,7 @@ pub enum StrategyNets {
 }
 
 // The answer to an event: its value and the number of its records, or the refusal.
-#[derive(Drop)]
+#[derive(Clone, Copy)]
 pub enum Answer {
     Accepted(u32, usize),
     Refused(u32),

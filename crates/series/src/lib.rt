@@ -1,4 +1,6 @@
 // Series: one that shuts, opens or stays.
+#![tactic(auto)]
+
 ghost use Rattle.std.specs.Prelude.{◌≡◌, false, not, ◌+◌, ◌^◌, ◌<◌, eqb};
 ghost use Rattle.base.specs.Pick.{pick};
 ghost use Rattle.base.specs.Sets.{has};

@@ -1,4 +1,6 @@
 // Sides and prices: 0 is a buy, 1 a sell.
+#![tactic(auto)]
+
 ghost use Rattle.std.specs.Prelude.{◌≡◌};
 ghost use Rattle.rules.specs.Sides.{other, leg_side, meets, better, best_price};
 

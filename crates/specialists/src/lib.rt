@@ -1,5 +1,7 @@
 // The specialist of a strategy: how it is named, its sweep at a limit, and how what remains of an auction's starter is
 // divided over the second group beside that sweep.
+#![tactic(auto)]
+
 ghost use Rattle.std.specs.Prelude.{◌≡◌, ◌<◌, ◌≤◌};
 ghost use Rattle.rules.specs.Sizes.{strategy_slots, table_rows};
 ghost use Rattle.rules.specs.Specialists.{with_specialist, on_specialist};

@@ -1,4 +1,6 @@
 // What the state says of a series, a strategy and an entry, as every event asks it.
+#![tactic(auto)]
+
 ghost use Rattle.std.specs.Prelude.{◌≡◌, not, ◌<◌, eqb};
 ghost use Rattle.base.specs.Sets.{has, minus};
 ghost use Rattle.rules.specs.Sizes.{strategy_slots};

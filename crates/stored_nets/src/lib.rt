@@ -1,4 +1,6 @@
 // The leg nets that are stored of each strategy: read, and kept true after a best price has changed.
+#![tactic(auto)]
+
 ghost use Rattle.std.specs.Prelude.{◌≡◌, ◌≤◌};
 ghost use Rattle.base.specs.All.{All};
 ghost use Rattle.rules.specs.Valid.{FitOrder, Priced};

@@ -1,4 +1,6 @@
 // Strategies: what a definition gives, and the comparison with those held.
+#![tactic(auto)]
+
 ghost use Rattle.std.specs.Prelude.{◌≡◌, ◌<◌};
 ghost use Rattle.base.specs.Sets.{has};
 ghost use Rattle.rules.specs.Strategies.{by_series, padded, series_set, defined, same_leg, number_of, added};
@@ -13,7 +15,7 @@ use tables::{NO_LEG, NO_SPECIALIST};
 use terms::{leg_at, lowest_terms, place_of};
 
 // Legs put one behind the other, as far as six rows go: the first `count` rows are in use.
-#[derive(Drop)]
+#[derive(Clone, Copy)]
 pub struct Ordered {
     pub legs: [Leg; 6],
     pub count: usize,

@@ -1,4 +1,6 @@
 // Standard input read into a block, and text written to standard output.
+#![tactic(auto)]
+
 ghost use Rattle.std.specs.Prelude.{◌≡◌, ◌+◌, ◌≤◌, length, take, drop};
 ghost use Rattle.streams.specs.Rests.{Lies, More, Added};
 ghost use Rattle.streams.specs.Texts.{Drains, Settles};
@@ -6,7 +8,7 @@ ghost use Rattle.streams.specs.Texts.{Drains, Settles};
 use libc::{STDERR_FILENO, STDIN_FILENO, STDOUT_FILENO};
 
 // The bytes of the block that were read and not yet taken: from a place to an end.
-#[derive(Drop)]
+#[derive(Clone, Copy)]
 pub struct Rest {
     pub at: usize,
     pub end: usize,
@@ -77,7 +79,7 @@ pub fn fill(block: &mut [u8], r: Rest, need: usize) -> Rest
 }
 
 // The end of the text, and whether the output takes more.
-#[derive(Drop)]
+#[derive(Clone, Copy)]
 pub struct Text {
     pub used: usize,
     pub on: bool,

@@ -1,4 +1,6 @@
 // Sweep: the one that it replaces is cancelled first, then it enters and answers the auction.
+#![tactic(auto)]
+
 ghost use Rattle.rules.specs.Events.{on_sweep};
 ghost use Rattle.records.specs.Space.{Room};
 ghost use Rattle.records.specs.Done.{Done};

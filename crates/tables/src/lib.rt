@@ -1,4 +1,6 @@
 // Empty rows of the tables, and the state of a fresh book; laws of tables stand in specs/.
+#![tactic(auto)]
+
 ghost use Rattle.std.specs.Prelude.{◌≡◌};
 ghost use Rattle.rules.specs.State.{fresh, free_strategy};
 

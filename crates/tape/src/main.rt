@@ -1,4 +1,6 @@
 // The program `tape`: frames from standard input; to standard output a line for each event, and one for each of its records.
+#![tactic(auto)]
+
 ghost use Rattle.std.specs.Prelude.{◌≡◌, ◌+◌, ◌≤◌, length};
 ghost use Rattle.lines.specs.Cuts.{cut_of};
 ghost use Rattle.lines.specs.Lines.{event_line};

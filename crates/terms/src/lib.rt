@@ -1,4 +1,6 @@
 // The ratios of a definition: lowest terms, and what is refused.
+#![tactic(auto)]
+
 ghost use Rattle.std.specs.Prelude.{◌≡◌, ◌*◌, ◌/◌, ◌%◌, max, get_or};
 ghost use Rattle.base.specs.Gcd.{gcd};
 ghost use Rattle.base.specs.Walks.{walk};
@@ -117,7 +119,7 @@ fn most(a: u32, b: u32) -> u32
 }
 
 // The largest and the smallest ratio.
-#[derive(Drop)]
+#[derive(Clone, Copy)]
 struct Ratios {
     largest: u32,
     smallest: u32,

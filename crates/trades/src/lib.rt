@@ -1,4 +1,6 @@
 // Trades of a leg order with opposite ones, with their records, and the record of its cancel.
+#![tactic(auto)]
+
 ghost use Rattle.std.specs.Prelude.{◌≡◌, ◌+◌, ◌<◌};
 ghost use Rattle.rules.specs.Sizes.{table_rows, zero_level};
 ghost use Rattle.rules.specs.Fills.{order_record, order_row, cut_order, cancel_leg_record};
@@ -13,7 +15,7 @@ use records::{least, less, push};
 use rules::{Kind, LegOrder, Record, State, ZERO_LEVEL};
 
 // The leg orders after trades, and the next free place for records.
-#[derive(Drop)]
+#[derive(Clone, Copy)]
 pub struct Traded {
     pub rows: [LegOrder; State::LEG_ORDERS],
     pub count: usize,

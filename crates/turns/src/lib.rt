@@ -1,4 +1,6 @@
 // A turn of a program that calls the book: the frame of an event goes to the book, and what is printed of it goes behind the text.
+#![tactic(auto)]
+
 ghost use Rattle.std.specs.Prelude.{◌≡◌, ◌+◌, ◌≤◌, length};
 ghost use Rattle.rules.specs.Sizes.{record_space};
 ghost use Rattle.rules.specs.Valid.{Valid};
@@ -11,7 +13,7 @@ use lines::put_event;
 pub const ROOM: usize = 189526;
 
 // A book after an event, and the end of the text.
-#[derive(Drop)]
+#[derive(Clone, Copy)]
 pub struct Told {
     pub book: Book,
     pub used: usize,
