@@ -1,0 +1,5 @@
+use Rattle.std.proofs.Common.{refl, rules}
+use Rattle.events.proofs.table.specialist_fields.Goals as goal
+
+pub returns : goal.returns
+returns c = refl
