@@ -1,6 +1,6 @@
 -- The best price of a series and side and the contracts at it, in one walk (2026-02): after each slot the running pair is the best price of the
 -- slots walked so far and the contracts at it.
-use mathlib.Core.Path.{◌≡◌, refl, sym, ◌∙◌, ap}
+use mathlib.Core.Path.{◌≡◌, refl, sym, subst, ◌∙◌, ap}
 use mathlib.Core.Bool.{Bool, true, false}
 use mathlib.Core.Logic.{⊎_elim}
 use mathlib.Core.List.{List, [], ◌∷◌}
@@ -213,7 +213,9 @@ module _ (os : List LegOrder) (s side : ℕ) (w : All Priced os) where
   made : (k p n : ℕ) → price_with s side (price_in os s side k) (at k) ≡ p → sum_n (lot_at os s side p) k + lot s side p (at k) ≡ n
       → record { price = p; contracts = n } ≡ best_in os s side (suc k)
   unfolding best_in walk sum_n
-  made k p n e f = rw (e, f)
+  made k p n e f =
+      let P : ℕ → Type 0 = λ (r : ℕ). ◌≡◌ {A = Best} (record { price = p; contracts = n }) (record { price = r; contracts = sum_n (lot_at os s side r) k + lot s side r (at k) }) in
+      subst P (sym e) (rw f)
 
   next : (k : ℕ) → best_with s side (best_in os s side k) (at k) ≡ best_in os s side (suc k)
   unfolding best_with best_in

@@ -617,11 +617,11 @@ module _ (a level g : ℕ) (b : State) (rows : length b.entries ≡ 32) (m : Law
 -- what one holds: nothing against itself, nothing out of the second group, and the same where neither has changed
 pub holding-own : (e : Entry) (level g : ℕ) → holding e level g e ≡ 0
 unfolding holding
-holding-own e level g = pick-by (λ (x : ℕ). x ≡ 0) (opposes e e) (λ o. absurd (other-apart e.side (opposed e e o).side)) (λ _. refl)
+holding-own e _ g = pick-by (λ (x : ℕ). x ≡ 0) (opposes e e) (λ o. absurd (other-apart e.side (opposed e e o).side)) (λ _. refl)
 
 holding-out : (e : Entry) (level : ℕ) (f : Entry) → (group_of f ≡ 1 → ⊥) → holding e level 1 f ≡ 0
 unfolding holding within
-holding-out e level f n =
+holding-out e _ f n =
     let P : ℕ → Type 0 = λ (x : ℕ). x ≡ 0 in
     pick_all P _ (pick_all P _ (pick-false _ _ _ (pick-false _ _ _ refl ∙ ne_eqb _ _ n)) refl) refl
 

@@ -343,7 +343,7 @@ unfolding run after outcome
 of-today-list b c h [] = (refl, h)
 of-today-list b c h (x ∷ xs) =
     let e = seen_same b c h x.frame x.space in
-    let r = of-today-list _ _ (ap (λ (o : Outcome). o.moved.state) e) xs in
+    let r = of-today-list (outcome b x).moved.state (outcome c x).moved.state (ap (λ (o : Outcome). o.moved.state) e) xs in
     (ap (λ (o : Outcome). log_of x o ∷ run (outcome b x).moved.state xs) e ∙ ap (λ (l : List Logged). log_of x (outcome c x) ∷ l) r.0, r.1)
 
 -- LOOKUPS

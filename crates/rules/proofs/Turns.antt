@@ -44,7 +44,7 @@ module _ (turn : ℕ → State → Moved) (stops : State → Bool) (left : State
   progress (suc n) b = ⊎_elim here there (progress n b)
     where
       here : stops (each turn n b).state ≡ true → (stops (and_then (each turn n b) (turn n)).state ≡ true) ⊎ (left (and_then (each turn n b) (turn n)).state + suc n ≤ left b)
-      here e = inl (rw (then-still (each turn n b) (turn n) (stopped n _ e)) e)
+      here e = inl (rw (stopped n (each turn n b).state e) e)
 
       there : left (each turn n b).state + n ≤ left b → (stops (and_then (each turn n b) (turn n)).state ≡ true) ⊎ (left (and_then (each turn n b) (turn n)).state + suc n ≤ left b)
       there h = by (stops (each turn n b).state) refl
