@@ -8,7 +8,6 @@ use native.Mathlib.Omega.{arith}
 use borrow.Author.Tests.{eqb-true, eqb-false, eq-eqb, ne_eqb, lt-leb, leb-false, le-ltb, lt-ltb, ltb-true, ltb-false, not-true, not-false, le-leb, leb-true}
 use lib.Dec.{eqb, ltb, leb}
 use Rattle.base.specs.Pick.{pick, pick_true, pick-false, pick-by}
-use Rattle.base.specs.Sets.{has}
 use Rattle.base.specs.Walks.{sum_n}
 use Rattle.events.specs.declared.Event.TheVariants as E
 use Rattle.events.specs.declared.Order.{Order as GivenOrder}

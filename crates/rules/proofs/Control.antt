@@ -32,7 +32,7 @@ use Rattle.rules.specs.Events.{enter, enter_order, rest_or_cancel, waits, trades
 use Rattle.rules.proofs.Tables.{positive}
 use Rattle.rules.proofs.Shrinks.{Shrinks, shrinks-refl, then-shrinks, whole-shrinks, legs-shrinks, trade-shrinks, cancel-shrinks, cancel_order-shrinks, begin-shrinks, close-shrinks, answer-shrinks}
 use Rattle.rules.proofs.Quotas.{in_turn-divides, share-divides}
-use Rattle.rules.proofs.Gives.{specialist-divides, Lawful, lawful-shrinks, whole-none, opposed, opposed-apart, other-apart, Holder, Quoted, quoted-holder, group-quoted, Given, given, given-each}
+use Rattle.rules.proofs.Gives.{specialist-divides, Lawful, lawful-shrinks, whole-none, opposed-apart, other-apart, Holder, Quoted, quoted-holder, group-quoted, Given, given, given-each}
 
 -- A WHOLE FILL is proper: two that oppose each other, units that both have, a price that meets both limits.
 pub record Proper (b : State) (a h level q : ℕ) : Type 0 where

@@ -8,7 +8,7 @@ use Prim.Native.Nat.{ℕ, ◌+◌, ◌≤◌, ◌<◌}
 use native.Mathlib.Omega.{arith}
 use borrow.Author.Tests.{eq-eqb, ltb-true, ltb-false, leb-false}
 use lib.Dec.{eqb}
-use lib.ListN.{length, set}
+use lib.ListN.{length}
 use lib.Seq.{get_or-set_same}
 use Rattle.base.specs.Pick.{pick, pick_true, pick-false}
 use Rattle.base.specs.Walks.{all-every, first_n, first-le, first_holds, lt-or-le}

@@ -1,7 +1,7 @@
 -- "The second or third group, when larger than what remains, is shared: remaining × size / group total, rounded down, then one unit each by number until
 -- none is left."
 use mathlib.Core.Path.{◌≡◌, ◌∙◌, ap}
-use mathlib.Core.Logic.{◌⊎◌, ⊎_elim}
+use mathlib.Core.Logic.{⊎_elim}
 use mathlib.Core.List.{List}
 use Prim.Native.Nat.{ℕ, ◌+◌, ◌-◌, ◌*◌, ◌/◌, ◌≤◌, ◌<◌}
 use native.Mathlib.Nat.{mul_comm, add-mul, mul_right_comm, mul-le-mul_right, one-mul, mul-lt-mul_of_pos_right, div-mul-le_self, lt-div-mul-add, lt_of_mul-lt-mul_right}

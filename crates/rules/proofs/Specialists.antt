@@ -13,7 +13,6 @@ use Rattle.base.specs.Pick.{pick-by, pick_yes, pick_true, pick-false}
 use Rattle.base.specs.Walks.{sum_n, slot, first_n, first_holds, first-before, length-table, sum_same, lt-or-le, clash}
 use Rattle.events.specs.declared.Event.TheVariants as E
 use Rattle.events.specs.declared.Specialist.{Specialist as GivenSpecialist}
-use Rattle.rules.specs.declared.Specialist.{Specialist}
 use Rattle.rules.specs.declared.Strategy.{Strategy}
 use Rattle.rules.specs.declared.State.{State}
 use Rattle.rules.specs.declared.Allocation.TheVariants.{Shared, ForStarter}

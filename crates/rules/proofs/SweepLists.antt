@@ -4,7 +4,7 @@ use mathlib.Core.Path.{◌≡◌, sym, ◌∙◌, ap, subst}
 use mathlib.Core.Logic.{⊎_elim}
 use mathlib.Core.List.Memᴰ
 use mathlib.Core.List.{append-nil, List, [], ◌∷◌, ◌++◌, Memᴰ}
-use Prim.Native.Nat.{ℕ, ◌+◌, ◌≤◌}
+use Prim.Native.Nat.{ℕ, ◌≤◌}
 use native.Mathlib.Omega.{arith}
 use borrow.Author.Tests.{le-leb}
 use lib.Dec.{leb}
@@ -19,7 +19,7 @@ use Rattle.rules.specs.Records.{Line}
 use Rattle.rules.specs.Step.{Outcome, refused}
 use Rattle.rules.specs.Valid.{Valid}
 use Rattle.rules.specs.Sentences.{BettersNothing}
-use Rattle.rules.specs.Totals.{Sent, Logged, outcome, after, run, lines_of, total, complex, leg, Unknown, mentions, Answered, OneDay, Defined, Bettered, NotBettered, NothingBettered}
+use Rattle.rules.specs.Totals.{Sent, Logged, outcome, after, run, lines_of, total, Unknown, mentions, Answered, OneDay, Defined, Bettered, NotBettered, NothingBettered}
 use Rattle.rules.proofs.Validity.{valid-fresh}
 use Rattle.rules.proofs.Laws.{when-yes}
 use Rattle.rules.proofs.Lists.{Went, refused_as, accepted_as, went, Divided, run-divided}

@@ -22,7 +22,6 @@ use Rattle.frames.specs.Frames.{read_of}
 use Rattle.rules.specs.declared.Entry.{Entry}
 use Rattle.rules.specs.declared.LegOrder.{LegOrder}
 use Rattle.rules.specs.declared.State.{State}
-use Rattle.rules.specs.Nets.{betters}
 use Rattle.rules.specs.State.{no_entry, no_order, entry_at, with_orders, with_last}
 use Rattle.rules.specs.Auctions.{running, put_auction, begin, answer}
 use Rattle.rules.specs.Events.{live_order, enter_order, free_order_slot, trade_all, on_leg_order, enter, free_slot, starts, waits, trades, arrive, on_order}

@@ -1,7 +1,7 @@
 -- A sweep against the leg net of its side, from the log alone (2026-03): that net is the sum, in cents, of the best prices that the list left, over
 -- the legs of the event that defined the strategy; and where a price is missing there is none.
 use mathlib.Core.Path.{◌≡◌, refl, sym, ◌∙◌, ap}
-use mathlib.Core.Bool.{true, not}
+use mathlib.Core.Bool.{true}
 use mathlib.Core.Logic.{⊎_elim}
 use mathlib.Core.List.{List}
 use Prim.Native.Nat.{ℕ, zero, suc, ◌≤◌, ◌<◌}
@@ -10,7 +10,6 @@ use lib.Dec.{eqb}
 use lib.ListN.{get_or}
 use Rattle.base.specs.Pick.{pick, pick-by}
 use Rattle.base.specs.All.{all-at}
-use Rattle.events.specs.declared.Event.{Event}
 use Rattle.events.specs.declared.Event.TheVariants as E
 use Rattle.events.specs.declared.Reading.TheVariants as R
 use Rattle.events.specs.declared.Strategy.{Strategy as GivenStrategy}

@@ -25,7 +25,7 @@ use Rattle.rules.specs.Sentences.{InRange}
 use Rattle.rules.specs.Records.{kind_number, cents, Line, line_of}
 use Rattle.rules.specs.Lookups.{live_quantity}
 use Rattle.rules.specs.Valid.{FitQuote, Valid}
-use Rattle.rules.specs.Totals.{Sent, Logged, outcome, after, run, lines_of, total, if_same, whole_filled, leg_filled, cancelled, contracts_on, bought, sold, Terms, complex, leg, nothing, Came, Unknown, mentions, ratio_in, Answered, Defined, NotWorse, is_leg_number, is_fill, cash, OneDay, Totals, quoted, range_said, WithinRange, Bettered, SweepIn}
+use Rattle.rules.specs.Totals.{Sent, Logged, outcome, after, run, lines_of, total, if_same, whole_filled, leg_filled, cancelled, contracts_on, bought, sold, Terms, complex, leg, Came, Unknown, mentions, ratio_in, Answered, Defined, NotWorse, is_leg_number, is_fill, cash, OneDay, Totals, quoted, range_said, WithinRange, Bettered, SweepIn}
 use Rattle.rules.proofs.Validity.{valid-fresh}
 use Rattle.rules.proofs.Tables.{tally}
 use Rattle.rules.proofs.Laws.{Law, no_entries, no_orders, of_series, of_cash, of_ratio, of_limit, of_party, of_price, size, come, gone, ratio_for, on_complex, on_leg_order, on_whole, on_traded, when-yes}

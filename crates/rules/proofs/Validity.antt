@@ -3,7 +3,7 @@ use mathlib.Core.Path.{◌≡◌, refl, sym, ◌∙◌, ap}
 use mathlib.Core.Bool.{Bool, true, false, not}
 use mathlib.Core.Logic.{◌⊎◌, inl, inr, ⊎_elim}
 use mathlib.Core.List.{List, ◌∷◌}
-use Prim.Native.Nat.{ℕ, ◌+◌, ◌≤◌, ◌<◌}
+use Prim.Native.Nat.{ℕ, ◌≤◌, ◌<◌}
 use native.Mathlib.Nat.{le_refl}
 use native.Mathlib.Omega.{arith}
 use borrow.Author.Tests.{eqb-true, eq-eqb, ne_eqb, ltb-true, ltb-false, leb-false, not-false}
@@ -30,7 +30,7 @@ use Rattle.rules.specs.declared.State.{State}
 use Rattle.rules.specs.State.{no_entry, no_strategy, fresh, entry_at, strategy_at, with_strategies, with_national, with_range, with_nets}
 use Rattle.rules.specs.Strategies.{twice, held, added, define, shut_set}
 use Rattle.rules.specs.Auctions.{live_in, running, is_number, starter_slot}
-use Rattle.rules.specs.Events.{live, old_sweep}
+use Rattle.rules.specs.Events.{old_sweep}
 use Rattle.rules.specs.National.{on_national, on_range}
 use Rattle.rules.specs.Specialists.{with_specialist, on_specialist}
 use Rattle.rules.specs.Given.{legs_given, strategy_given, order_given, sweep_given, leg_order_given, specialist_given, quote_given}

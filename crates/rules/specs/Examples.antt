@@ -34,7 +34,6 @@ use Rattle.events.specs.declared.Event.{Event}
 use Rattle.events.specs.declared.Event.TheVariants as E
 use Rattle.events.specs.declared.Leg.{Leg as GivenLeg}
 use Rattle.events.specs.declared.Reading.TheVariants as R
-use Rattle.rules.specs.declared.LegOrder.{LegOrder}
 use Rattle.rules.specs.declared.State.{State}
 use Rattle.rules.specs.declared.Record.{Record}
 

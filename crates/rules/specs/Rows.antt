@@ -1,5 +1,5 @@
 -- Empty rows of the tables.
-use Rattle.std.specs.Prelude.{false, List, [], replicate}
+use Rattle.std.specs.Prelude.{false, [], replicate}
 use Rattle.rules.specs.declared.Leg.{Leg}
 use Rattle.rules.specs.declared.Specialist.{Specialist}
 use Rattle.rules.specs.declared.Strategy.{Strategy}

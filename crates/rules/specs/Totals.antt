@@ -15,7 +15,7 @@ use Rattle.rules.specs.declared.Leg.{Leg}
 use Rattle.rules.specs.declared.Quote.{Quote}
 use Rattle.rules.specs.declared.Specialist.{Specialist}
 use Rattle.rules.specs.declared.State.{State}
-use Rattle.rules.specs.State.{no_specialist, no_leg, no_quote}
+use Rattle.rules.specs.State.{no_leg, no_quote}
 use Rattle.rules.specs.Sides.{other}
 use Rattle.rules.specs.Strategies.{series_of, ratio_of, divisor}
 use Rattle.rules.specs.Given.{legs_given}
