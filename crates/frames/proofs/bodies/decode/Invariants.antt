@@ -1,0 +1,10 @@
+use Rattle.std.proofs.Common.{◌≡◌, ◌+◌, ◌-◌, ◌≤◌, length, refl, add-one, arith, rules}
+use Rattle.events.specs.Fields.{width, layout, offset, offset-room}
+use Rattle.frames.specs.Bodies.{row_n}
+use Rattle.frames.proofs.bodies.decode.Given as goal
+
+abbrev pub invariant-loop-i : goal.invariant-loop-i
+invariant-loop-i l = (l.i ≤ 19) × (l.at ≡ offset (layout l.fields l.m) l.i) × (l.row ≡ row_n (layout l.fields l.m) l.frame l.i)
+
+abbrev pub decreases-loop-i : goal.decreases-loop-i
+decreases-loop-i l = 19 - l.i

@@ -1,0 +1,7 @@
+use Rattle.std.proofs.Common.{rules}
+use Rattle.frames.specs.Carried.{carried-by}
+use Rattle.events.specs.declared.Kind.TheVariants as K
+use Rattle.frames.proofs.carried.series_in.Goals as goal
+
+pub returns : goal.returns
+returns c = rw (c.if_fits.ensures, c.test-state.ensures, c.test-series.ensures) (carried-by K.Series _)

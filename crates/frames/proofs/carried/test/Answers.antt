@@ -1,0 +1,5 @@
+use Rattle.std.proofs.Common.{rules}
+use Rattle.frames.proofs.carried.test.Goals as goal
+
+pub returns : goal.returns
+returns c = rw (c.within.ensures, c.value-v.ensures)

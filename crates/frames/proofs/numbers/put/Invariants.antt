@@ -1,0 +1,10 @@
+use Rattle.std.proofs.Common.{◌≡◌, ◌+◌, ◌-◌, ◌≤◌, length, sym, refl, ◌∙◌, arith, length-set}
+use lib.Seq.{sets}
+use Rattle.frames.specs.Number.{bytes, put-end, put-start, put_step}
+use Rattle.frames.proofs.numbers.put.Given as goal
+
+abbrev pub invariant-loop-i : goal.invariant-loop-i
+invariant-loop-i l = (l.i ≤ l.width) × (length l.space ≡ length l.initial.space) × (sets l.space (l.at + l.i) (bytes (l.width - l.i) l.v) ≡ sets l.initial.space l.at (bytes l.width l.value))
+
+abbrev pub decreases-loop-i : goal.decreases-loop-i
+decreases-loop-i l = l.width - l.i
