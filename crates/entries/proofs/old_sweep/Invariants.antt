@@ -1,0 +1,14 @@
+use Rattle.tables.specs.Only.{only_entries}
+use native.Mathlib.Omega.{arith}
+use borrow.Author.Rules.{rules}
+use Rattle.base.specs.Walks.{Passed, passed_first, passed-next, passed_here, passed-all}
+use Rattle.rules.specs.Events.{old_sweep, same_sweep_at}
+use Rattle.base.specs.Pick.{told}
+use Prim.Native.Nat.{◌≤◌, ◌-◌}
+use Rattle.entries.proofs.old_sweep.Given as goal
+
+abbrev pub invariant-loop-i : goal.invariant-loop-i
+invariant-loop-i l = (l.i ≤ 32) × Passed (same_sweep_at (only_entries l.es) l.e) l.i
+
+abbrev pub decreases-loop-i : goal.decreases-loop-i
+decreases-loop-i l = 32 - l.i

@@ -1,0 +1,14 @@
+use mathlib.Core.Path.{◌≡◌, ◌∙◌}
+use Prim.Native.Nat.{◌≤◌, ◌-◌}
+use native.Mathlib.Omega.{arith}
+use borrow.Author.Rules.{rules}
+use Rattle.base.specs.Walks.{sum_n, slot, stored, stored-first, stored_next, stored_last}
+use Rattle.rules.specs.Quotas.{in_turn, in_turn_at}
+use Rattle.quotas.specs.Laws.{in_turn-is, in_turn-left}
+use Rattle.quotas.proofs.in_turn.Given as goal
+
+abbrev pub invariant-loop-i : goal.invariant-loop-i
+invariant-loop-i l = (l.i ≤ 32) × (l.left ≡ l.r - sum_n (slot l.xs) l.i) × (l.qs ≡ stored 32 (in_turn_at l.r l.xs) l.i)
+
+abbrev pub decreases-loop-i : goal.decreases-loop-i
+decreases-loop-i l = 32 - l.i

@@ -1,0 +1,11 @@
+use Rattle.rules.specs.Sides.{better}
+use Rattle.base.specs.Pick.{tests}
+use Rattle.sides.proofs.better.Goals as goal
+
+pub returns-then-side-eq0 : goal.returns-then-side-eq0
+unfolding better
+returns-then-side-eq0 c = search tests
+
+pub returns : goal.returns
+unfolding better
+returns c = search tests

@@ -1,0 +1,8 @@
+use mathlib.Core.Path.{ap}
+use Prim.Native.Nat.{ℕ}
+use lib.Dec.{eqb}
+use borrow.Author.Rules.{rules}
+use Rattle.states.proofs.none_shut.Goals as goal
+
+pub returns : goal.returns
+returns c = ap (λ (x : ℕ). eqb x 0) c.shut_in-shut.ensures

@@ -1,0 +1,25 @@
+use Prim.Native.Nat.{◌≤◌, ◌-◌}
+use mathlib.Core.Path.{◌≡◌}
+use Rattle.base.specs.Walks.{walk, walk_first, walk-next}
+use Rattle.rules.specs.Strategies.{largest_step, smallest_step}
+use borrow.Author.Rules.{rules}
+use native.Mathlib.Omega.{arith}
+use Rattle.terms.proofs.spread.Goals as goal
+
+pub loop-i-init : goal.loop-i-init
+loop-i-init c = (omega arith, walk_first _ _, walk_first _ _)
+
+pub overflow_cast-ratio : goal.overflow_cast-ratio
+overflow_cast-ratio c = omega arith
+
+pub overflow_add-i : goal.overflow_add-i
+overflow_add-i c = omega arith
+
+pub loop-i-smaller : goal.loop-i-smaller
+loop-i-smaller c = omega arith
+
+pub loop-i-preserved : goal.loop-i-preserved
+loop-i-preserved c = (omega arith, walk-next _ _ _ c.loop-i.invariant.1 (rw c.leg_at-l.ensures at c.most-largest.ensures), walk-next _ _ _ c.loop-i.invariant.2 (rw c.leg_at-l.ensures at c.least-smallest.ensures))
+
+pub returns : goal.returns
+returns c = let e : c.loop-i.i ≡ c.args.count = omega arith in rw (← e) (rw (c.loop-i.invariant.1, c.loop-i.invariant.2))
