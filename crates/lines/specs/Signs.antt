@@ -6,10 +6,10 @@ use Rattle.std.proofs.Math.Facts.{sfits_widen}
 use Rattle.std.specs.Int.Signed.{lt_z, non_neg}
 
 pub wide_is : {z : ℤ} → SFits w32 z → to_z w64 (of_z w64 (to_z w32 (of_z w32 z))) ≡ z
-wide_is {z} f = ap (λ (x : ℤ). to_z w64 (of_z w64 x)) (to_z-of_z f) ∙ to_z-of_z (sfits_widen tt f)
+wide_is {z} f = ap (λ (x : ℤ). to_z w64 (of_z w64 x)) (to_z-of_z f) ∙ to_z-of_z {w = w64} (sfits_widen {w = w32} {w' = w64} tt f)
 
 pub wide_fits : {z : ℤ} → SFits w32 z → SFits w64 (to_z w32 (of_z w32 z))
-wide_fits f = rw (to_z-of_z f) (sfits_widen tt f)
+wide_fits f = rw (to_z-of_z f) (sfits_widen {w = w32} {w' = w64} tt f)
 
 -- a number below 0, turned
 pub below-zero : (v : ℕ) → lt_z (pos v) (pos 0) ≡ true → ⊥

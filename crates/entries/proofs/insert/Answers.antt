@@ -7,6 +7,7 @@ use native.Mathlib.Omega.{arith}
 use Prim.Native.Nat.{◌≤◌, ◌-◌}
 use mathlib.Core.Logic.{⊎_elim}
 use Rattle.entries.proofs.insert.Goals as goal
+use Rattle.entries.proofs.insert.Goals.{then-live, else-live}
 
 pub loop-i-init : goal.loop-i-init
 loop-i-init c = (omega arith, omega arith, packing-first _ _ _ (search rules))
@@ -33,7 +34,10 @@ pub loop-i-smaller : goal.loop-i-smaller
 loop-i-smaller c = omega arith
 
 pub loop-i-preserved : goal.loop-i-preserved
-loop-i-preserved c = ⊎_elim (λ w. rw (w.1, w.2) (omega arith, omega arith, packing-more _ _ _ _ c.loop-i-test.true (told c.live.ensures w.0.taken) c.loop-i.invariant.2)) (λ w. rw (w.1, w.2) (omega arith, omega arith, packing-skip _ _ _ _ c.loop-i-test.true (told c.live.ensures w.0.left) c.loop-i.invariant.2)) c.if-live.branch
+loop-i-preserved c =
+    elim c.if-live.branch
+    [ then-live w ↦ rw (w.rows-is, w.n-is) (omega arith, omega arith, packing-more _ _ _ _ c.loop-i-test.true (told c.live.ensures w.if-live.true) c.loop-i.invariant.2)
+    | else-live w ↦ rw (w.rows-is, w.n-is) (omega arith, omega arith, packing-skip _ _ _ _ c.loop-i-test.true (told c.live.ensures w.if-live.false) c.loop-i.invariant.2) ]
 
 pub offset_bounds-rows-n-then-n-lt-ROWS : goal.offset_bounds-rows-n-then-n-lt-ROWS
 offset_bounds-rows-n-then-n-lt-ROWS c = omega arith

@@ -1,0 +1,14 @@
+use Rattle.exports.specs.Laws.{row-slot, row_last}
+use Rattle.base.specs.Walks.{slot, stored, stored-first, stored_next, stored_last}
+use lib.ListN.{drop, length-drop}
+use Prim.Native.Nat.{◌-◌, ◌≤◌}
+use mathlib.Core.Path.{◌≡◌}
+use borrow.Author.Rules.{rules}
+use native.Mathlib.Omega.{arith}
+use Rattle.exports.proofs.row_in.Given as goal
+
+abbrev pub invariant-loop-i : goal.invariant-loop-i
+invariant-loop-i l = (l.i ≤ 19) × (l.row ≡ stored 19 (slot (drop 1 l.values)) l.i)
+
+abbrev pub decreases-loop-i : goal.decreases-loop-i
+decreases-loop-i l = 19 - l.i

@@ -1,0 +1,6 @@
+use Rattle.lines.specs.Puts.{put-pair}
+use borrow.Author.Rules.{rules}
+use Rattle.lines.proofs.put_pair.Goals as goal
+
+pub returns : goal.returns
+returns c = put-pair _ _ _ c.put_byte-a.ensures c.put_number-b.ensures c.put_number.ensures
