@@ -1,0 +1,11 @@
+use Rattle.national.specs.National.{meet-yes, meet-no}
+use Rattle.base.specs.Pick.{told}
+use mathlib.Core.Path.{◌∙◌}
+use borrow.Author.Rules.{rules}
+use Rattle.national.proofs.may_meet.Goals as goal
+
+pub returns-then-may_buy : goal.returns-then-may_buy
+returns-then-may_buy c = c.may_sell.ensures ∙ meet-yes _ _ (told c.may_buy.ensures c.if-may_buy.true)
+
+pub returns : goal.returns
+returns c = meet-no _ _ (told c.may_buy.ensures c.if-may_buy.false)

@@ -1,0 +1,10 @@
+use mathlib.Core.Path.{◌∙◌}
+use Rattle.national.specs.National.{take-buy, take-sell}
+use borrow.Author.Rules.{rules}
+use Rattle.national.proofs.may_take.Goals as goal
+
+pub returns-then-side-eq0 : goal.returns-then-side-eq0
+returns-then-side-eq0 c = c.may_buy.ensures ∙ take-buy _ _ _ c.if-side-eq0.true
+
+pub returns : goal.returns
+returns c = c.may_sell.ensures ∙ take-sell _ _ _ c.if-side-eq0.false

@@ -1,0 +1,15 @@
+use native.Mathlib.Omega.{arith}
+use borrow.Author.Rules.{rules}
+use Prim.Native.Nat.{◌≤◌, ◌-◌}
+use mathlib.Core.Path.{◌≡◌, ◌∙◌}
+use Rattle.base.specs.Walks.{stored, stored-first, stored_next}
+use Rattle.ranges.specs.Fit.{fit-leg}
+use Rattle.rules.specs.National.{national_at}
+use Rattle.national.specs.National.{walked-most, price-is, walked_all, walked-missing}
+use Rattle.national.proofs.national_net.Given as goal
+
+abbrev pub invariant-loop-i : goal.invariant-loop-i
+invariant-loop-i l = (l.i ≤ l.count) × (l.ps ≡ stored 6 (national_at l.qs l.side l.legs) l.i)
+
+abbrev pub decreases-loop-i : goal.decreases-loop-i
+decreases-loop-i l = l.count - l.i
