@@ -1,0 +1,15 @@
+use Rattle.auctions.specs.Auctions.{lapsed-none, lapsed-some}
+use Rattle.records.specs.Done.{Visited, visit-none, visit-moves, visit-stays, visit-room, visit-all, done-length}
+use Rattle.rules.specs.Auctions.{cancel_lapsed}
+use Rattle.base.specs.Pick.{told}
+use Prim.Native.Nat.{◌-◌}
+use mathlib.Core.Logic.{⊎_elim}
+use borrow.Author.Rules.{rules}
+use native.Mathlib.Omega.{arith}
+use Rattle.auctions.proofs.cancel_lapses.Given as goal
+
+abbrev pub invariant-loop-i : goal.invariant-loop-i
+invariant-loop-i l = Visited (cancel_lapsed l.k) 32 l.initial.c l.initial.space l.space l.n l.m l.c l.i
+
+abbrev pub decreases-loop-i : goal.decreases-loop-i
+decreases-loop-i l = 32 - l.i

@@ -1,0 +1,6 @@
+use Rattle.auctions.specs.Auctions.{put_is}
+use borrow.Author.Rules.{rules}
+use Rattle.auctions.proofs.put_auction.Goals as goal
+
+pub returns : goal.returns
+returns c = put_is _ _ _ _ _ c.with_auction.ensures

@@ -1,0 +1,34 @@
+use Rattle.cancels.specs.Cancels.{order_has, order_slot}
+use Rattle.tables.specs.Only.{only_orders}
+use native.Mathlib.Omega.{arith}
+use borrow.Author.Rules.{rules}
+use Rattle.base.specs.Walks.{Passed, passed_first, passed-next, passed_here, passed-all}
+use Rattle.base.specs.Pick.{told}
+use Prim.Native.Nat.{◌≤◌, ◌-◌}
+use Rattle.cancels.proofs.order_of.Goals as goal
+
+pub loop-i-init : goal.loop-i-init
+loop-i-init c = (omega arith, passed_first _)
+
+pub offset_bounds-os-i : goal.offset_bounds-os-i
+offset_bounds-os-i c = omega arith
+
+pub bounds-os-i : goal.bounds-os-i
+bounds-os-i c = omega arith
+
+pub returns-then-has_live : goal.returns-then-has_live
+unfolding order_slot
+returns-then-has_live c = passed_here _ _ 32 c.loop-i.invariant.1 c.loop-i-test.true (told c.has_live.ensures c.if-has_live.true)
+
+pub overflow_add-i : goal.overflow_add-i
+overflow_add-i c = omega arith
+
+pub loop-i-smaller : goal.loop-i-smaller
+loop-i-smaller c = omega arith
+
+pub loop-i-preserved : goal.loop-i-preserved
+loop-i-preserved c = (omega arith, passed-next _ _ c.loop-i.invariant.1 (told c.has_live.ensures c.if-has_live.false))
+
+pub returns : goal.returns
+unfolding order_slot
+returns c = passed-all _ c.loop-i.i 32 c.loop-i.invariant.1 (omega arith)

@@ -1,0 +1,6 @@
+use Rattle.given.specs.Definitions.{strategy-is}
+use borrow.Author.Rules.{rules}
+use Rattle.given.proofs.strategy_given.Goals as goal
+
+pub returns : goal.returns
+returns c = strategy-is _ c.legs_given-legs.ensures c.defined.ensures

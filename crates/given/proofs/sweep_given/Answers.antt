@@ -1,0 +1,8 @@
+use mathlib.Core.Path.{refl}
+use borrow.Author.Rules.{rules}
+use Rattle.rules.specs.Given.{sweep_given}
+use Rattle.given.proofs.sweep_given.Goals as goal
+
+pub returns : goal.returns
+unfolding sweep_given
+returns c = refl

@@ -1,0 +1,5 @@
+use borrow.Author.Rules.{rules}
+use Rattle.trades.proofs.cut_order.Goals as goal
+
+pub returns : goal.returns
+returns c = rw c.less.ensures
