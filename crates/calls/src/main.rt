@@ -18,6 +18,7 @@ use book::Book;
 use depths::depth_in;
 use lines::{Net, put_byte, put_four, put_three, put_told, put_two, two_bytes};
 use rules::{Depth, OrderEntry, Shut, StrategyNets};
+use std::io::Read;
 use streams::{Rest, drain, fill, input_block, settle, text_space, write_out};
 use turns::{ROOM, Told, record_space, tell};
 
@@ -61,18 +62,18 @@ fn lent(item: &[u8]) -> usize
 }
 
 // Reads until the first item of the rest is whole or no more comes.
-fn fill_item(block: &mut [u8], r: Rest) -> Rest
+fn fill_item<I: Read, R: Eprint>(input: &mut I, rt: &R, block: &mut [u8], r: Rest) -> Rest
     requires { Lies r block.old }
     ensures { More block.old block.new r result }
 {
-    let q = fill(block, r, 4);
+    let q = fill(input, rt, block, r, 4);
     let at = q.at;
     let end = q.end;
     if end - at < 4 {
         return q;
     }
     let need = needed(&block[at..end]);
-    fill(block, q, need)
+    fill(input, rt, block, q, need)
 }
 
 // One call: the item's frame goes to the book with the space that it is lent, and what is printed of it goes behind the text.
@@ -205,7 +206,7 @@ fn put_depth(
 }
 
 // The lines of the numbers 1 to 100,000.
-fn list_live(book: Book, out: &mut [u8], used: usize) -> usize
+fn list_live<R: Print + Eprint>(rt: &R, book: Book, out: &mut [u8], used: usize) -> usize
     requires valid { Valid book.state }
     requires used_in_bounds { (used ≤ length out.old) × (86 ≤ length out.old) }
     ensures { Listed out.old out.new used result (live_lines book.state) }
@@ -213,7 +214,7 @@ fn list_live(book: Book, out: &mut [u8], used: usize) -> usize
     let mut m = used;
     let mut i: u32 = 0;
     while i < 100000 {
-        let text = drain(m, out, LINE);
+        let text = drain(rt, m, out, LINE);
         m = put_live(book, i + 1, out, text.used);
         i += 1;
     }
@@ -221,7 +222,7 @@ fn list_live(book: Book, out: &mut [u8], used: usize) -> usize
 }
 
 // The lines of the strategies 0 to 15.
-fn list_shut(book: Book, out: &mut [u8], used: usize) -> usize
+fn list_shut<R: Print + Eprint>(rt: &R, book: Book, out: &mut [u8], used: usize) -> usize
     requires valid { Valid book.state }
     requires used_in_bounds { (used ≤ length out.old) × (86 ≤ length out.old) }
     ensures { Listed out.old out.new used result (shut_lines book.state) }
@@ -229,7 +230,7 @@ fn list_shut(book: Book, out: &mut [u8], used: usize) -> usize
     let mut m = used;
     let mut i: u32 = 0;
     while i < 16 {
-        let text = drain(m, out, LINE);
+        let text = drain(rt, m, out, LINE);
         m = put_shut(book, i, out, text.used);
         i += 1;
     }
@@ -237,7 +238,7 @@ fn list_shut(book: Book, out: &mut [u8], used: usize) -> usize
 }
 
 // The lines of the nets of the strategies 0 to 15.
-fn list_nets(book: Book, out: &mut [u8], used: usize) -> usize
+fn list_nets<R: Print + Eprint>(rt: &R, book: Book, out: &mut [u8], used: usize) -> usize
     requires valid { Valid book.state }
     requires used_in_bounds { (used ≤ length out.old) × (86 ≤ length out.old) }
     ensures { Listed out.old out.new used result (nets_lines book.state) }
@@ -245,7 +246,7 @@ fn list_nets(book: Book, out: &mut [u8], used: usize) -> usize
     let mut m = used;
     let mut i: u32 = 0;
     while i < 16 {
-        let text = drain(m, out, LINE);
+        let text = drain(rt, m, out, LINE);
         m = put_nets(book, i, out, text.used);
         i += 1;
     }
@@ -253,7 +254,7 @@ fn list_nets(book: Book, out: &mut [u8], used: usize) -> usize
 }
 
 // The lines of the series 0 to 31, of each the sides 0 and 1.
-fn list_depths(book: Book, out: &mut [u8], used: usize) -> usize
+fn list_depths<R: Print + Eprint>(rt: &R, book: Book, out: &mut [u8], used: usize) -> usize
     requires valid { Valid book.state }
     requires used_in_bounds { (used ≤ length out.old) × (86 ≤ length out.old) }
     ensures { Listed out.old out.new used result (depth_lines book.state) }
@@ -262,7 +263,7 @@ fn list_depths(book: Book, out: &mut [u8], used: usize) -> usize
     let mut m = used;
     let mut i: u32 = 0;
     while i < 64 {
-        let text = drain(m, out, LINE);
+        let text = drain(rt, m, out, LINE);
         m = put_depth(book, row, i / 2, i % 2, out, text.used);
         i += 1;
     }
@@ -270,15 +271,15 @@ fn list_depths(book: Book, out: &mut [u8], used: usize) -> usize
 }
 
 // What the lookups say of the book.
-fn list_lookups(book: Book, out: &mut [u8], used: usize) -> usize
+fn list_lookups<R: Print + Eprint>(rt: &R, book: Book, out: &mut [u8], used: usize) -> usize
     requires valid { Valid book.state }
     requires used_in_bounds { (used ≤ length out.old) × (86 ≤ length out.old) }
     ensures { Listed out.old out.new used result (lookup_text book.state) }
 {
-    let a = list_live(book, out, used);
-    let b = list_shut(book, out, a);
-    let c = list_nets(book, out, b);
-    list_depths(book, out, c)
+    let a = list_live(rt, book, out, used);
+    let b = list_shut(rt, book, out, a);
+    let c = list_nets(rt, book, out, b);
+    list_depths(rt, book, out, c)
 }
 
 // The line of an item that is cut short, where some bytes of it are left.
@@ -296,7 +297,14 @@ fn put_cut(left: usize, out: &mut [u8], used: usize) -> usize
 }
 
 // The last turn, where no whole item comes: `cut` where one was begun, and the lookups. The book and the rest stay.
-fn tell_end(book: Book, r: Rest, block: &[u8], out: &mut [u8], used: usize) -> usize
+fn tell_end<R: Print + Eprint>(
+    rt: &R,
+    book: Book,
+    r: Rest,
+    block: &[u8],
+    out: &mut [u8],
+    used: usize,
+) -> usize
     requires valid { Valid book.state }
     requires lies { Lies r block.now × (item_of (rest_of block.now r) ≡ 0) }
     requires used_in_bounds { used + 189526 ≤ length out.old }
@@ -304,11 +312,17 @@ fn tell_end(book: Book, r: Rest, block: &[u8], out: &mut [u8], used: usize) -> u
 {
     let left = r.end - r.at;
     let m = put_cut(left, out, used);
-    list_lookups(book, out, m)
+    list_lookups(rt, book, out, m)
 }
 
 // Calls, until the input ends or the output takes no more. The index stays below the largest number.
-fn run(block: &mut [u8], space: &mut [i32], out: &mut [u8])
+fn run<I: Read, R: Print + Eprint>(
+    input: &mut I,
+    rt: &R,
+    block: &mut [u8],
+    space: &mut [i32],
+    out: &mut [u8],
+)
     requires space_len { length space.old ≡ record_space }
     requires in_bounds { 189526 ≤ length out.old }
 {
@@ -318,13 +332,13 @@ fn run(block: &mut [u8], space: &mut [i32], out: &mut [u8])
     let mut on = true;
     let mut index: u64 = 0;
     while on && index < u64::MAX {
-        let r = fill_item(block, rest);
+        let r = fill_item(input, rt, block, rest);
         let at = r.at;
         let end = r.end;
         let n = item(&block[at..end]);
         if n == 0 {
-            let m = tell_end(book, r, block, out, used);
-            write_out(&out[..m]);
+            let m = tell_end(rt, book, r, block, out, used);
+            write_out(rt, &out[..m]);
             return;
         }
         let next = at + n;
@@ -332,17 +346,18 @@ fn run(block: &mut [u8], space: &mut [i32], out: &mut [u8])
         book = told.book;
         rest = Rest { at: next, end: end };
         let whole = item(&block[next..end]);
-        let text = settle(whole, told.used, out, ROOM);
+        let text = settle(rt, whole, told.used, out, ROOM);
         used = text.used;
         on = text.on;
         index += 1;
     }
-    write_out(&out[..used]);
+    write_out(rt, &out[..used]);
 }
 
-fn main() {
+fn main(rt: HostRuntime) {
+    let mut input = rt.stdin();
     let mut block = input_block();
     let mut space = record_space();
     let mut out = text_space();
-    run(&mut block, &mut space, &mut out);
+    run(&mut input, &rt, &mut block, &mut space, &mut out);
 }

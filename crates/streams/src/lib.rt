@@ -5,7 +5,7 @@ ghost use Rattle.std.specs.Prelude.{◌≡◌, ◌+◌, ◌≤◌, length, take,
 ghost use Rattle.streams.specs.Rests.{Lies, More, Added};
 ghost use Rattle.streams.specs.Texts.{Drains, Settles};
 
-use libc::{STDERR_FILENO, STDIN_FILENO, STDOUT_FILENO};
+use std::io::Read;
 
 // The bytes of the block that were read and not yet taken: from a place to an end.
 #[derive(Clone, Copy)]
@@ -26,35 +26,41 @@ fn slide(block: &mut [u8], at: usize, n: usize)
     }
 }
 
-// Says on standard error that a read failed, where it did.
-fn say_unread(got: isize) {
-    if got < 0 {
-        io::write_all(
-            STDERR_FILENO,
-            b"standard input: a read failed; what was read before it is all that was played\n",
-        );
-    }
+// Says on standard error that a read failed.
+fn say_unread<R: Eprint>(rt: &R) {
+    let _ = eprintln!(rt;
+        "standard input: a read failed; what was read before it is all that was played"
+    );
 }
 
 // One read into the block from n on. Answers the next end, or n where no more comes.
-fn read_on(block: &mut [u8], n: usize) -> usize
+fn read_on<I: Read, R: Eprint>(input: &mut I, rt: &R, block: &mut [u8], n: usize) -> usize
     requires { n ≤ length block.old }
     ensures { Added block.old block.new n result }
 {
-    let part = &mut block[n..];
-    let got = libc::read(STDIN_FILENO, part);
-    say_unread(got);
-    n + io::count(got, part)
+    match input.read(&mut block[n..]) {
+        Ok(got) => n + got,
+        Err(_) => {
+            say_unread(rt);
+            n
+        }
+    }
 }
 
 // Reads until the block has `need` bytes or no more come.
-fn read_up(block: &mut [u8], n: usize, need: usize) -> usize
+fn read_up<I: Read, R: Eprint>(
+    input: &mut I,
+    rt: &R,
+    block: &mut [u8],
+    n: usize,
+    need: usize,
+) -> usize
     requires { n ≤ length block.old }
     ensures { Added block.old block.new n result }
 {
     let mut m = n;
     while m < need {
-        let k = read_on(block, m);
+        let k = read_on(input, rt, block, m);
         if k == m {
             return m;
         }
@@ -64,7 +70,13 @@ fn read_up(block: &mut [u8], n: usize, need: usize) -> usize
 }
 
 // Reads until the rest has `need` bytes or no more come.
-pub fn fill(block: &mut [u8], r: Rest, need: usize) -> Rest
+pub fn fill<I: Read, R: Eprint>(
+    input: &mut I,
+    rt: &R,
+    block: &mut [u8],
+    r: Rest,
+    need: usize,
+) -> Rest
     requires { Lies r block.old }
     ensures { More block.old block.new r result }
 {
@@ -74,7 +86,7 @@ pub fn fill(block: &mut [u8], r: Rest, need: usize) -> Rest
         return r;
     }
     slide(block, at, n);
-    let end = read_up(block, n, need);
+    let end = read_up(input, rt, block, n, need);
     Rest { at: 0, end: end }
 }
 
@@ -87,19 +99,16 @@ pub struct Text {
 
 // Writes the text out; where it is not taken whole, says so on standard error. A program has no other way to tell: its exit
 // status is always 0.
-pub fn write_out(text: &[u8]) -> bool {
-    let whole = io::write_all(STDOUT_FILENO, text);
+pub fn write_out<R: Print + Eprint>(rt: &R, text: &[u8]) -> bool {
+    let whole = rt.write_all(text).is_ok();
     if !whole {
-        io::write_all(
-            STDERR_FILENO,
-            b"standard output: a write failed; what was printed is not whole\n",
-        );
+        let _ = eprintln!(rt; "standard output: a write failed; what was printed is not whole");
     }
     whole
 }
 
 // Writes the text out where less than the room is left.
-pub fn drain(used: usize, out: &[u8], room: usize) -> Text
+pub fn drain<R: Print + Eprint>(rt: &R, used: usize, out: &[u8], room: usize) -> Text
     requires { (used ≤ length out.now) × (room ≤ length out.now) }
     ensures { Drains used room (length out.now) result }
 {
@@ -109,20 +118,20 @@ pub fn drain(used: usize, out: &[u8], room: usize) -> Text
             on: true,
         };
     }
-    let on = write_out(&out[..used]);
+    let on = write_out(rt, &out[..used]);
     Text { used: 0, on: on }
 }
 
 // Writes the text out where less than the room is left, and all of it where nothing whole is left of the input: what is
 // printed goes out before the wait for more.
-pub fn settle(whole: usize, used: usize, out: &[u8], room: usize) -> Text
+pub fn settle<R: Print + Eprint>(rt: &R, whole: usize, used: usize, out: &[u8], room: usize) -> Text
     requires { (used ≤ length out.now) × (room ≤ length out.now) }
     ensures { Settles whole used room (length out.now) result }
 {
     if whole == 0 {
-        return drain(used, out, out.len());
+        return drain(rt, used, out, out.len());
     }
-    drain(used, out, room)
+    drain(rt, used, out, room)
 }
 
 // The block that the input is read into: the longest frame, with the two lengths of an item before it, and some more.

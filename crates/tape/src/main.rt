@@ -11,11 +11,12 @@ ghost use Rattle.tape.specs.Tapes.{Ended};
 use book::Book;
 use lines::{cut, needed, put_event};
 use rules::Answer;
+use std::io::Read;
 use streams::{Rest, fill, input_block, settle, text_space, write_out};
 use turns::{ROOM, record_space, tell};
 
 // Reads on until the first frame of the rest is whole or no more comes, where the rest has its length.
-fn fill_on(block: &mut [u8], r: Rest) -> Rest
+fn fill_on<I: Read, R: Eprint>(input: &mut I, rt: &R, block: &mut [u8], r: Rest) -> Rest
     requires { Lies r block.old }
     ensures { More block.old block.new r result }
 {
@@ -25,22 +26,22 @@ fn fill_on(block: &mut [u8], r: Rest) -> Rest
     if need <= end - at {
         return r;
     }
-    fill(block, r, need)
+    fill(input, rt, block, r, need)
 }
 
 // Reads until the first frame of the rest is whole or no more comes. Mostly it is there already.
-fn fill_frame(block: &mut [u8], r: Rest) -> Rest
+fn fill_frame<I: Read, R: Eprint>(input: &mut I, rt: &R, block: &mut [u8], r: Rest) -> Rest
     requires { Lies r block.old }
     ensures { More block.old block.new r result }
 {
     if 2 <= r.end - r.at {
-        return fill_on(block, r);
+        return fill_on(input, rt, block, r);
     }
-    let q = fill(block, r, 2);
+    let q = fill(input, rt, block, r, 2);
     if q.end - q.at < 2 {
         return q;
     }
-    fill_on(block, q)
+    fill_on(input, rt, block, q)
 }
 
 // The line of a last frame that is cut short, or whose length is under 4.
@@ -67,7 +68,13 @@ fn tell_end(r: Rest, index: u64, block: &[u8], space: &[i32], out: &mut [u8], us
 }
 
 // Events, until the input ends, a frame is cut short, or the output takes no more. The index stays below the largest number.
-fn run(block: &mut [u8], space: &mut [i32], out: &mut [u8])
+fn run<I: Read, R: Print + Eprint>(
+    input: &mut I,
+    rt: &R,
+    block: &mut [u8],
+    space: &mut [i32],
+    out: &mut [u8],
+)
     requires space_len { length space.old ≡ 15360 }
     requires in_bounds { 189526 ≤ length out.old }
 {
@@ -77,13 +84,13 @@ fn run(block: &mut [u8], space: &mut [i32], out: &mut [u8])
     let mut on = true;
     let mut index: u64 = 0;
     while on && index < u64::MAX {
-        let r = fill_frame(block, rest);
+        let r = fill_frame(input, rt, block, rest);
         let at = r.at;
         let end = r.end;
         let n = cut(&block[at..end]);
         if n == 0 {
             let m = tell_end(r, index, block, space, out, used);
-            write_out(&out[..m]);
+            write_out(rt, &out[..m]);
             return;
         }
         let next = at + n;
@@ -91,17 +98,18 @@ fn run(block: &mut [u8], space: &mut [i32], out: &mut [u8])
         book = told.book;
         rest = Rest { at: next, end: end };
         let whole = cut(&block[next..end]);
-        let text = settle(whole, told.used, out, ROOM);
+        let text = settle(rt, whole, told.used, out, ROOM);
         used = text.used;
         on = text.on;
         index += 1;
     }
-    write_out(&out[..used]);
+    write_out(rt, &out[..used]);
 }
 
-fn main() {
+fn main(rt: HostRuntime) {
+    let mut input = rt.stdin();
     let mut block = input_block();
     let mut space = record_space();
     let mut out = text_space();
-    run(&mut block, &mut space, &mut out);
+    run(&mut input, &rt, &mut block, &mut space, &mut out);
 }
