@@ -1,5 +1,5 @@
 -- What `calls` does with the rest of the input.
-use Rattle.std.specs.Prelude.{◌≡◌, refl, Bool, true, false, List, ◌++◌, ℕ, ◌+◌, ◌-◌, ◌≤◌, eqb, ℤ, length, take, drop}
+use Rattle.std.specs.Prelude.{◌≡◌, Bool, true, false, List, ◌++◌, ℕ, ◌+◌, ◌-◌, ◌≤◌, eqb, ℤ, length, take, drop}
 use Rattle.std.proofs.Common.{sym, ◌∙◌, ap, arith, length-drop, length-take-le, eq-eqb, ne_eqb}
 use Rattle.std.proofs.Math.Seq.{take-length}
 use Rattle.base.specs.Pick.{pick, pick_true, pick-false}
@@ -7,14 +7,14 @@ use Rattle.rules.specs.declared.State.{State}
 use Rattle.rules.specs.Step.{step}
 use Rattle.rules.specs.Valid.{Valid}
 use Rattle.book.specs.declared.Book.{Book}
-use Rattle.lines.specs.Puts.{Within, put-length}
+use Rattle.lines.specs.Puts.{Within}
 use Rattle.streams.specs.declared.Rest.{Rest}
 use Rattle.streams.specs.Rests.{Lies, rest_of, More, rest-first, rest-after, rest-length}
 use Rattle.turns.specs.declared.Told.{Told}
-use Rattle.turns.specs.Turns.{Tape, Turn, Tells, event_turn, Ready, Running, running-next, ready-filled}
+use Rattle.turns.specs.Turns.{Tape, Turn, Tells, event_turn, Running, running-next}
 use Rattle.calls.specs.Items.{item_of, lent_of, item-within, item-lengths, lent-most}
 use Rattle.calls.specs.Listings.{lookup_text, cut_line}
-use Rattle.calls.specs.Printed.{Printed, Listed, printed-one, printed-then, printed-length}
+use Rattle.calls.specs.Printed.{Printed, Listed, printed-one, printed-then}
 
 -- an item as a call: the frame behind its two lengths, and the space that it is lent
 abbrev pub call_turn : State → ℕ → List ℕ → List ℕ → Turn

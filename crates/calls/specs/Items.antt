@@ -1,6 +1,6 @@
 -- The first item of the rest of the input: the frame's length and that of the record space, two bytes each, little-endian; then the frame.
 use Rattle.std.specs.Prelude.{◌≡◌, List, ℕ, ◌+◌, ◌≤◌, ◌<◌, ltb, length}
-use Rattle.std.proofs.Common.{◌∙◌, arith, ltb-false}
+use Rattle.std.proofs.Common.{arith, ltb-false}
 use Rattle.base.specs.Pick.{pick, pick_all, pick-by, tests}
 use Rattle.frames.specs.Number.{number}
 use Rattle.rules.specs.Sizes.{record_space}
