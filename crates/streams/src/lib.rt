@@ -1,4 +1,5 @@
-// Standard input read into a block, and text written to standard output.
+// Standard input read into a block, and text written to standard output. The reader, and what prints and takes messages, are
+// handed in.
 #![tactic(auto)]
 
 ghost use Rattle.std.specs.Prelude.{◌≡◌, ◌+◌, ◌≤◌, length, take, drop};
