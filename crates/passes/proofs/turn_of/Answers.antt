@@ -1,0 +1,7 @@
+use Rattle.passes.specs.Passes.{turn_in}
+use borrow.Author.Rules.{rules}
+use Rattle.passes.proofs.turn_of.Goals as goal
+
+pub returns : goal.returns
+unfolding turn_in
+returns c = rw (c.allowed.ensures, c.turn_at-t.ensures)
