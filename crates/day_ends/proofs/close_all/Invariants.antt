@@ -1,0 +1,14 @@
+use Rattle.day_ends.specs.DayEnds.{close-yes, close-not}
+use Rattle.rules.specs.Events.{close_running}
+use mathlib.Core.Logic.{⊎_elim}
+use Rattle.records.specs.Done.{Visited, visit-none, visit-moves, visit-stays, visit-room, visit-all, done-length}
+use Prim.Native.Nat.{◌-◌}
+use native.Mathlib.Omega.{arith}
+use borrow.Author.Rules.{rules}
+use Rattle.day_ends.proofs.close_all.Given as goal
+
+abbrev pub invariant-loop-k : goal.invariant-loop-k
+invariant-loop-k l = Visited close_running 16 l.initial.c l.initial.space l.space l.n l.m l.c l.k
+
+abbrev pub decreases-loop-k : goal.decreases-loop-k
+decreases-loop-k l = 16 - l.k
