@@ -262,8 +262,11 @@ shown() {
 check "progress" shown
 
 # Built once, by a made-up kit that counts its runs, and again where a source has changed.
-mkdir -p "$out/made/crates/one/src" "$out/made/crates/two/src" "$out/made/crates/three/src"
-printf 'one:\ntwo staticlib: one\nthree: one\n' >"$out/made/crates.txt"
+# The made-up repository is not in this one: rt ci would look for its crates.
+made=$(mktemp -d) || exit 2
+trap 'rm -rf "$made"' EXIT
+mkdir -p "$made/crates/one/src" "$made/crates/two/src" "$made/crates/three/src"
+printf 'one:\ntwo staticlib: one\nthree: one\n' >"$made/crates.txt"
 stub nproc 'echo 2'
 stub rt "case \$1 in
 version) echo a kit ;;
@@ -271,28 +274,28 @@ all) echo \"== one\"; echo \"logic=proved\"; echo x >>$PWD/$out/runs ;;
 lib) mkdir -p out && cp src/lib.rt out/libtwo.a; [ ! -e $PWD/$out/broken ] ;;
 esac"
 built() {
-    (root=$PWD/$out/made name=made-up PATH=$PWD/$out/bin:$PATH && . beside/tools.sh && . beside/proved.sh &&
+    (root=$made name=made-up PATH=$PWD/$out/bin:$PATH && . beside/tools.sh && . beside/proved.sh &&
         builds two lib out/libtwo.a target/staticlib/lib.a) >"$out/printed" 2>&1
 }
 # runs NUMBER SOURCE: so many runs of the kit until now, the last of that source.
-runs() { [ "$(wc -l <"$out/runs")" -eq "$1" ] && [ "$(cat "$out/made/target/staticlib/lib.a")" = "$2" ]; }
-echo first >"$out/made/crates/two/src/lib.rt"
+runs() { [ "$(wc -l <"$out/runs")" -eq "$1" ] && [ "$(cat "$made/target/staticlib/lib.a")" = "$2" ]; }
+echo first >"$made/crates/two/src/lib.rt"
 check "a library is built" built
 check "and placed" runs 1 first
 check "again" built
 check "nothing has changed, so nothing runs" runs 1 first
-echo other >"$out/made/crates/three/src/lib.rt"
+echo other >"$made/crates/three/src/lib.rt"
 check "a crate that it does not use" built
 check "nothing runs for it" runs 1 first
-echo second >"$out/made/crates/two/src/lib.rt"
-touch -d '1 day ago' "$out/made/crates/two/src/lib.rt"
+echo second >"$made/crates/two/src/lib.rt"
+touch -d '1 day ago' "$made/crates/two/src/lib.rt"
 check "its source has changed, whatever its time" built
 check "it is built anew" runs 2 second
-echo below >"$out/made/crates/one/src/lib.rt"
+echo below >"$made/crates/one/src/lib.rt"
 check "the source of a crate below" built
 check "it is built anew, too" runs 3 second
 touch "$out/broken"
-echo third >"$out/made/crates/two/src/lib.rt"
+echo third >"$made/crates/two/src/lib.rt"
 not_built() { ! built; }
 check "it is not proved" not_built
 check "what stood stays" runs 4 second
