@@ -1,5 +1,6 @@
 /* The judge, the reader and the writer of frames, for C and C++. The proved
- * library has them: `rt staticlib exports` writes target/staticlib/libexports.a.
+ * library has them: `rt lib` in crates/exports_c builds it, and ./play and ./test put it
+ * at target/staticlib/libexports.a.
  *
  * Every function: a pointer with its length describes memory that may be read,
  * or written where it is not const; it is not null, even where the length is 0.

@@ -16,6 +16,21 @@ cargo_lines() {
     sed -nE 's/^test result: .* ([0-9]+) passed; ([0-9]+) failed;.*/\1 \2/p' |
         awk '{ n += $1; m += $2 } END { print n + 0, m + 0 }'
 }
+# Of `rt ci`, from its last line. A must-fail edit that it calls bad fails nothing there,
+# and here it is one failure; so is a run that does not say 'rt: ok' and has no other.
+ci_lines() {
+    awk '
+        /^rt: ok; / { ok = 1 }
+        /^rt: ok; .*, [0-9]+ bad;/ { told = $0; sub(/ bad;.*/, "", told); sub(/.*, /, "", told); bad = told + 0 }
+        /^rt: note: bad must-fail edits, as told above: [0-9]+\./ { told = $0; sub(/.*above: /, "", told); bad = told + 0 }
+        { last = $0 }
+        END {
+            if (last !~ /^[0-9]+ passed, [0-9]+ failed$/) exit
+            split(last, words, " ")
+            failed = words[3] + bad
+            print words[1], failed == 0 && !ok ? 1 : failed
+        }'
+}
 # For a step that is no test: nothing passes by it, and it has no line in `counts`.
 no_test() {
     echo "0 $((status != 0))"

@@ -104,6 +104,28 @@ bad_step() {
     part tools no_test says_and_fails 'nothing'
 }
 check "a step that fails" gate 1 '9 passed, 1 failed' '' bad_step <<<"$numbers"
+# What rt ci says: its gate, a must-fail edit that it calls bad, failures.
+ci_says() {
+    part proofs ci_lines says "$said_by_ci"
+}
+whole='rt: ok; handles allowed: none; must-fail edits: 3 refused; every proof and must-fail edit was done in this run'
+said_by_ci=$'rt: base proved\n'"$whole"$'\n5 passed, 0 failed'
+check "rt ci passes" gate 0 '5 passed, 0 failed' '' ci_says <<<'proofs: 5'
+said_by_ci=${said_by_ci/refused/refused, 1 of them only by a limit}
+check "an edit that a limit refuses" gate 0 '5 passed, 0 failed' '' ci_says <<<'proofs: 5'
+said_by_ci=$'rt: note: bad must-fail edits, as told above: 2. They fail nothing here\n'"${whole/3 refused/1 refused, 2 bad}"$'\n3 passed, 0 failed'
+check "bad edits fail" gate 1 '3 passed, 2 failed' '' ci_says <<<'proofs: 5'
+said_by_ci="${whole/3 refused/3 refused, 1 of them only by a limit, 12 bad}"$'\n5 passed, 0 failed'
+check "many bad edits" gate 1 '5 passed, 12 failed' '' ci_says <<<'proofs: 17'
+said_by_ci=$'rt: note: bad must-fail edits, as told above: 1. They fail nothing here\nrt: FAILED: base\n3 passed, 1 failed'
+check "bad edits beside a failure" gate 1 '3 passed, 2 failed' '' ci_says <<<'proofs: 5'
+said_by_ci='5 passed, 0 failed'
+check "no line 'rt: ok'" gate 1 '5 passed, 2 failed' "part proofs ran 6 tests, $out/counts.txt says 5" ci_says <<<'proofs: 5'
+said_by_ci='3 passed, 2 failed'
+check "crates that fail" gate 1 '3 passed, 2 failed' '' ci_says <<<'proofs: 5'
+said_by_ci="$whole"$'\n5 passed, 0 failed (base and the crates below alone: not the gate)'
+check "some crates alone" gate 1 '0 passed, 1 failed' "part proofs ran 0 tests, $out/counts.txt says 5" ci_says <<<'proofs: 5'
+
 nothing() { :; }
 check "no part at all" gate 1 '0 passed, 0 failed' '' nothing <<<''
 
@@ -229,13 +251,57 @@ check "its status is the command's" not_three
 
 # What ./play shows while crates are proved.
 shown() {
-    printf '%s\n' 'fn base::x: proved' 'rt: base proved (unchanged since it was last proved)' 'rt: events proved (23 s)' \
-        'rt: frames NOT PROVED (exit 1, 2 s)' 'rt: FAILED: frames' |
-        (root=$PWD name=made-up && . beside/proved.sh && progress 'the writer' "$(crates_below exports)") 2>&1 |
-        diff - <(printf '%s\n' 'made-up: proved for the writer: crate 2 of 5, events (23 s)' \
-            'rt: frames NOT PROVED (exit 1, 2 s)' 'rt: FAILED: frames')
+    printf '%s\n' 'logic=proved functions=0 incremental=trusted' 'only=0 proved=0' '== base' '== events' 'fn events::x: proved' \
+        'rt: note: must-fail/x.edit has a line that is not read' 'logic=proved functions=23 incremental=trusted' '== frames' \
+        'logic=not-proved' 'rt: rt check --only frames::x checks that function' '== summary' 'events: ok' 'frames: failed (1)' \
+        'exports: not run, since frames failed' '2 of 6 crates ok' |
+        (root=$PWD name=made-up && . beside/proved.sh && progress 'the writer' "$(crates_below exports_c)") 2>&1 |
+        diff - <(printf '%s\n' 'made-up: proved for the writer: crate 2 of 6, events' \
+            'rt: rt check --only frames::x checks that function' 'frames: failed (1)' 'exports: not run, since frames failed')
 }
 check "progress" shown
+
+# Built once, by a made-up kit that counts its runs, and again where a source has changed.
+# The made-up repository is not in this one: rt ci would look for its crates.
+made=$(mktemp -d) || exit 2
+trap 'rm -rf "$made"' EXIT
+mkdir -p "$made/crates/one/src" "$made/crates/two/src" "$made/crates/three/src"
+printf 'one:\ntwo staticlib: one\nthree: one\n' >"$made/crates.txt"
+stub nproc 'echo 2'
+stub rt "case \$1 in
+version) echo a kit ;;
+all) echo \"== one\"; echo \"logic=proved\"; echo x >>$PWD/$out/runs ;;
+lib) mkdir -p out && cp src/lib.rt out/libtwo.a; [ ! -e $PWD/$out/broken ] ;;
+esac"
+built() {
+    (root=$made name=made-up PATH=$PWD/$out/bin:$PATH && . beside/tools.sh && . beside/proved.sh &&
+        builds two lib out/libtwo.a target/staticlib/lib.a) >"$out/printed" 2>&1
+}
+# runs NUMBER SOURCE: so many runs of the kit until now, the last of that source.
+runs() { [ "$(wc -l <"$out/runs")" -eq "$1" ] && [ "$(cat "$made/target/staticlib/lib.a")" = "$2" ]; }
+echo first >"$made/crates/two/src/lib.rt"
+check "a library is built" built
+check "and placed" runs 1 first
+check "again" built
+check "nothing has changed, so nothing runs" runs 1 first
+echo other >"$made/crates/three/src/lib.rt"
+check "a crate that it does not use" built
+check "nothing runs for it" runs 1 first
+echo second >"$made/crates/two/src/lib.rt"
+touch -d '1 day ago' "$made/crates/two/src/lib.rt"
+check "its source has changed, whatever its time" built
+check "it is built anew" runs 2 second
+echo below >"$made/crates/one/src/lib.rt"
+check "the source of a crate below" built
+check "it is built anew, too" runs 3 second
+touch "$out/broken"
+echo third >"$made/crates/two/src/lib.rt"
+not_built() { ! built; }
+check "it is not proved" not_built
+check "what stood stays" runs 4 second
+rm "$out/broken"
+check "it is proved again" built
+check "and stands anew" runs 5 third
 
 # The kit: the one that is named, or a warning.
 stub rt 'echo a kit'

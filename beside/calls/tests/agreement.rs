@@ -1,5 +1,5 @@
 //! The proved program `calls` against the reckoning. The program is the one that
-//! CALLS names, or target/bin/calls, which `rt check calls` builds.
+//! CALLS names, or target/bin/calls, which ./test builds.
 
 #![forbid(unsafe_code)]
 #![deny(warnings)]

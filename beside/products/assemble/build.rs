@@ -16,7 +16,7 @@ fn main() {
     let library = folder.join("libexports.a");
     if !library.is_file() {
         panic!(
-            "{} is missing: run `rt staticlib exports`",
+            "{} is missing: ./play and ./test build it",
             library.display()
         );
     }

@@ -1,5 +1,5 @@
 //! The proved program `tape` against the reckoning. The program is the one that
-//! TAPE_PROGRAM names, or target/bin/tape, which `rt check tape` builds.
+//! TAPE_PROGRAM names, or target/bin/tape, which ./play and ./test build.
 
 #![forbid(unsafe_code)]
 #![deny(warnings)]

@@ -1,5 +1,5 @@
-// What C and Rust call: the judge, and the reader and the writer over plain numbers, a kind's number and then the row of 19. Their
-// header is include/complex_book.h.
+// The judge, and the reader and the writer over plain numbers, a kind's number and then the row of 19. C and Rust call them through
+// the crate exports_c.
 #![tactic(auto)]
 
 ghost use Rattle.std.specs.Prelude.{◌≡◌, ◌++◌, ◌≤◌, length, take, drop};
@@ -60,16 +60,14 @@ fn send(event: Event, space: &mut [u8]) -> u32
 }
 
 // Judges a frame: 0 where it carries an event, else its refusal, 2 or 3.
-#[unsafe(no_mangle)]
-pub extern "C" fn complex_book_judge(frame: &[u8]) -> u32
+pub fn complex_book_judge(frame: &[u8]) -> u32
     ensures { result ≡ judge_of frame.now }
 {
     judge(frame)
 }
 
 // Reads a frame: 0, and its kind and row as the first 20 values; or its refusal, 2 or 3; or 1 where there are fewer than 20 values.
-#[unsafe(no_mangle)]
-pub extern "C" fn complex_book_read(frame: &[u8], values: &mut [u32]) -> u32
+pub fn complex_book_read(frame: &[u8], values: &mut [u32]) -> u32
     ensures { ReadOut frame.now values.old values.new result }
 {
     if values.len() < 20 {
@@ -86,8 +84,7 @@ pub extern "C" fn complex_book_read(frame: &[u8], values: &mut [u32]) -> u32
 }
 
 // Writes the frame of the event that the first 20 values are: its length, above 3; or the refusal, 3 or 1.
-#[unsafe(no_mangle)]
-pub extern "C" fn complex_book_write(values: &[u32], space: &mut [u8]) -> u32
+pub fn complex_book_write(values: &[u32], space: &mut [u8]) -> u32
     ensures { WriteOut values.now space.old space.new result }
 {
     if values.len() < 20 {
