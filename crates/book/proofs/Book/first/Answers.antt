@@ -1,0 +1,7 @@
+use native.Mathlib.Omega.{arith}
+use Rattle.rules.proofs.Validity.{valid-fresh}
+use borrow.Author.Rules.{rules}
+use Rattle.book.proofs.Book.first.Goals as goal
+
+pub returns : goal.returns
+returns c = record { state = c.fresh.ensures; valid = rw c.fresh.ensures (valid-fresh 5000 (omega arith) (omega arith)) }
