@@ -1,14 +1,14 @@
 -- One leg of a fill, leg order by leg order: what is still to be taken, the records written, the leg orders cut.
-use Rattle.std.specs.Prelude.{◌≡◌, refl, List, ℕ, ◌+◌, ◌*◌, ◌-◌, ◌≤◌, ◌<◌, min, ℤ, length, get_or, set}
+use Rattle.std.specs.Prelude.{◌≡◌, List, ℕ, ◌+◌, ◌*◌, ◌-◌, ◌≤◌, ◌<◌, min, ℤ, length, get_or, set}
 use Rattle.std.proofs.Math.Path.{sym, ap}
 use Rattle.std.proofs.Common.{◌∙◌, arith}
 use Rattle.std.proofs.Math.Nat.{sub-zero}
 use Rattle.base.specs.Pick.{pick}
-use Rattle.base.specs.Walks.{sum_n, slot, table, join_n, seam, seam-first, seam-next, seam-here, seam-skip, seam-last, table-slot}
+use Rattle.base.specs.Walks.{sum_n, slot, join_n, seam, seam-first, seam-next, seam-here, seam-skip, seam-last, table-slot}
 use Rattle.rules.specs.declared.Leg.{Leg}
 use Rattle.rules.specs.declared.LegOrder.{LegOrder}
 use Rattle.rules.specs.State.{no_order}
-use Rattle.rules.specs.Nets.{lot, lots, lot_at}
+use Rattle.rules.specs.Nets.{lots, lot_at}
 use Rattle.rules.specs.Quotas.{in_turn, in_turn_at}
 use Rattle.rules.specs.Fills.{LegTake, leg_take, leg_quotas, order_row, order_rows, cut_order, cut_at, cut_orders}
 use Rattle.records.specs.Space.{Appended, Room, room_row, wrote-nil, wrote-first, wrote-next}

@@ -4,11 +4,9 @@ use Rattle.std.proofs.Common.{◌∙◌, ap, arith, to_z, of_z, to_z-of_z}
 use Rattle.std.specs.Int.{w32}
 use Rattle.base.specs.Pick.{pick, tests}
 use Rattle.rules.specs.declared.State.{State}
-use Rattle.rules.specs.declared.LegNets.{LegNets}
 use Rattle.rules.specs.declared.StrategyNets.TheVariants as N
 use Rattle.rules.specs.State.{strategy_at, leg_net, nets_stored}
 use Rattle.rules.specs.Records.{cents}
-use Rattle.rules.specs.Nets.{prices}
 use Rattle.rules.specs.Refusals.{undefined}
 use Rattle.rules.specs.Lookups.{LookedUp, nets, refused_by, told_net, leg_nets, nets_tells}
 use Rattle.rules.specs.Valid.{Sound, Valid}

@@ -1,21 +1,17 @@
 -- The running pair and the running price by what the code tests, and their ranges.
-use Rattle.std.specs.Prelude.{◌≡◌, Bool, List, ℕ, zero, suc, ◌+◌, ◌*◌, ◌/◌, ◌%◌, ◌≤◌, ◌<◌, eqb, length, get_or, set, replicate}
-use Rattle.std.proofs.Math.Path.{refl, sym, ap, fun_ext}
-use Rattle.std.proofs.Common.{◌∙◌, ⊎_elim, add-one, arith, eqb-true, length-set, ext_get_or, get_or-set_same, get_or-set_other}
+use Rattle.std.specs.Prelude.{◌≡◌, List, ℕ, zero, suc, ◌+◌, ◌*◌, ◌≤◌, eqb, get_or}
+use Rattle.std.proofs.Math.Path.{refl, sym, ap}
+use Rattle.std.proofs.Common.{◌∙◌, add-one, arith}
 use Rattle.std.proofs.Math.Bool.{true, false, true≢false}
-use Rattle.std.proofs.lemmas.Bool.{eqb-false}
-use Rattle.std.proofs.lemmas.List.{length-replicate}
-use Rattle.std.proofs.Math.ListN.{get_or-eq_default}
 use Rattle.base.specs.Pick.{pick_all, pick-by, pick_true, pick-false, tests}
 use Rattle.base.specs.All.{All}
-use Rattle.base.specs.Walks.{walk, table, length-table, table-slot, lt-or-le}
+use Rattle.base.specs.Walks.{walk}
 use Rattle.rules.specs.declared.LegOrder.{LegOrder}
 use Rattle.rules.specs.declared.Best.{Best}
 use Rattle.rules.specs.State.{no_order}
 use Rattle.rules.specs.Sides.{best_price}
 use Rattle.rules.specs.Nets.{stands, price_with, price_step, price_of, best_of, no_best, starts_afresh, best_with, best_after}
 use Rattle.rules.specs.Valid.{FitOrder, Priced}
-use Rattle.rules.proofs.Tables.{all_of}
 use Rattle.rules.proofs.Bests.{best-walked}
 use Rattle.ranges.specs.Fit.{fit-order}
 

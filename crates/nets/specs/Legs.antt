@@ -1,22 +1,22 @@
 -- What a complex party meets on the legs of a strategy: the best of each leg, their sums, the units that they give.
 use Rattle.std.specs.Prelude.{◌≡◌, Bool, false, eqb, get_or, replicate}
-use Rattle.std.proofs.Math.Path.{refl, sym, ap, fun_ext}
+use Rattle.std.proofs.Math.Path.{refl, sym, ap}
 use Rattle.std.proofs.Common.{◌∙◌, ⊎_elim, add-one, arith, eq-eqb, ne_eqb, lt-ltb, le-ltb}
 use Rattle.std.proofs.Math.Bool.{true}
 use mathlib.Core.List.{List}
 use Prim.Native.Nat.{ℕ, zero, suc, ◌+◌, ◌*◌, ◌-◌, ◌/◌, ◌≤◌, ◌<◌, min}
 use Rattle.base.specs.Pick.{pick, pick_all, pick-by, pick_true, pick-false}
-use Rattle.base.specs.All.{All, all-at}
+use Rattle.base.specs.All.{All}
 use Rattle.base.specs.Walks.{sum_n, slot, table, stored, walk, all_more, all_none, all-stop, table-slot, lt-or-le}
 use Rattle.rules.specs.declared.Leg.{Leg}
 use Rattle.rules.specs.declared.Strategy.{Strategy}
 use Rattle.rules.specs.declared.LegOrder.{LegOrder}
 use Rattle.rules.specs.declared.Best.{Best}
 use Rattle.rules.specs.State.{no_leg}
-use Rattle.rules.specs.Sides.{other, leg_side, better}
-use Rattle.rules.specs.Nets.{best_of, no_best, best_after, leg_price, price_at, prices, priced_at, known, weight, weighed, net_of, betters, leg_units, units_step, units_of}
+use Rattle.rules.specs.Sides.{other, leg_side}
+use Rattle.rules.specs.Nets.{best_of, best_after, leg_price, price_at, prices, priced_at, known, weight, weighed, net_of, leg_units, units_step, units_of}
 use Rattle.rules.specs.Valid.{FitLeg, Priced}
-use Rattle.ranges.specs.Fit.{FitLegs, fit-leg}
+use Rattle.ranges.specs.Fit.{fit-leg}
 use Rattle.nets.specs.declared.LegBests.{LegBests}
 use Rattle.nets.specs.declared.LegSums.{LegSums}
 use Rattle.nets.specs.Nets.{weight-most, net-unknown, net-known}

@@ -1,5 +1,5 @@
 -- Laws of the trade of a leg order.
-use Rattle.std.specs.Prelude.{◌≡◌, Bool, true, false, List, [], ◌∷◌, ℕ, zero, suc, ◌+◌, ◌-◌, ◌≤◌, ◌<◌, min, eqb, ltb, ℤ, get_or, set}
+use Rattle.std.specs.Prelude.{◌≡◌, Bool, true, false, List, [], ◌∷◌, ℕ, ◌+◌, ◌-◌, ◌≤◌, ◌<◌, min, eqb, ltb, ℤ, get_or, set}
 use Rattle.std.proofs.Math.Path.{refl, ap}
 use Rattle.std.proofs.Common.{sym, ◌∙◌, ⊎_elim, arith, eq-eqb, ne_eqb, lt-ltb, le-ltb, length-set}
 use Rattle.std.proofs.Math.ListN.{length, get_or-eq_default}
@@ -9,12 +9,12 @@ use Rattle.rules.specs.declared.LegOrder.{LegOrder}
 use Rattle.rules.specs.declared.Record.{Record}
 use Rattle.rules.specs.declared.State.{State}
 use Rattle.rules.specs.State.{no_order, order_at, with_orders, Netted}
-use Rattle.rules.specs.Moves.{Moved, still, and_then, each}
+use Rattle.rules.specs.Moves.{still, each}
 use Rattle.rules.specs.Fills.{order_record, order_row, cut_order, cut_leg, leg_trade}
 use Rattle.rules.specs.Events.{ahead_order, best_order, trade_once, trade_all}
 use Rattle.rules.proofs.Turns.{idle}
 use Rattle.records.specs.Space.{Appended, Room}
-use Rattle.records.specs.Done.{Done, RoomIn, DoneIn, room_of, done-of, in-done, slots-none, slots-move, slots-room}
+use Rattle.records.specs.Done.{RoomIn, DoneIn, room_of, done-of, in-done, slots-none, slots-move, slots-room}
 use Rattle.tables.specs.Only.{only_orders}
 use Rattle.legs.specs.Search.{best-order-most}
 

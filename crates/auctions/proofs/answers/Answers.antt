@@ -1,5 +1,4 @@
 use Rattle.auctions.specs.Auctions.{answers_by}
-use borrow.Author.Rules.{rules}
 use Rattle.auctions.proofs.answers.Goals as goal
 
 pub returns : goal.returns

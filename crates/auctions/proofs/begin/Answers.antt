@@ -1,6 +1,5 @@
 use Rattle.ranges.specs.Fit.{fit-entry}
 use Rattle.rules.specs.Auctions.{begin}
-use borrow.Author.Rules.{rules}
 use Rattle.auctions.proofs.begin.Goals as goal
 
 pub push-m-requires : goal.push-m-requires

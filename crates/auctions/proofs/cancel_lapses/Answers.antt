@@ -1,10 +1,6 @@
 use Rattle.auctions.specs.Auctions.{lapsed-none, lapsed-some}
-use Rattle.records.specs.Done.{Visited, visit-none, visit-moves, visit-stays, visit-room, visit-all, done-length}
-use Rattle.rules.specs.Auctions.{cancel_lapsed}
+use Rattle.records.specs.Done.{visit-none, visit-moves, visit-stays, visit-room, visit-all}
 use Rattle.base.specs.Pick.{told}
-use Prim.Native.Nat.{◌-◌}
-use mathlib.Core.Logic.{⊎_elim}
-use borrow.Author.Rules.{rules}
 use native.Mathlib.Omega.{arith}
 use Rattle.auctions.proofs.cancel_lapses.Goals as goal
 use Rattle.auctions.proofs.cancel_lapses.Goals.{then-lapses, else-lapses}
@@ -26,8 +22,9 @@ loop-i-smaller c = omega arith
 
 pub loop-i-preserved : goal.loop-i-preserved
 loop-i-preserved c = (elim c.if-lapses.branch [
-      then-lapses w ↦ rw (w.space-is, w.c-is, w.m-is) (visit-moves c.loop-i.invariant c.loop-i-test.true (lapsed-some _ _ _ (told c.lapses.ensures w.if-lapses.true)) w.cancel_entry-t.ensures)
-    | else-lapses w ↦ rw (w.space-is, w.c-is, w.m-is) (visit-stays c.loop-i.invariant c.loop-i-test.true (lapsed-none _ _ _ (told c.lapses.ensures w.if-lapses.false))) ])
+  | then-lapses w ↦ rw (w.space-is, w.c-is, w.m-is) (visit-moves c.loop-i.invariant c.loop-i-test.true (lapsed-some _ _ _ (told c.lapses.ensures w.if-lapses.true)) w.cancel_entry-t.ensures)
+  | else-lapses w ↦ rw (w.space-is, w.c-is, w.m-is) (visit-stays c.loop-i.invariant c.loop-i-test.true (lapsed-none _ _ _ (told c.lapses.ensures w.if-lapses.false)))
+])
 
 pub returns : goal.returns
 returns c = visit-all c.loop-i.invariant c.loop-i-test.false

@@ -1,11 +1,6 @@
-use Rattle.auctions.specs.Auctions.{lapsed-none, lapsed-some}
-use Rattle.records.specs.Done.{Visited, visit-none, visit-moves, visit-stays, visit-room, visit-all, done-length}
+use Rattle.records.specs.Done.{Visited}
 use Rattle.rules.specs.Auctions.{cancel_lapsed}
-use Rattle.base.specs.Pick.{told}
 use Prim.Native.Nat.{◌-◌}
-use mathlib.Core.Logic.{⊎_elim}
-use borrow.Author.Rules.{rules}
-use native.Mathlib.Omega.{arith}
 use Rattle.auctions.proofs.cancel_lapses.Given as goal
 
 abbrev pub invariant-loop-i : goal.invariant-loop-i

@@ -1,5 +1,4 @@
 use Rattle.rules.specs.Auctions.{close}
-use borrow.Author.Rules.{rules}
 use Rattle.auctions.proofs.close.Goals as goal
 
 pub push-m-requires : goal.push-m-requires

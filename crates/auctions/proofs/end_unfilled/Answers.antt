@@ -1,6 +1,5 @@
 use Rattle.records.specs.Done.{done-then, room-then, room_after}
 use Rattle.rules.specs.Auctions.{end_unfilled}
-use borrow.Author.Rules.{rules}
 use Rattle.auctions.proofs.end_unfilled.Goals as goal
 
 pub cancel_lapses-x-requires : goal.cancel_lapses-x-requires

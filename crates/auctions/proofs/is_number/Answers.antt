@@ -1,5 +1,4 @@
 use Rattle.base.specs.Pick.{tests, told}
-use borrow.Author.Rules.{rules}
 use Rattle.auctions.proofs.is_number.Goals as goal
 
 pub returns-then-live_in : goal.returns-then-live_in

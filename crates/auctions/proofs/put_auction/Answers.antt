@@ -1,5 +1,4 @@
 use Rattle.auctions.specs.Auctions.{put_is}
-use borrow.Author.Rules.{rules}
 use Rattle.auctions.proofs.put_auction.Goals as goal
 
 pub returns : goal.returns

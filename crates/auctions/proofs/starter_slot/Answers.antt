@@ -1,9 +1,5 @@
-use Rattle.base.specs.Walks.{Passed, passed_first, passed-next, passed_here, passed-all}
-use Rattle.rules.specs.Auctions.{is_number}
-use Rattle.tables.specs.Only.{only_entries}
+use Rattle.base.specs.Walks.{passed_first, passed-next, passed_here, passed-all}
 use Rattle.base.specs.Pick.{told}
-use Prim.Native.Nat.{◌≤◌, ◌-◌}
-use borrow.Author.Rules.{rules}
 use native.Mathlib.Omega.{arith}
 use Rattle.auctions.proofs.starter_slot.Goals as goal
 

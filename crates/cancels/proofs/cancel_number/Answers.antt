@@ -3,7 +3,6 @@ use Rattle.fills.specs.Fills.{cancelled}
 use Rattle.records.specs.Done.{done-still, done-of, room_of}
 use Rattle.rules.specs.State.{with_entries, with_orders}
 use Rattle.rules.specs.Fills.{cut, cut_leg}
-use borrow.Author.Rules.{rules}
 use Rattle.cancels.proofs.cancel_number.Goals as goal
 
 pub push-m-requires : goal.push-m-requires

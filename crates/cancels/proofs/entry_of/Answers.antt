@@ -1,10 +1,7 @@
-use Rattle.cancels.specs.Cancels.{entry_has, entry_slot}
-use Rattle.tables.specs.Only.{only_entries}
+use Rattle.cancels.specs.Cancels.{entry_slot}
 use native.Mathlib.Omega.{arith}
-use borrow.Author.Rules.{rules}
-use Rattle.base.specs.Walks.{Passed, passed_first, passed-next, passed_here, passed-all}
+use Rattle.base.specs.Walks.{passed_first, passed-next, passed_here, passed-all}
 use Rattle.base.specs.Pick.{told}
-use Prim.Native.Nat.{◌≤◌, ◌-◌}
 use Rattle.cancels.proofs.entry_of.Goals as goal
 
 pub loop-i-init : goal.loop-i-init

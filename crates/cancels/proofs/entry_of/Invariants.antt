@@ -1,9 +1,6 @@
-use Rattle.cancels.specs.Cancels.{entry_has, entry_slot}
+use Rattle.cancels.specs.Cancels.{entry_has}
 use Rattle.tables.specs.Only.{only_entries}
-use native.Mathlib.Omega.{arith}
-use borrow.Author.Rules.{rules}
-use Rattle.base.specs.Walks.{Passed, passed_first, passed-next, passed_here, passed-all}
-use Rattle.base.specs.Pick.{told}
+use Rattle.base.specs.Walks.{Passed}
 use Prim.Native.Nat.{◌≤◌, ◌-◌}
 use Rattle.cancels.proofs.entry_of.Given as goal
 

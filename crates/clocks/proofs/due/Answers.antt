@@ -1,5 +1,4 @@
 use Rattle.base.specs.Pick.{some-not, some-yes}
-use borrow.Author.Rules.{rules}
 use Rattle.clocks.proofs.due.Goals as goal
 
 pub returns-then-s-eq0 : goal.returns-then-s-eq0

@@ -3,11 +3,8 @@ use Rattle.base.specs.Pick.{told}
 use Rattle.auctions.specs.Ranged.{Ranged, ranged-kept}
 use Rattle.clocks.specs.Clocks.{clock-is, ranged-clock, ranged-each, due-fits, due-yes, due-not}
 use Rattle.rules.specs.Auctions.{end_due}
-use mathlib.Core.Logic.{⊎_elim}
-use Rattle.records.specs.Done.{Visited, visit-none, visit-moves, visit-stays, visit-room, visit-all, done-length, done-of, room_of}
-use Prim.Native.Nat.{◌-◌}
+use Rattle.records.specs.Done.{visit-none, visit-moves, visit-stays, visit-room, visit-all, done-of, room_of}
 use native.Mathlib.Omega.{arith}
-use borrow.Author.Rules.{rules}
 use Rattle.clocks.proofs.on_clock.Goals as goal
 use Rattle.clocks.proofs.on_clock.Goals.{then-due, else-due}
 
@@ -33,8 +30,9 @@ loop-k-smaller c = omega arith
 
 pub loop-k-preserved : goal.loop-k-preserved
 loop-k-preserved c = (elim c.if-due.branch [
-      then-due w ↦ rw (w.space-is, w.c-is, w.m-is) (visit-moves c.loop-k.invariant c.loop-k-test.true (due-yes _ _ (told c.due.ensures w.if-due.true)) w.end_auction-x.ensures)
-    | else-due w ↦ rw (w.space-is, w.c-is, w.m-is) (visit-stays c.loop-k.invariant c.loop-k-test.true (due-not _ _ (told c.due.ensures w.if-due.false))) ])
+  | then-due w ↦ rw (w.space-is, w.c-is, w.m-is) (visit-moves c.loop-k.invariant c.loop-k-test.true (due-yes _ _ (told c.due.ensures w.if-due.true)) w.end_auction-x.ensures)
+  | else-due w ↦ rw (w.space-is, w.c-is, w.m-is) (visit-stays c.loop-k.invariant c.loop-k-test.true (due-not _ _ (told c.due.ensures w.if-due.false)))
+])
 
 pub returns : goal.returns
 returns c = done-of (clock-is _ _ c.with_clock-c.ensures) (visit-all c.loop-k.invariant c.loop-k-test.false)

@@ -1,7 +1,6 @@
 use Rattle.complex_orders.specs.ComplexOrders.{arrives-waits, arrives-starts, arrives-idle, arrives-passes, arrives-shut, starts-found, idle-found}
 use Rattle.base.specs.Pick.{told}
 use mathlib.Core.Path.{◌∙◌}
-use borrow.Author.Rules.{rules}
 use Rattle.complex_orders.proofs.arrives.Goals as goal
 
 -- src/lib.rt:118:13

@@ -1,7 +1,6 @@
 use mathlib.Core.Path.{sym, ◌∙◌}
 use Rattle.rules.specs.Events.{may_start}
 use Rattle.base.specs.Pick.{pick_true, pick-false, told}
-use borrow.Author.Rules.{rules}
 use Rattle.complex_orders.proofs.may_start.Goals as goal
 
 pub returns-then-is_either : goal.returns-then-is_either

@@ -1,13 +1,9 @@
 use native.Mathlib.Omega.{arith}
-use mathlib.Core.Path.{◌≡◌, sym, ◌∙◌}
-use Rattle.rules.specs.Events.{on_order}
+use mathlib.Core.Path.{sym, ◌∙◌}
 use Rattle.ranges.specs.Fit.{fit-legs}
-use Rattle.entries.specs.Entered.{entered, entered-is, fit-enter}
-use Rattle.records.specs.Space.{wrote-length}
+use Rattle.entries.specs.Entered.{entered-is, fit-enter}
 use Rattle.records.specs.Done.{done-of, done-still, room_of}
-use Rattle.complex_orders.specs.declared.Arrival.{Arrival}
 use Rattle.complex_orders.specs.ComplexOrders.{does, order_is, slot-within, cancels-room, cancels-done, answers-is, nets-are}
-use borrow.Author.Rules.{rules}
 use Rattle.complex_orders.proofs.on_order.Goals as goal
 
 pub bounds-c-k : goal.bounds-c-k

@@ -1,6 +1,5 @@
 use Rattle.complex_orders.specs.ComplexOrders.{rest-day, rest-not}
 use Rattle.records.specs.Done.{done-still, done-of, room_of}
-use borrow.Author.Rules.{rules}
 use Rattle.complex_orders.proofs.rest_or_cancel.Goals as goal
 
 pub returns-then-e-eq0 : goal.returns-then-e-eq0

@@ -1,6 +1,5 @@
 use Rattle.complex_orders.specs.ComplexOrders.{starts_by, starts-yes}
 use Rattle.base.specs.Pick.{tests, told}
-use borrow.Author.Rules.{rules}
 use Rattle.complex_orders.proofs.starts.Goals as goal
 
 -- src/lib.rt:75:9

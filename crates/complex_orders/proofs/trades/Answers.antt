@@ -1,6 +1,5 @@
 use Rattle.rules.specs.Events.{trades}
 use Rattle.records.specs.Done.{done-then, room-then, room_after}
-use borrow.Author.Rules.{rules}
 use Rattle.complex_orders.proofs.trades.Goals as goal
 
 pub pass-x-requires : goal.pass-x-requires

@@ -1,6 +1,5 @@
 use Rattle.complex_orders.specs.ComplexOrders.{waits_as}
 use Rattle.base.specs.Pick.{tests, told}
-use borrow.Author.Rules.{rules}
 use Rattle.complex_orders.proofs.waits.Goals as goal
 
 pub returns-then-e-eq3 : goal.returns-then-e-eq3

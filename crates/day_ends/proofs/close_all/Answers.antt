@@ -1,10 +1,6 @@
 use Rattle.day_ends.specs.DayEnds.{close-yes, close-not}
-use Rattle.rules.specs.Events.{close_running}
-use mathlib.Core.Logic.{⊎_elim}
-use Rattle.records.specs.Done.{Visited, visit-none, visit-moves, visit-stays, visit-room, visit-all, done-length}
-use Prim.Native.Nat.{◌-◌}
+use Rattle.records.specs.Done.{visit-none, visit-moves, visit-stays, visit-room, visit-all}
 use native.Mathlib.Omega.{arith}
-use borrow.Author.Rules.{rules}
 use Rattle.day_ends.proofs.close_all.Goals as goal
 use Rattle.day_ends.proofs.close_all.Goals.{then-s-ne0, else-s-ne0}
 
@@ -25,8 +21,9 @@ loop-k-smaller c = omega arith
 
 pub loop-k-preserved : goal.loop-k-preserved
 loop-k-preserved c = (elim c.if-s-ne0.branch [
-      then-s-ne0 w ↦ rw (w.space-is, w.c-is, w.m-is) (visit-moves c.loop-k.invariant c.loop-k-test.true (close-yes _ _ w.if-s-ne0.true) w.close-t.ensures)
-    | else-s-ne0 w ↦ rw (w.space-is, w.c-is, w.m-is) (visit-stays c.loop-k.invariant c.loop-k-test.true (close-not _ _ w.if-s-ne0.false)) ])
+  | then-s-ne0 w ↦ rw (w.space-is, w.c-is, w.m-is) (visit-moves c.loop-k.invariant c.loop-k-test.true (close-yes _ _ w.if-s-ne0.true) w.close-t.ensures)
+  | else-s-ne0 w ↦ rw (w.space-is, w.c-is, w.m-is) (visit-stays c.loop-k.invariant c.loop-k-test.true (close-not _ _ w.if-s-ne0.false))
+])
 
 pub returns : goal.returns
 returns c = visit-all c.loop-k.invariant c.loop-k-test.false

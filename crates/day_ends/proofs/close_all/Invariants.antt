@@ -1,10 +1,6 @@
-use Rattle.day_ends.specs.DayEnds.{close-yes, close-not}
 use Rattle.rules.specs.Events.{close_running}
-use mathlib.Core.Logic.{⊎_elim}
-use Rattle.records.specs.Done.{Visited, visit-none, visit-moves, visit-stays, visit-room, visit-all, done-length}
+use Rattle.records.specs.Done.{Visited}
 use Prim.Native.Nat.{◌-◌}
-use native.Mathlib.Omega.{arith}
-use borrow.Author.Rules.{rules}
 use Rattle.day_ends.proofs.close_all.Given as goal
 
 abbrev pub invariant-loop-k : goal.invariant-loop-k

@@ -1,6 +1,5 @@
 use mathlib.Core.Path.{◌∙◌}
 use Rattle.base.specs.Pick.{some-not, some-yes}
-use borrow.Author.Rules.{rules}
 use Rattle.day_ends.proofs.lower_live.Goals as goal
 
 pub returns-then-quantity-eq0 : goal.returns-then-quantity-eq0

@@ -1,8 +1,5 @@
-use Rattle.day_ends.specs.DayEnds.{lower_both, lower-next, lowest-is}
-use Rattle.base.specs.Walks.{walk, walk_first}
-use mathlib.Core.Path.{◌≡◌}
-use Prim.Native.Nat.{◌≤◌, ◌-◌}
-use borrow.Author.Rules.{rules}
+use Rattle.day_ends.specs.DayEnds.{lower-next, lowest-is}
+use Rattle.base.specs.Walks.{walk_first}
 use native.Mathlib.Omega.{arith}
 use Rattle.day_ends.proofs.lowest_live.Goals as goal
 

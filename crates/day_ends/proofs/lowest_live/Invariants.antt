@@ -1,9 +1,7 @@
-use Rattle.day_ends.specs.DayEnds.{lower_both, lower-next, lowest-is}
-use Rattle.base.specs.Walks.{walk, walk_first}
+use Rattle.day_ends.specs.DayEnds.{lower_both}
+use Rattle.base.specs.Walks.{walk}
 use mathlib.Core.Path.{◌≡◌}
 use Prim.Native.Nat.{◌≤◌, ◌-◌}
-use borrow.Author.Rules.{rules}
-use native.Mathlib.Omega.{arith}
 use Rattle.day_ends.proofs.lowest_live.Given as goal
 
 abbrev pub invariant-loop-i : goal.invariant-loop-i

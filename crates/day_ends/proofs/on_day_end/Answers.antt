@@ -1,7 +1,6 @@
 use Rattle.day_ends.specs.DayEnds.{running-sound, sound-each, day-end}
 use Rattle.rules.specs.Events.{close_running, on_day_end}
 use Rattle.records.specs.Done.{room-then, room_after}
-use borrow.Author.Rules.{rules}
 use Rattle.day_ends.proofs.on_day_end.Goals as goal
 
 pub close_all-x-requires : goal.close_all-x-requires

@@ -1,5 +1,4 @@
 use Rattle.depths.specs.Rows.{depth-fine, depth-bad}
-use borrow.Author.Rules.{rules}
 use Rattle.depths.proofs.orders_depth.Goals as goal
 
 pub returns-then-r : goal.returns-then-r

@@ -1,6 +1,5 @@
 use Rattle.base.specs.Pick.{told}
 use Rattle.depths.specs.Rows.{with-fine, with-bad}
-use borrow.Author.Rules.{rules}
 use Rattle.depths.proofs.with_entry.Goals as goal
 
 pub order_of-o-requires : goal.order_of-o-requires

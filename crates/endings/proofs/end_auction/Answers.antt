@@ -1,7 +1,6 @@
 use Rattle.endings.specs.Endings.{fit-starter}
 use Rattle.records.specs.Done.{done-then, room-then, room_after}
 use Rattle.rules.specs.Auctions.{end_auction}
-use borrow.Author.Rules.{rules}
 use Rattle.endings.proofs.end_auction.Goals as goal
 
 pub starter_pass-x-requires : goal.starter_pass-x-requires

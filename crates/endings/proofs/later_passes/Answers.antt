@@ -1,11 +1,7 @@
 use mathlib.Core.Path.{refl}
 use Rattle.endings.specs.Endings.{later-not, later-yes, fit-later}
-use Rattle.records.specs.Done.{Visited, visit-none, visit-moves, visit-stays, visit-room, visit-all, done-length}
-use Rattle.rules.specs.Auctions.{later_pass}
+use Rattle.records.specs.Done.{visit-none, visit-moves, visit-stays, visit-room, visit-all}
 use Rattle.base.specs.Pick.{told}
-use Prim.Native.Nat.{◌-◌}
-use mathlib.Core.Logic.{⊎_elim}
-use borrow.Author.Rules.{rules}
 use native.Mathlib.Omega.{arith}
 use Rattle.endings.proofs.later_passes.Goals as goal
 use Rattle.endings.proofs.later_passes.Goals.{then-later, else-later}
@@ -27,8 +23,9 @@ loop-i-smaller c = omega arith
 
 pub loop-i-preserved : goal.loop-i-preserved
 loop-i-preserved c = (elim c.if-later.branch [
-      then-later w ↦ rw (w.space-is, w.c-is, w.o-is) (visit-moves c.loop-i.invariant c.loop-i-test.true (later-yes _ _ _ _ (told c.later.ensures w.if-later.true) refl) w.pass-t.ensures)
-    | else-later w ↦ rw (w.space-is, w.c-is, w.o-is) (visit-stays c.loop-i.invariant c.loop-i-test.true (later-not _ _ _ _ (told c.later.ensures w.if-later.false))) ])
+  | then-later w ↦ rw (w.space-is, w.c-is, w.o-is) (visit-moves c.loop-i.invariant c.loop-i-test.true (later-yes _ _ _ _ (told c.later.ensures w.if-later.true) refl) w.pass-t.ensures)
+  | else-later w ↦ rw (w.space-is, w.c-is, w.o-is) (visit-stays c.loop-i.invariant c.loop-i-test.true (later-not _ _ _ _ (told c.later.ensures w.if-later.false)))
+])
 
 pub returns : goal.returns
 returns c = visit-all c.loop-i.invariant c.loop-i-test.false

@@ -1,12 +1,6 @@
-use mathlib.Core.Path.{refl}
-use Rattle.endings.specs.Endings.{later-not, later-yes, fit-later}
-use Rattle.records.specs.Done.{Visited, visit-none, visit-moves, visit-stays, visit-room, visit-all, done-length}
+use Rattle.records.specs.Done.{Visited}
 use Rattle.rules.specs.Auctions.{later_pass}
-use Rattle.base.specs.Pick.{told}
 use Prim.Native.Nat.{◌-◌}
-use mathlib.Core.Logic.{⊎_elim}
-use borrow.Author.Rules.{rules}
-use native.Mathlib.Omega.{arith}
 use Rattle.endings.proofs.later_passes.Given as goal
 
 abbrev pub invariant-loop-i : goal.invariant-loop-i

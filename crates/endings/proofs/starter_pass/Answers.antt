@@ -2,7 +2,6 @@ use Rattle.records.specs.Done.{done-still, done-of, room_of}
 use Rattle.endings.specs.Endings.{starter-gone, starter-here}
 use Rattle.auctions.specs.Auctions.{starter-is}
 use mathlib.Core.Path.{refl, ◌∙◌}
-use borrow.Author.Rules.{rules}
 use Rattle.endings.proofs.starter_pass.Goals as goal
 
 pub pass-requires : goal.pass-requires

@@ -1,12 +1,8 @@
 use Rattle.tables.specs.Only.{only_entries}
 use Prim.Native.Nat.{◌≤◌, ◌-◌}
-use native.Mathlib.Numerals.{add-one}
-use mathlib.Core.Path.{◌≡◌, refl, ◌∙◌}
+use mathlib.Core.Path.{◌≡◌}
 use Rattle.base.specs.Walks.{sum_n}
-use Rattle.rules.specs.State.{entry_at}
-use Rattle.entries.specs.Counts.{counts_at, counts-most, count_most, count-is, count-all}
-use borrow.Author.Rules.{rules}
-use native.Mathlib.Omega.{arith}
+use Rattle.entries.specs.Counts.{counts_at}
 use Rattle.entries.proofs.count_of.Given as goal
 
 abbrev pub invariant-loop-i : goal.invariant-loop-i

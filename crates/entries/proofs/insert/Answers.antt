@@ -1,11 +1,8 @@
-use Rattle.tables.specs.Packed.{Packing, packing-first, packing-more, packing-skip, counted-all, inserted, inserted-none}
-use Rattle.rules.specs.Events.{live}
+use Rattle.tables.specs.Packed.{packing-first, packing-more, packing-skip, counted-all, inserted, inserted-none}
 use Rattle.rules.specs.State.{no_entry}
 use Rattle.base.specs.Pick.{told}
 use borrow.Author.Rules.{rules}
 use native.Mathlib.Omega.{arith}
-use Prim.Native.Nat.{◌≤◌, ◌-◌}
-use mathlib.Core.Logic.{⊎_elim}
 use Rattle.entries.proofs.insert.Goals as goal
 use Rattle.entries.proofs.insert.Goals.{then-live, else-live}
 
@@ -35,9 +32,10 @@ loop-i-smaller c = omega arith
 
 pub loop-i-preserved : goal.loop-i-preserved
 loop-i-preserved c =
-    elim c.if-live.branch
-    [ then-live w ↦ rw (w.rows-is, w.n-is) (omega arith, omega arith, packing-more _ _ _ _ c.loop-i-test.true (told c.live.ensures w.if-live.true) c.loop-i.invariant.2)
-    | else-live w ↦ rw (w.rows-is, w.n-is) (omega arith, omega arith, packing-skip _ _ _ _ c.loop-i-test.true (told c.live.ensures w.if-live.false) c.loop-i.invariant.2) ]
+    elim c.if-live.branch [
+      | then-live w ↦ rw (w.rows-is, w.n-is) (omega arith, omega arith, packing-more _ _ _ _ c.loop-i-test.true (told c.live.ensures w.if-live.true) c.loop-i.invariant.2)
+      | else-live w ↦ rw (w.rows-is, w.n-is) (omega arith, omega arith, packing-skip _ _ _ _ c.loop-i-test.true (told c.live.ensures w.if-live.false) c.loop-i.invariant.2)
+    ]
 
 pub offset_bounds-rows-n-then-n-lt-ROWS : goal.offset_bounds-rows-n-then-n-lt-ROWS
 offset_bounds-rows-n-then-n-lt-ROWS c = omega arith

@@ -1,10 +1,7 @@
-use Rattle.tables.specs.Only.{only_entries}
 use native.Mathlib.Omega.{arith}
-use borrow.Author.Rules.{rules}
-use Rattle.base.specs.Walks.{Passed, passed_first, passed-next, passed_here, passed-all}
-use Rattle.rules.specs.Events.{old_sweep, same_sweep_at}
+use Rattle.base.specs.Walks.{passed_first, passed-next, passed_here, passed-all}
+use Rattle.rules.specs.Events.{old_sweep}
 use Rattle.base.specs.Pick.{told}
-use Prim.Native.Nat.{◌≤◌, ◌-◌}
 use Rattle.entries.proofs.old_sweep.Goals as goal
 
 pub loop-i-init : goal.loop-i-init

@@ -1,9 +1,6 @@
 use Rattle.tables.specs.Only.{only_entries}
-use native.Mathlib.Omega.{arith}
-use borrow.Author.Rules.{rules}
-use Rattle.base.specs.Walks.{Passed, passed_first, passed-next, passed_here, passed-all}
-use Rattle.rules.specs.Events.{old_sweep, same_sweep_at}
-use Rattle.base.specs.Pick.{told}
+use Rattle.base.specs.Walks.{Passed}
+use Rattle.rules.specs.Events.{same_sweep_at}
 use Prim.Native.Nat.{◌≤◌, ◌-◌}
 use Rattle.entries.proofs.old_sweep.Given as goal
 

@@ -1,6 +1,4 @@
 use mathlib.Core.Path.{◌∙◌}
-use Prim.Native.Nat.{◌-◌}
-use borrow.Author.Rules.{rules}
 use Rattle.events.specs.Rows.{fitting}
 use Rattle.events.specs.Laws.{four-in, layout-in}
 use Rattle.event_rows.proofs.fits.Goals as goal

@@ -1,5 +1,3 @@
-use Prim.Native.Nat.{◌-◌}
-use borrow.Author.Rules.{rules}
 use Rattle.events.specs.Rows.{length_in}
 use Rattle.event_rows.proofs.length_in.Goals as goal
 

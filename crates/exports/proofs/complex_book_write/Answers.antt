@@ -1,6 +1,5 @@
 use Rattle.exports.specs.Laws.{write-three, write-out}
 use mathlib.Core.Path.{refl, sym, ◌∙◌}
-use borrow.Author.Rules.{rules}
 use Rattle.exports.proofs.complex_book_write.Goals as goal
 
 pub returns-then-values-lt20 : goal.returns-then-values-lt20

@@ -1,5 +1,4 @@
 use Rattle.exports.specs.Exports.{event_in}
-use borrow.Author.Rules.{rules}
 use Rattle.exports.proofs.event_in.Goals as goal
 
 pub returns : goal.returns

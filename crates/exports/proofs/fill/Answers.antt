@@ -1,8 +1,6 @@
 use Rattle.events.specs.Kinds.{code_of}
 use Rattle.exports.specs.Laws.{fill-next, fill-last}
-use lib.Seq.{sets}
-use lib.ListN.{length, take, length-set}
-use Prim.Native.Nat.{◌-◌, ◌≤◌}
+use lib.ListN.{length, length-set}
 use mathlib.Core.Path.{◌≡◌, refl, ap, ◌∙◌}
 use borrow.Author.Rules.{rules}
 use native.Mathlib.Omega.{arith}

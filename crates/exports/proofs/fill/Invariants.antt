@@ -1,11 +1,7 @@
-use Rattle.events.specs.Kinds.{code_of}
-use Rattle.exports.specs.Laws.{fill-next, fill-last}
 use lib.Seq.{sets}
-use lib.ListN.{length, take, length-set}
+use lib.ListN.{length, take}
 use Prim.Native.Nat.{◌-◌, ◌≤◌}
-use mathlib.Core.Path.{◌≡◌, refl, ap, ◌∙◌}
-use borrow.Author.Rules.{rules}
-use native.Mathlib.Omega.{arith}
+use mathlib.Core.Path.{◌≡◌}
 use Rattle.exports.proofs.fill.Given as goal
 
 abbrev pub invariant-loop-i : goal.invariant-loop-i

@@ -1,9 +1,6 @@
 use Rattle.exports.specs.Laws.{row-slot, row_last}
-use Rattle.base.specs.Walks.{slot, stored, stored-first, stored_next, stored_last}
-use lib.ListN.{drop, length-drop}
-use Prim.Native.Nat.{◌-◌, ◌≤◌}
-use mathlib.Core.Path.{◌≡◌}
-use borrow.Author.Rules.{rules}
+use Rattle.base.specs.Walks.{stored-first, stored_next, stored_last}
+use lib.ListN.{length-drop}
 use native.Mathlib.Omega.{arith}
 use Rattle.exports.proofs.row_in.Goals as goal
 

@@ -1,10 +1,7 @@
-use Rattle.exports.specs.Laws.{row-slot, row_last}
-use Rattle.base.specs.Walks.{slot, stored, stored-first, stored_next, stored_last}
-use lib.ListN.{drop, length-drop}
+use Rattle.base.specs.Walks.{slot, stored}
+use lib.ListN.{drop}
 use Prim.Native.Nat.{◌-◌, ◌≤◌}
 use mathlib.Core.Path.{◌≡◌}
-use borrow.Author.Rules.{rules}
-use native.Mathlib.Omega.{arith}
 use Rattle.exports.proofs.row_in.Given as goal
 
 abbrev pub invariant-loop-i : goal.invariant-loop-i

@@ -2,7 +2,6 @@ use Rattle.exports.specs.Laws.{length-small}
 use Rattle.frames.specs.Frames.{written_number}
 use native.Mathlib.Omega.{arith}
 use mathlib.Core.Path.{sym, ap, ◌∙◌}
-use borrow.Author.Rules.{rules}
 use Rattle.exports.proofs.send.Goals as goal
 
 pub overflow_cast-result : goal.overflow_cast-result

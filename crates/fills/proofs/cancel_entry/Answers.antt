@@ -2,7 +2,6 @@ use Rattle.fills.specs.Fills.{cancelled, cancel-none, cancel-live}
 use Rattle.records.specs.Done.{done-still, done-of, room_of}
 use Rattle.rules.specs.State.{with_entries}
 use Rattle.rules.specs.Fills.{cut}
-use borrow.Author.Rules.{rules}
 use Rattle.fills.proofs.cancel_entry.Goals as goal
 
 pub returns-then-units-eq0 : goal.returns-then-units-eq0

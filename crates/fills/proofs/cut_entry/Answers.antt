@@ -1,5 +1,4 @@
 use native.Mathlib.Omega.{arith}
-use borrow.Author.Rules.{rules}
 use Rattle.fills.proofs.cut_entry.Goals as goal
 
 pub overflow_cast-f : goal.overflow_cast-f

@@ -1,5 +1,4 @@
 use Rattle.records.specs.Space.{wrote-append, room-first, room_next}
-use borrow.Author.Rules.{rules}
 use Rattle.fills.proofs.fill_records.Goals as goal
 
 pub party_records-m-requires : goal.party_records-m-requires

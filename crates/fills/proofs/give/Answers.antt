@@ -1,9 +1,5 @@
-use Rattle.fills.specs.Gives.{Giving, legs-few, give-none, give-room, give-moves, give-stays, give_all, cut_both}
-use Rattle.records.specs.Done.{in-length}
-use borrow.Author.Rules.{rules}
+use Rattle.fills.specs.Gives.{legs-few, give-none, give-room, give-moves, give-stays, give_all, cut_both}
 use native.Mathlib.Omega.{arith}
-use Prim.Native.Nat.{◌-◌}
-use mathlib.Core.Logic.{⊎_elim}
 use Rattle.fills.proofs.give.Goals as goal
 use Rattle.fills.proofs.give.Goals.{then-q-ne0, else-q-ne0}
 
@@ -40,8 +36,9 @@ loop-i-smaller c = omega arith
 pub loop-i-preserved : goal.loop-i-preserved
 unfolding cut_both
 loop-i-preserved c = (elim c.if-q-ne0.branch [
-      then-q-ne0 w ↦ rw (w.space-is, w.rows-is, w.m-is, w.cut_entry-then-q-ne0.ensures, w.cut_entry.ensures) (give-moves c.loop-i.invariant c.loop-i-test.true w.if-q-ne0.true w.fill_records-m.ensures)
-    | else-q-ne0 w ↦ rw (w.space-is, w.rows-is, w.m-is) (give-stays c.loop-i.invariant c.loop-i-test.true w.if-q-ne0.false) ])
+  | then-q-ne0 w ↦ rw (w.space-is, w.rows-is, w.m-is, w.cut_entry-then-q-ne0.ensures, w.cut_entry.ensures) (give-moves c.loop-i.invariant c.loop-i-test.true w.if-q-ne0.true w.fill_records-m.ensures)
+  | else-q-ne0 w ↦ rw (w.space-is, w.rows-is, w.m-is) (give-stays c.loop-i.invariant c.loop-i-test.true w.if-q-ne0.false)
+])
 
 pub returns : goal.returns
 returns c = give_all c.loop-i.invariant c.loop-i-test.false

@@ -1,9 +1,5 @@
-use Rattle.fills.specs.Gives.{Giving, legs-few, give-none, give-room, give-moves, give-stays, give_all, cut_both}
-use Rattle.records.specs.Done.{in-length}
-use borrow.Author.Rules.{rules}
-use native.Mathlib.Omega.{arith}
+use Rattle.fills.specs.Gives.{Giving}
 use Prim.Native.Nat.{◌-◌}
-use mathlib.Core.Logic.{⊎_elim}
 use Rattle.fills.proofs.give.Given as goal
 
 abbrev pub invariant-loop-i : goal.invariant-loop-i

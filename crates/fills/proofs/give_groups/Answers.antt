@@ -1,4 +1,3 @@
-use borrow.Author.Rules.{rules}
 use Rattle.rules.specs.State.{with_entries}
 use Rattle.rules.specs.Quotas.{in_turn, share_beside}
 use Rattle.rules.specs.Passes.{give_shared}

@@ -1,4 +1,3 @@
-use borrow.Author.Rules.{rules}
 use Rattle.rules.specs.Quotas.{in_turn}
 use Rattle.records.specs.Done.{in-room, in-done}
 use Rattle.fills.specs.Gives.{group-is}

@@ -1,4 +1,3 @@
-use borrow.Author.Rules.{rules}
 use Rattle.records.specs.Done.{in-room, in-done}
 use Rattle.fills.specs.Gives.{shared-is}
 use Rattle.fills.proofs.give_shared.Goals as goal

@@ -1,5 +1,4 @@
 use native.Mathlib.Omega.{arith}
-use borrow.Author.Rules.{rules}
 use Rattle.fills.proofs.leg_record.Goals as goal
 
 pub overflow_mul-result : goal.overflow_mul-result

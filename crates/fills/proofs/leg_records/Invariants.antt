@@ -1,10 +1,7 @@
-use mathlib.Core.Path.{◌≡◌}
 use Prim.Native.Nat.{◌≤◌, ◌-◌}
-use native.Mathlib.Omega.{arith}
 use Rattle.base.specs.Walks.{join_n}
 use Rattle.rules.specs.Fills.{leg_record_at}
-use Rattle.records.specs.Space.{Appended, wrote-first, wrote-next, wrote-length, room_row}
-use Rattle.base.specs.All.{all_head}
+use Rattle.records.specs.Space.{Appended}
 use Rattle.fills.proofs.leg_records.Given as goal
 
 abbrev pub invariant-loop-i : goal.invariant-loop-i

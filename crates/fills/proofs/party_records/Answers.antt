@@ -1,4 +1,3 @@
-use borrow.Author.Rules.{rules}
 use Rattle.rules.specs.Fills.{party_records}
 use Rattle.records.specs.Space.{wrote-append, room-first, room_next}
 use Rattle.fills.proofs.party_records.Goals as goal

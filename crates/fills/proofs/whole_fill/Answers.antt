@@ -4,7 +4,6 @@ use Rattle.records.specs.Done.{done-still, done-of, room_of}
 use Rattle.rules.specs.State.{with_entries}
 use Rattle.rules.specs.Fills.{cut}
 use Rattle.rules.proofs.Gives.{whole-none}
-use borrow.Author.Rules.{rules}
 use Rattle.fills.proofs.whole_fill.Goals as goal
 
 pub returns-then-q-eq0 : goal.returns-then-q-eq0

@@ -1,4 +1,4 @@
-use Rattle.std.proofs.Common.{sym, ap, ◌∙◌, rules}
+use Rattle.std.proofs.Common.{sym, ap, ◌∙◌}
 use Rattle.events.specs.Rows.{reading_number}
 use Rattle.frames.specs.Round.{judge-reads}
 use Rattle.frames.proofs.judge.Goals as goal

@@ -1,4 +1,4 @@
-use Rattle.std.proofs.Common.{◌≡◌, ℕ, ◌≤◌, List, length, sym, ap, ◌∙◌, rules}
+use Rattle.std.proofs.Common.{◌≡◌, ◌≤◌, length, sym, ap, ◌∙◌}
 use Rattle.events.specs.Kinds.{kind_of, length_of}
 use Rattle.frames.specs.Number.{number}
 use Rattle.frames.specs.Frames.{kind_at, count_at}

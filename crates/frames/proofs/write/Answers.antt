@@ -1,4 +1,4 @@
-use Rattle.std.proofs.Common.{◌-◌, sym, ◌∙◌, rules}
+use Rattle.std.proofs.Common.{sym, ◌∙◌}
 use Rattle.frames.specs.Codec.{wrote-frame, wrote_one, wrote-three}
 use Rattle.frames.proofs.write.Goals as goal
 

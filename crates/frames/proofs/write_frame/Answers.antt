@@ -1,4 +1,4 @@
-use Rattle.std.proofs.Common.{◌-◌, ◌∙◌, arith, rules}
+use Rattle.std.proofs.Common.{◌∙◌, arith}
 use Rattle.events.specs.Laws.{four-in, layout-in, room_in, short-in}
 use Rattle.frames.specs.Codec.{frame-stores}
 use Rattle.frames.proofs.write_frame.Goals as goal

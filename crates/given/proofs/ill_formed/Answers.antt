@@ -1,6 +1,5 @@
 use Rattle.given.specs.Definitions.{ill-twice, ill-ratios}
 use Rattle.base.specs.Pick.{told}
-use borrow.Author.Rules.{rules}
 use Rattle.given.proofs.ill_formed.Goals as goal
 
 pub returns-then-twice : goal.returns-then-twice

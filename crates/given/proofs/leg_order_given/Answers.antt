@@ -1,5 +1,4 @@
 use mathlib.Core.Path.{refl}
-use borrow.Author.Rules.{rules}
 use Rattle.rules.specs.Given.{leg_order_given}
 use Rattle.given.proofs.leg_order_given.Goals as goal
 

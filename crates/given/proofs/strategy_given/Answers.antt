@@ -1,5 +1,4 @@
 use Rattle.given.specs.Definitions.{strategy-is}
-use borrow.Author.Rules.{rules}
 use Rattle.given.proofs.strategy_given.Goals as goal
 
 pub returns : goal.returns

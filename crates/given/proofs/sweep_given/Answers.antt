@@ -1,5 +1,4 @@
 use mathlib.Core.Path.{refl}
-use borrow.Author.Rules.{rules}
 use Rattle.rules.specs.Given.{sweep_given}
 use Rattle.given.proofs.sweep_given.Goals as goal
 

@@ -1,9 +1,8 @@
 use native.Mathlib.Omega.{arith}
-use mathlib.Core.Path.{refl, ◌∙◌}
+use mathlib.Core.Path.{refl}
 use Rattle.rules.specs.Events.{free_order_slot}
-use Rattle.records.specs.Done.{done-then, done-of, done-still, done-length, room_of, room_after}
-use Rattle.leg_orders.specs.LegOrders.{leg-is, slot_is, rests-not, rests-yes, rests-idle, enters, enters-room, left-length, gone-done, left-asks, left-done, left-fit}
-use borrow.Author.Rules.{rules}
+use Rattle.records.specs.Done.{done-then, done-of, done-still, room_of, room_after}
+use Rattle.leg_orders.specs.LegOrders.{leg-is, slot_is, rests-not, rests-yes, rests-idle, enters, enters-room, gone-done, left-asks, left-done, left-fit}
 use Rattle.leg_orders.proofs.on_leg_order.Goals as goal
 
 -- src/lib.rt:81:9

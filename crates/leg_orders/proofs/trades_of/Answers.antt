@@ -1,8 +1,6 @@
-use Rattle.records.specs.Done.{in-length}
 use Rattle.rules.proofs.BetterNets.{price-most}
 use Rattle.legging.specs.Left.{side-most}
 use Rattle.leg_orders.specs.Left.{room-rows, enters-fits, left-none, left-orders, left-priced, left-some}
-use borrow.Author.Rules.{rules}
 use Rattle.leg_orders.proofs.trades_of.Goals as goal
 
 -- src/lib.rt:51:9

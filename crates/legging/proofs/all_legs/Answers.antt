@@ -1,7 +1,6 @@
-use Rattle.legging.specs.Legging.{AllLegs, legs-first, legs-next}
+use Rattle.legging.specs.Legging.{legs-first, legs-next}
 use Rattle.ranges.specs.Fit.{fit-leg}
-use Rattle.records.specs.Space.{wrote-length, room_row}
-use Prim.Native.Nat.{◌≤◌, ◌-◌}
+use Rattle.records.specs.Space.{room_row}
 use mathlib.Core.Path.{◌≡◌}
 use native.Mathlib.Omega.{arith}
 use Rattle.legging.proofs.all_legs.Goals as goal

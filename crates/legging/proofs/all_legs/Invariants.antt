@@ -1,9 +1,5 @@
-use Rattle.legging.specs.Legging.{AllLegs, legs-first, legs-next}
-use Rattle.ranges.specs.Fit.{fit-leg}
-use Rattle.records.specs.Space.{wrote-length, room_row}
+use Rattle.legging.specs.Legging.{AllLegs}
 use Prim.Native.Nat.{◌≤◌, ◌-◌}
-use mathlib.Core.Path.{◌≡◌}
-use native.Mathlib.Omega.{arith}
 use Rattle.legging.proofs.all_legs.Given as goal
 
 abbrev pub invariant-loop-i : goal.invariant-loop-i

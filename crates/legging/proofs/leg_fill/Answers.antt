@@ -1,7 +1,6 @@
 use Rattle.legging.specs.Legging.{units-found, orders-found, records-found, units-few}
 use Rattle.records.specs.Space.{wrote-append, room-first, room_next}
 use mathlib.Core.Path.{sym, ◌∙◌}
-use borrow.Author.Rules.{rules}
 use Rattle.legging.proofs.leg_fill.Goals as goal
 
 pub party_records-m-requires : goal.party_records-m-requires
@@ -12,7 +11,7 @@ all_legs-c-requires c = record { fit_legs = (c.requires.fit_legs.0, units-few c.
 
 pub returns : goal.returns
 returns c = record {
-      wrote = rw (records-found c.args.e c.args.os c.args.s c.requires.fit_legs.1 c.requires.fit_legs.0.count c.requires.fit_legs.2 c.requires.fit_legs.3 c.least-q.ensures) (wrote-append c.party_records-m.ensures c.all_legs-c.ensures.wrote);
-      units = units-found c.args.e c.args.os c.args.s c.requires.fit_legs.1 c.requires.fit_legs.0.count c.requires.fit_legs.2 c.requires.fit_legs.3 c.least-q.ensures;
-      rows = c.all_legs-c.ensures.left ∙ sym (orders-found c.args.e c.args.os c.args.s c.requires.fit_legs.1 c.requires.fit_legs.0.count c.requires.fit_legs.2 c.requires.fit_legs.3 c.least-q.ensures);
-    }
+  wrote = rw (records-found c.args.e c.args.os c.args.s c.requires.fit_legs.1 c.requires.fit_legs.0.count c.requires.fit_legs.2 c.requires.fit_legs.3 c.least-q.ensures) (wrote-append c.party_records-m.ensures c.all_legs-c.ensures.wrote);
+  units = units-found c.args.e c.args.os c.args.s c.requires.fit_legs.1 c.requires.fit_legs.0.count c.requires.fit_legs.2 c.requires.fit_legs.3 c.least-q.ensures;
+  rows = c.all_legs-c.ensures.left ∙ sym (orders-found c.args.e c.args.os c.args.s c.requires.fit_legs.1 c.requires.fit_legs.0.count c.requires.fit_legs.2 c.requires.fit_legs.3 c.least-q.ensures);
+}

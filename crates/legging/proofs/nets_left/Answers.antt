@@ -1,8 +1,6 @@
-use Rattle.legging.specs.Left.{LegsLeft, side-most, legs-none, done-fits, met-most, done_next}
-use borrow.Author.Rules.{rules}
+use Rattle.legging.specs.Left.{side-most, legs-none, done-fits, met-most, done_next}
 use native.Mathlib.Omega.{arith}
-use mathlib.Core.Path.{◌≡◌, ap, ◌∙◌}
-use Prim.Native.Nat.{◌≤◌, ◌-◌}
+use mathlib.Core.Path.{◌≡◌}
 use Rattle.legging.proofs.nets_left.Goals as goal
 
 -- src/lib.rt:186:5

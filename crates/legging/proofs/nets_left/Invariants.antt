@@ -1,7 +1,4 @@
-use Rattle.legging.specs.Left.{LegsLeft, side-most, legs-none, done-fits, met-most, done_next}
-use borrow.Author.Rules.{rules}
-use native.Mathlib.Omega.{arith}
-use mathlib.Core.Path.{◌≡◌, ap, ◌∙◌}
+use Rattle.legging.specs.Left.{LegsLeft}
 use Prim.Native.Nat.{◌≤◌, ◌-◌}
 use Rattle.legging.proofs.nets_left.Given as goal
 

@@ -1,12 +1,8 @@
-use Rattle.legging.specs.OneLeg.{Taking, taking-first, taking-room, taking-some, taking-none, taking-last}
+use Rattle.legging.specs.OneLeg.{taking-first, taking-room, taking-some, taking-none, taking-last}
 use Rattle.legging.specs.Legging.{contracts-fit}
 use Rattle.rules.specs.Sides.{other, leg_side}
 use Rattle.rules.specs.Nets.{lot_at}
-use Rattle.rules.specs.Fills.{leg_take}
-use Rattle.records.specs.Space.{wrote-length, room_row}
 use lib.ListN.{length}
-use Prim.Native.Nat.{◌-◌, ◌*◌, ◌<◌}
-use mathlib.Core.Logic.{⊎_elim}
 use mathlib.Core.Path.{◌≡◌}
 use borrow.Author.Rules.{rules}
 use native.Mathlib.Omega.{arith}
@@ -57,8 +53,9 @@ loop-i-preserved c = let size-is : length c.args.cut ≡ 32 = search rules in
     let size-is2 : length c.args.cut ≡ 32 = search rules in
     let found-is3 : c.lot-x.result ≡ lot_at c.args.os c.args.l.series (other (leg_side c.args.side c.args.l)) c.args.price c.loop-i.i = rw (c.other-on.ensures, c.leg_side.ensures) at c.lot-x.ensures in
     (elim c.if-k-gt0.branch [
-      then-k-gt0 w ↦ rw (w.space-is, w.left-is, w.rows-is, w.m-is) (taking-some _ (size-is) c.loop-i-test.true c.loop-i.invariant (found-is) c.least-k.ensures w.order_row-m.ensures w.cut_order.ensures)
-    | else-k-gt0 w ↦ rw (w.space-is, w.left-is, w.rows-is, w.m-is) (taking-none _ (size-is2) c.loop-i-test.true c.loop-i.invariant (found-is3) c.least-k.ensures w.if-k-gt0.false) ])
+      | then-k-gt0 w ↦ rw (w.space-is, w.left-is, w.rows-is, w.m-is) (taking-some _ (size-is) c.loop-i-test.true c.loop-i.invariant (found-is) c.least-k.ensures w.order_row-m.ensures w.cut_order.ensures)
+      | else-k-gt0 w ↦ rw (w.space-is, w.left-is, w.rows-is, w.m-is) (taking-none _ (size-is2) c.loop-i-test.true c.loop-i.invariant (found-is3) c.least-k.ensures w.if-k-gt0.false)
+    ])
 
 pub returns : goal.returns
 returns c = let size-is : length c.args.cut ≡ 32 = search rules in

@@ -1,6 +1,5 @@
 use Rattle.base.specs.Pick.{told}
 use Rattle.legs.specs.Search.{ahead-not, ahead-first, ahead-better}
-use borrow.Author.Rules.{rules}
 use Rattle.legs.proofs.ahead_order.Goals as goal
 
 pub returns-then-best-eq-LEG_ORDERS : goal.returns-then-best-eq-LEG_ORDERS

@@ -1,12 +1,8 @@
 use native.Mathlib.Omega.{arith}
-use borrow.Author.Rules.{rules}
-use Prim.Native.Nat.{◌≤◌, ◌-◌}
 use mathlib.Core.Path.{◌≡◌}
-use mathlib.Core.Logic.{⊎_elim}
 use Rattle.base.specs.Pick.{told}
 use Rattle.rules.specs.Events.{best_order}
-use Rattle.tables.specs.Only.{only_orders}
-use Rattle.legs.specs.Search.{Leading, leading-first, leading-here, leading-past}
+use Rattle.legs.specs.Search.{leading-first, leading-here, leading-past}
 use Rattle.legs.proofs.best_order.Goals as goal
 use Rattle.legs.proofs.best_order.Goals.{then-ahead_order, else-ahead_order}
 
@@ -26,9 +22,13 @@ pub loop-i-smaller : goal.loop-i-smaller
 loop-i-smaller c = omega arith
 
 pub loop-i-preserved : goal.loop-i-preserved
-loop-i-preserved c = (omega arith, (elim c.if-ahead_order.branch [
-      then-ahead_order w ↦ rw (w.best-is, w.price-is) (leading-here _ _ _ c.loop-i.invariant.1 (told c.ahead_order.ensures w.if-ahead_order.true))
-    | else-ahead_order w ↦ rw (w.best-is, w.price-is) (leading-past _ _ _ c.loop-i.invariant.1 (told c.ahead_order.ensures w.if-ahead_order.false)) ]))
+loop-i-preserved c = (
+  omega arith,
+  (elim c.if-ahead_order.branch [
+    | then-ahead_order w ↦ rw (w.best-is, w.price-is) (leading-here _ _ _ c.loop-i.invariant.1 (told c.ahead_order.ensures w.if-ahead_order.true))
+    | else-ahead_order w ↦ rw (w.best-is, w.price-is) (leading-past _ _ _ c.loop-i.invariant.1 (told c.ahead_order.ensures w.if-ahead_order.false))
+  ]),
+)
 
 pub returns : goal.returns
 unfolding best_order

@@ -1,11 +1,8 @@
-use Rattle.tables.specs.Packed.{Counted, counted-first, counted-more, counted_skip, counted-all}
-use Rattle.rules.specs.Events.{live_order}
+use Rattle.tables.specs.Packed.{counted-first, counted-more, counted_skip, counted-all}
 use Rattle.rules.specs.State.{no_order}
 use Rattle.base.specs.Pick.{told}
 use borrow.Author.Rules.{rules}
 use native.Mathlib.Omega.{arith}
-use Prim.Native.Nat.{◌≤◌, ◌-◌}
-use mathlib.Core.Logic.{⊎_elim}
 use Rattle.legs.proofs.count.Goals as goal
 use Rattle.legs.proofs.count.Goals.{then-live, else-live}
 
@@ -29,8 +26,9 @@ loop-i-smaller c = omega arith
 
 pub loop-i-preserved : goal.loop-i-preserved
 loop-i-preserved c = (elim c.if-live.branch [
-      then-live w ↦ rw w.n-is (omega arith, omega arith, counted-more _ no_order _ _ c.loop-i-test.true (told c.live.ensures w.if-live.true) c.loop-i.invariant.2)
-    | else-live w ↦ rw w.n-is (omega arith, omega arith, counted_skip _ no_order _ _ c.loop-i-test.true (told c.live.ensures w.if-live.false) c.loop-i.invariant.2) ])
+  | then-live w ↦ rw w.n-is (omega arith, omega arith, counted-more _ no_order _ _ c.loop-i-test.true (told c.live.ensures w.if-live.true) c.loop-i.invariant.2)
+  | else-live w ↦ rw w.n-is (omega arith, omega arith, counted_skip _ no_order _ _ c.loop-i-test.true (told c.live.ensures w.if-live.false) c.loop-i.invariant.2)
+])
 
 pub returns : goal.returns
 returns c = counted-all _ no_order _ _ c.loop-i-test.false c.loop-i.invariant.2

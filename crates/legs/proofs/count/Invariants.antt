@@ -1,11 +1,6 @@
-use Rattle.tables.specs.Packed.{Counted, counted-first, counted-more, counted_skip, counted-all}
+use Rattle.tables.specs.Packed.{Counted}
 use Rattle.rules.specs.Events.{live_order}
-use Rattle.rules.specs.State.{no_order}
-use Rattle.base.specs.Pick.{told}
-use borrow.Author.Rules.{rules}
-use native.Mathlib.Omega.{arith}
 use Prim.Native.Nat.{◌≤◌, ◌-◌}
-use mathlib.Core.Logic.{⊎_elim}
 use Rattle.legs.proofs.count.Given as goal
 
 abbrev pub invariant-loop-i : goal.invariant-loop-i

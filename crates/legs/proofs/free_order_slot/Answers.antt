@@ -1,5 +1,4 @@
 use Rattle.rules.specs.Events.{free_order_slot}
-use borrow.Author.Rules.{rules}
 use Rattle.legs.proofs.free_order_slot.Goals as goal
 
 pub returns : goal.returns

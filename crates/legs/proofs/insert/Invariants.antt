@@ -1,11 +1,7 @@
-use Rattle.tables.specs.Packed.{Packing, packing-first, packing-more, packing-skip, inserted, inserted-none}
+use Rattle.tables.specs.Packed.{Packing}
 use Rattle.rules.specs.Events.{live_order}
 use Rattle.rules.specs.State.{no_order}
-use Rattle.base.specs.Pick.{told}
-use borrow.Author.Rules.{rules}
-use native.Mathlib.Omega.{arith}
 use Prim.Native.Nat.{◌≤◌, ◌-◌}
-use mathlib.Core.Logic.{⊎_elim}
 use Rattle.legs.proofs.insert.Given as goal
 
 abbrev pub invariant-loop-i : goal.invariant-loop-i

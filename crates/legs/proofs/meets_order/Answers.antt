@@ -1,6 +1,5 @@
 use Rattle.rules.specs.Events.{meets_order}
 use Rattle.base.specs.Pick.{tests, told}
-use borrow.Author.Rules.{rules}
 use Rattle.legs.proofs.meets_order.Goals as goal
 
 pub returns-then-stands : goal.returns-then-stands

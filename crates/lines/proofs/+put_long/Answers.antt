@@ -1,4 +1,4 @@
-use Rattle.std.proofs.Common.{◌∙◌, ◌≡◌, ◌≤◌, length, arith}
+use Rattle.std.proofs.Common.{arith}
 use native.Mathlib.Nat.{div-add-mod'}
 use Rattle.lines.specs.Puts.{put-length, length_more, put-more}
 use Rattle.lines.proofs.+put_long.Goals as goal

@@ -1,6 +1,5 @@
 use Rattle.base.specs.Pick.{tests}
 use Rattle.lines.specs.Cuts.{cut_of, cut-under, cut-past, cut-whole}
-use borrow.Author.Rules.{rules}
 use Rattle.lines.proofs.cut.Goals as goal
 
 pub returns-then-rest-lt2 : goal.returns-then-rest-lt2

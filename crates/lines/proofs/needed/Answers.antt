@@ -1,6 +1,5 @@
 use Rattle.base.specs.Pick.{tests}
 use Rattle.lines.specs.Cuts.{needed_of, needed-under, needed-whole}
-use borrow.Author.Rules.{rules}
 use Rattle.lines.proofs.needed.Goals as goal
 
 pub returns-then-rest-lt2 : goal.returns-then-rest-lt2

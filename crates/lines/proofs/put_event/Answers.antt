@@ -1,5 +1,4 @@
 use Rattle.lines.specs.Puts.{put-event}
-use borrow.Author.Rules.{rules}
 use Rattle.lines.proofs.put_event.Goals as goal
 
 pub returns : goal.returns

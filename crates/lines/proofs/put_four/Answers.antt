@@ -1,5 +1,4 @@
 use Rattle.lines.specs.Puts.{put-more-numbers, put-end}
-use borrow.Author.Rules.{rules}
 use Rattle.lines.proofs.put_four.Goals as goal
 
 pub returns : goal.returns

@@ -1,11 +1,11 @@
 use mir.Syntax.{w32}
 use mir.Facts.{to_z-of_z}
 use lib.IntN.{pos}
-use Prim.Native.Nat.{◌*◌, ◌+◌, ◌-◌}
-use lib.ListN.{drop, get_or, length-drop}
+use Prim.Native.Nat.{◌*◌, ◌+◌}
+use lib.ListN.{get_or, length-drop}
 use lib.Seq.{get_or-drop}
 use native.Mathlib.Omega.{arith}
-use Rattle.lines.specs.Puts.{put-length, Writing, writing-first, writing-next, writing-done}
+use Rattle.lines.specs.Puts.{put-length, writing-first, writing-next, writing-done}
 use Rattle.lines.proofs.put_numbers.Goals as goal
 
 pub loop-j-init : goal.loop-j-init

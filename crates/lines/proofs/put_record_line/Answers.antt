@@ -1,5 +1,4 @@
 use Rattle.lines.specs.Puts.{put-record-line}
-use borrow.Author.Rules.{rules}
 use Rattle.lines.proofs.put_record_line.Goals as goal
 
 pub returns : goal.returns

@@ -1,6 +1,5 @@
-use Prim.Native.Nat.{◌-◌, ◌≤◌}
 use native.Mathlib.Omega.{arith}
-use Rattle.lines.specs.Puts.{put-length, Listing, listing-first, listing-next, listing-done}
+use Rattle.lines.specs.Puts.{put-length, listing-first, listing-next, listing-done}
 use Rattle.lines.proofs.put_records.Goals as goal
 
 pub loop-i-init : goal.loop-i-init

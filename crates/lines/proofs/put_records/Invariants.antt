@@ -1,6 +1,5 @@
 use Prim.Native.Nat.{◌-◌, ◌≤◌}
-use native.Mathlib.Omega.{arith}
-use Rattle.lines.specs.Puts.{put-length, Listing, listing-first, listing-next, listing-done}
+use Rattle.lines.specs.Puts.{Listing}
 use Rattle.lines.proofs.put_records.Given as goal
 
 abbrev pub invariant-loop-i : goal.invariant-loop-i

@@ -6,7 +6,6 @@ use mir.Facts.{to_z-of_z}
 use Rattle.base.specs.Pick.{told}
 use Rattle.lines.specs.Signs.{size_fits}
 use Rattle.lines.specs.Puts.{put-length, signed-length, put-below, put-above}
-use borrow.Author.Rules.{rules}
 use Rattle.lines.proofs.put_signed.Goals as goal
 
 pub put_decimal-requires : goal.put_decimal-requires

@@ -1,5 +1,4 @@
 use Rattle.lines.specs.Puts.{put-told}
-use borrow.Author.Rules.{rules}
 use Rattle.lines.proofs.put_told.Goals as goal
 
 pub returns : goal.returns

@@ -1,6 +1,5 @@
 use Rattle.lines.specs.Puts.{length-one, put_one}
 use native.Mathlib.Omega.{arith}
-use borrow.Author.Rules.{rules}
 use Rattle.lines.proofs.put_under_10.Goals as goal
 
 pub put_byte-requires : goal.put_byte-requires

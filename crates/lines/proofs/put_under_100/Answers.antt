@@ -1,6 +1,5 @@
 use Rattle.lines.specs.Puts.{length_two, put-two-digits}
 use native.Mathlib.Omega.{arith}
-use borrow.Author.Rules.{rules}
 use Rattle.lines.proofs.put_under_100.Goals as goal
 
 pub put_last_two-requires : goal.put_last_two-requires

@@ -1,7 +1,6 @@
 use Rattle.lines.specs.Puts.{put-length, length-hundreds, put-hundreds}
 use native.Mathlib.Nat.{div-add-mod'}
 use native.Mathlib.Omega.{arith}
-use borrow.Author.Rules.{rules}
 use Rattle.lines.proofs.put_under_1000000.Goals as goal
 
 pub put_under_10000-m-requires : goal.put_under_10000-m-requires

@@ -1,5 +1,4 @@
 use Rattle.lines.specs.Cuts.{told_length}
-use borrow.Author.Rules.{rules}
 use Rattle.lines.proofs.told_length.Goals as goal
 
 pub returns : goal.returns

@@ -1,6 +1,5 @@
 use Rattle.frames.specs.Number.{number}
 use native.Mathlib.Omega.{arith}
-use borrow.Author.Rules.{rules}
 use Rattle.lines.proofs.two_bytes.Goals as goal
 
 pub returns : goal.returns

@@ -1,5 +1,4 @@
 use Rattle.lookups.specs.Lookups.{depth-series, depth-side, depth_is, tells-empty, tells-best}
-use borrow.Author.Rules.{rules}
 use Rattle.lookups.proofs.depth.Goals as goal
 
 pub returns-then-s-gt31 : goal.returns-then-s-gt31

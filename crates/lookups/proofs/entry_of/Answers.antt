@@ -1,6 +1,5 @@
 use mathlib.Core.Path.{refl}
 use Rattle.lookups.specs.Lookups.{entry_of}
-use borrow.Author.Rules.{rules}
 use Rattle.lookups.proofs.entry_of.Goals as goal
 
 pub returns : goal.returns

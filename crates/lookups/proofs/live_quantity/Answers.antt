@@ -1,7 +1,5 @@
-use Rattle.lookups.specs.Lookups.{live_n, live-first, live-next, live-last, live-most}
-use mathlib.Core.Path.{◌≡◌}
-use Prim.Native.Nat.{◌+◌, ◌-◌, ◌≤◌}
-use borrow.Author.Rules.{rules}
+use Rattle.lookups.specs.Lookups.{live-first, live-next, live-last, live-most}
+use Prim.Native.Nat.{◌+◌, ◌≤◌}
 use native.Mathlib.Omega.{arith}
 use Rattle.lookups.proofs.live_quantity.Goals as goal
 

@@ -1,8 +1,6 @@
-use Rattle.lookups.specs.Lookups.{live_n, live-first, live-next, live-last, live-most}
+use Rattle.lookups.specs.Lookups.{live_n}
 use mathlib.Core.Path.{◌≡◌}
-use Prim.Native.Nat.{◌+◌, ◌-◌, ◌≤◌}
-use borrow.Author.Rules.{rules}
-use native.Mathlib.Omega.{arith}
+use Prim.Native.Nat.{◌-◌, ◌≤◌}
 use Rattle.lookups.proofs.live_quantity.Given as goal
 
 abbrev pub invariant-loop-i : goal.invariant-loop-i

@@ -1,5 +1,4 @@
 use Rattle.lookups.specs.LegNets.{nets-undefined, row-undefined, stored-fits, nets-stored, row-stored}
-use borrow.Author.Rules.{rules}
 use Rattle.lookups.proofs.nets.Goals as goal
 
 pub returns-then-defined-strategy : goal.returns-then-defined-strategy

@@ -1,7 +1,4 @@
-use Rattle.lookups.specs.Lookups.{lent_n, row_first, row_next, row_last}
-use mathlib.Core.Path.{◌≡◌}
-use Prim.Native.Nat.{◌-◌, ◌≤◌}
-use borrow.Author.Rules.{rules}
+use Rattle.lookups.specs.Lookups.{row_first, row_next, row_last}
 use native.Mathlib.Omega.{arith}
 use Rattle.lookups.proofs.row_of.Goals as goal
 

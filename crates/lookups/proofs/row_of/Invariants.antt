@@ -1,8 +1,6 @@
-use Rattle.lookups.specs.Lookups.{lent_n, row_first, row_next, row_last}
+use Rattle.lookups.specs.Lookups.{lent_n}
 use mathlib.Core.Path.{◌≡◌}
 use Prim.Native.Nat.{◌-◌, ◌≤◌}
-use borrow.Author.Rules.{rules}
-use native.Mathlib.Omega.{arith}
 use Rattle.lookups.proofs.row_of.Given as goal
 
 abbrev pub invariant-loop-i : goal.invariant-loop-i

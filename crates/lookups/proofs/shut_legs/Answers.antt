@@ -1,5 +1,4 @@
 use Rattle.lookups.specs.Lookups.{shut-undefined, shut-legs}
-use borrow.Author.Rules.{rules}
 use native.Mathlib.Omega.{arith}
 use Rattle.lookups.proofs.shut_legs.Goals as goal
 

@@ -1,5 +1,4 @@
 use Rattle.lookups.specs.LegNets.{cents-word, tells_none, tells-offer, tells-bid, tells_both}
-use borrow.Author.Rules.{rules}
 use Rattle.lookups.proofs.told_nets.Goals as goal
 
 pub returns-then-offer-eq0 : goal.returns-then-offer-eq0

@@ -1,7 +1,6 @@
 use mathlib.Core.Path.{sym}
 use Rattle.base.specs.Pick.{pick_true, pick-false, told}
 use Rattle.matching.specs.Places.{acts_on}
-use borrow.Author.Rules.{rules}
 use Rattle.matching.proofs.acts_in.Goals as goal
 
 -- src/lib.rt:82:9

@@ -1,11 +1,8 @@
-use Rattle.matching.specs.Matching.{best_next, best_entry, level-none, best-yes, best-not}
-use Rattle.rules.specs.State.{no_entry}
-use Rattle.base.specs.Walks.{walk, walk_first, walk-next}
+use Rattle.matching.specs.Matching.{best_entry, level-none, best-yes, best-not}
+use Rattle.base.specs.Walks.{walk_first, walk-next}
 use Rattle.base.specs.Pick.{told}
-use lib.ListN.{get_or, length}
-use Prim.Native.Nat.{◌≤◌, ◌-◌}
+use lib.ListN.{length}
 use mathlib.Core.Path.{◌≡◌, refl}
-use mathlib.Core.Logic.{⊎_elim}
 use borrow.Author.Rules.{rules}
 use native.Mathlib.Omega.{arith}
 use Rattle.matching.proofs.best_slot.Goals as goal
@@ -28,8 +25,9 @@ loop-i-smaller c = omega arith
 
 pub loop-i-preserved : goal.loop-i-preserved
 loop-i-preserved c = (elim c.if-ahead.branch [
-      then-ahead w ↦ rw (w.best-is, w.level-is) (omega arith, walk-next _ _ _ c.loop-i.invariant.1 (best-yes c.args.es _ _ _ c.loop-i.best c.loop-i.invariant.2 (told c.ahead.ensures w.if-ahead.true)), refl)
-    | else-ahead w ↦ rw (w.best-is, w.level-is) (omega arith, walk-next _ _ _ c.loop-i.invariant.1 (best-not c.args.es _ _ _ c.loop-i.best c.loop-i.invariant.2 (told c.ahead.ensures w.if-ahead.false)), c.loop-i.invariant.2) ])
+  | then-ahead w ↦ rw (w.best-is, w.level-is) (omega arith, walk-next _ _ _ c.loop-i.invariant.1 (best-yes c.args.es _ _ _ c.loop-i.best c.loop-i.invariant.2 (told c.ahead.ensures w.if-ahead.true)), refl)
+  | else-ahead w ↦ rw (w.best-is, w.level-is) (omega arith, walk-next _ _ _ c.loop-i.invariant.1 (best-not c.args.es _ _ _ c.loop-i.best c.loop-i.invariant.2 (told c.ahead.ensures w.if-ahead.false)), c.loop-i.invariant.2)
+])
 
 pub returns : goal.returns
 unfolding best_entry

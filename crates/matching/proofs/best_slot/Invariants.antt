@@ -1,13 +1,9 @@
-use Rattle.matching.specs.Matching.{best_next, best_entry, level-none, best-yes, best-not}
+use Rattle.matching.specs.Matching.{best_next}
 use Rattle.rules.specs.State.{no_entry}
-use Rattle.base.specs.Walks.{walk, walk_first, walk-next}
-use Rattle.base.specs.Pick.{told}
-use lib.ListN.{get_or, length}
+use Rattle.base.specs.Walks.{walk}
+use lib.ListN.{get_or}
 use Prim.Native.Nat.{◌≤◌, ◌-◌}
-use mathlib.Core.Path.{◌≡◌, refl}
-use mathlib.Core.Logic.{⊎_elim}
-use borrow.Author.Rules.{rules}
-use native.Mathlib.Omega.{arith}
+use mathlib.Core.Path.{◌≡◌}
 use Rattle.matching.proofs.best_slot.Given as goal
 
 abbrev pub invariant-loop-i : goal.invariant-loop-i

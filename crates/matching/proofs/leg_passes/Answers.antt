@@ -1,6 +1,4 @@
-use Rattle.matching.specs.Places.{PassedTo, passing-first, passing-fit, passing-fits, passing-room, passing-next, passing-less, passing-all}
-use Rattle.records.specs.Done.{done-length}
-use Prim.Native.Nat.{◌-◌}
+use Rattle.matching.specs.Places.{passing-first, passing-fit, passing-fits, passing-room, passing-next, passing-less, passing-all}
 use native.Mathlib.Omega.{arith}
 use Rattle.matching.proofs.leg_passes.Goals as goal
 

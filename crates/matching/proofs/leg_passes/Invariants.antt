@@ -1,7 +1,5 @@
-use Rattle.matching.specs.Places.{PassedTo, passing-first, passing-fit, passing-fits, passing-room, passing-next, passing-less, passing-all}
-use Rattle.records.specs.Done.{done-length}
+use Rattle.matching.specs.Places.{PassedTo}
 use Prim.Native.Nat.{◌-◌}
-use native.Mathlib.Omega.{arith}
 use Rattle.matching.proofs.leg_passes.Given as goal
 
 abbrev pub invariant-loop-at : goal.invariant-loop-at

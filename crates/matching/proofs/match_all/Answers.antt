@@ -1,12 +1,11 @@
 use Rattle.matching.specs.Matching.{may-slots, match_none, match-some, match-stops, fit-matches, same-bounds}
-use Rattle.records.specs.Done.{Visited, visit-none, visit-moves, visit-room, visit-all, done-length, done-of}
+use Rattle.records.specs.Done.{visit-none, visit-moves, visit-room, visit-all, done-of}
 use Rattle.ranges.specs.Fit.{fit-legs}
 use Rattle.rules.specs.National.{bounds_at}
-use Rattle.rules.specs.Auctions.{match_once, match_all}
+use Rattle.rules.specs.Auctions.{match_all}
 use Rattle.base.specs.Pick.{told}
 use mathlib.Core.Path.{◌≡◌}
-use Prim.Native.Nat.{◌-◌, ◌<◌}
-use borrow.Author.Rules.{rules}
+use Prim.Native.Nat.{◌<◌}
 use native.Mathlib.Omega.{arith}
 use Rattle.matching.proofs.match_all.Goals as goal
 

@@ -1,13 +1,6 @@
-use Rattle.matching.specs.Matching.{may-slots, match_none, match-some, match-stops, fit-matches, same-bounds}
-use Rattle.records.specs.Done.{Visited, visit-none, visit-moves, visit-room, visit-all, done-length, done-of}
-use Rattle.ranges.specs.Fit.{fit-legs}
-use Rattle.rules.specs.National.{bounds_at}
-use Rattle.rules.specs.Auctions.{match_once, match_all}
-use Rattle.base.specs.Pick.{told}
-use mathlib.Core.Path.{◌≡◌}
-use Prim.Native.Nat.{◌-◌, ◌<◌}
-use borrow.Author.Rules.{rules}
-use native.Mathlib.Omega.{arith}
+use Rattle.records.specs.Done.{Visited}
+use Rattle.rules.specs.Auctions.{match_once}
+use Prim.Native.Nat.{◌-◌}
 use Rattle.matching.proofs.match_all.Given as goal
 
 abbrev pub invariant-loop-i : goal.invariant-loop-i

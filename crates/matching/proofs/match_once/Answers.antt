@@ -1,6 +1,5 @@
 use Rattle.matching.specs.Matching.{match-buy, match-sell}
 use Rattle.records.specs.Done.{done-of, room_of}
-use borrow.Author.Rules.{rules}
 use Rattle.matching.proofs.match_once.Goals as goal
 
 pub whole_fill-requires : goal.whole_fill-requires

@@ -1,11 +1,7 @@
 use Rattle.base.specs.Pick.{told}
 use Rattle.matching.specs.Matching.{match-yes, match-not, fit-series}
-use Rattle.rules.specs.Auctions.{match_in}
-use mathlib.Core.Logic.{⊎_elim}
-use Rattle.records.specs.Done.{Visited, visit-none, visit-moves, visit-stays, visit-room, visit-all, done-length}
-use Prim.Native.Nat.{◌-◌}
+use Rattle.records.specs.Done.{visit-none, visit-moves, visit-stays, visit-room, visit-all}
 use native.Mathlib.Omega.{arith}
-use borrow.Author.Rules.{rules}
 use Rattle.matching.proofs.match_series.Goals as goal
 use Rattle.matching.proofs.match_series.Goals.{then-open_with, else-open_with}
 
@@ -26,8 +22,9 @@ loop-k-smaller c = omega arith
 
 pub loop-k-preserved : goal.loop-k-preserved
 loop-k-preserved c = (elim c.if-open_with.branch [
-      then-open_with w ↦ rw (w.space-is, w.c-is, w.m-is) (visit-moves c.loop-k.invariant c.loop-k-test.true (match-yes _ _ _ (told c.open_with.ensures w.if-open_with.true)) w.match_all-t.ensures)
-    | else-open_with w ↦ rw (w.space-is, w.c-is, w.m-is) (visit-stays c.loop-k.invariant c.loop-k-test.true (match-not _ _ _ (told c.open_with.ensures w.if-open_with.false))) ])
+  | then-open_with w ↦ rw (w.space-is, w.c-is, w.m-is) (visit-moves c.loop-k.invariant c.loop-k-test.true (match-yes _ _ _ (told c.open_with.ensures w.if-open_with.true)) w.match_all-t.ensures)
+  | else-open_with w ↦ rw (w.space-is, w.c-is, w.m-is) (visit-stays c.loop-k.invariant c.loop-k-test.true (match-not _ _ _ (told c.open_with.ensures w.if-open_with.false)))
+])
 
 pub returns : goal.returns
 returns c = visit-all c.loop-k.invariant c.loop-k-test.false

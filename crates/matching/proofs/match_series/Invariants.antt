@@ -1,11 +1,6 @@
-use Rattle.base.specs.Pick.{told}
-use Rattle.matching.specs.Matching.{match-yes, match-not, fit-series}
 use Rattle.rules.specs.Auctions.{match_in}
-use mathlib.Core.Logic.{⊎_elim}
-use Rattle.records.specs.Done.{Visited, visit-none, visit-moves, visit-stays, visit-room, visit-all, done-length}
+use Rattle.records.specs.Done.{Visited}
 use Prim.Native.Nat.{◌-◌}
-use native.Mathlib.Omega.{arith}
-use borrow.Author.Rules.{rules}
 use Rattle.matching.proofs.match_series.Given as goal
 
 abbrev pub invariant-loop-k : goal.invariant-loop-k

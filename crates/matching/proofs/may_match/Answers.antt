@@ -2,7 +2,6 @@ use native.Mathlib.Omega.{arith}
 use mathlib.Core.Path.{◌∙◌}
 use Rattle.base.specs.Pick.{told}
 use Rattle.matching.specs.Matching.{meet-slots, may-apart, may-buy, may-sell}
-use borrow.Author.Rules.{rules}
 use Rattle.matching.proofs.may_match.Goals as goal
 
 pub offset_bounds-es-x : goal.offset_bounds-es-x

@@ -1,11 +1,8 @@
 use native.Mathlib.Omega.{arith}
-use borrow.Author.Rules.{rules}
-use mathlib.Core.Logic.{⊎_elim}
-use mathlib.Core.Path.{◌≡◌, refl}
-use Prim.Native.Nat.{◌-◌, ◌≤◌}
+use mathlib.Core.Path.{refl}
 use Rattle.base.specs.Pick.{told}
 use Rattle.ranges.specs.Fit.{fit-entry, fit-legs}
-use Rattle.matching.specs.Places.{Looked, look-not, look-before, look-above, look-idle, look-here, look-all, acts-on}
+use Rattle.matching.specs.Places.{look-not, look-before, look-above, look-idle, look-here, look-all, acts-on}
 use Rattle.matching.specs.Searches.{searched-none}
 use Rattle.matching.proofs.next_pass.Goals as goal
 use Rattle.matching.proofs.next_pass.Goals.{then-day_order+then-from-at+then-at-best+then-acts_in, then-day_order+then-from-at+then-at-best+else-acts_in, then-day_order+then-from-at+else-at-best, then-day_order+else-from-at, else-day_order}
@@ -61,12 +58,13 @@ loop-i-smaller c = omega arith
 -- src/lib.rt:103:5
 pub loop-i-preserved : goal.loop-i-preserved
 loop-i-preserved c =
-    elim c.if-day_order.branch
-    [ then-day_order+then-from-at+then-at-best+then-acts_in w ↦ rw w.best-is (omega arith, look-here _ _ _ _ _ _ c.loop-i.invariant.1 c.loop-i-test.true refl (told c.day_order.ensures w.if-day_order.true) w.if-from-at.true w.if-at-best.true (told (acts-on _ _ _ _ _ c.loop-i.i c.requires.1 c.requires.4 c.requires.5 (told c.day_order.ensures w.if-day_order.true) w.acts_in.ensures) w.if-acts_in.true))
-    | then-day_order+then-from-at+then-at-best+else-acts_in w ↦ rw w.best-is (omega arith, look-idle _ _ _ _ _ _ c.loop-i.invariant.1 c.loop-i-test.true refl (told (acts-on _ _ _ _ _ c.loop-i.i c.requires.1 c.requires.4 c.requires.5 (told c.day_order.ensures w.if-day_order.true) w.acts_in.ensures) w.if-acts_in.false))
-    | then-day_order+then-from-at+else-at-best w ↦ rw w.best-is (omega arith, look-above _ _ _ _ _ _ c.loop-i.invariant.1 c.loop-i-test.true refl w.if-at-best.false)
-    | then-day_order+else-from-at w ↦ rw w.best-is (omega arith, look-before _ _ _ _ _ _ c.loop-i.invariant.1 c.loop-i-test.true refl w.if-from-at.false)
-    | else-day_order w ↦ rw w.best-is (omega arith, look-not _ _ _ _ _ _ c.loop-i.invariant.1 c.loop-i-test.true refl (told c.day_order.ensures w.if-day_order.false)) ]
+    elim c.if-day_order.branch [
+      | then-day_order+then-from-at+then-at-best+then-acts_in w ↦ rw w.best-is (omega arith, look-here _ _ _ _ _ _ c.loop-i.invariant.1 c.loop-i-test.true refl (told c.day_order.ensures w.if-day_order.true) w.if-from-at.true w.if-at-best.true (told (acts-on _ _ _ _ _ c.loop-i.i c.requires.1 c.requires.4 c.requires.5 (told c.day_order.ensures w.if-day_order.true) w.acts_in.ensures) w.if-acts_in.true))
+      | then-day_order+then-from-at+then-at-best+else-acts_in w ↦ rw w.best-is (omega arith, look-idle _ _ _ _ _ _ c.loop-i.invariant.1 c.loop-i-test.true refl (told (acts-on _ _ _ _ _ c.loop-i.i c.requires.1 c.requires.4 c.requires.5 (told c.day_order.ensures w.if-day_order.true) w.acts_in.ensures) w.if-acts_in.false))
+      | then-day_order+then-from-at+else-at-best w ↦ rw w.best-is (omega arith, look-above _ _ _ _ _ _ c.loop-i.invariant.1 c.loop-i-test.true refl w.if-at-best.false)
+      | then-day_order+else-from-at w ↦ rw w.best-is (omega arith, look-before _ _ _ _ _ _ c.loop-i.invariant.1 c.loop-i-test.true refl w.if-from-at.false)
+      | else-day_order w ↦ rw w.best-is (omega arith, look-not _ _ _ _ _ _ c.loop-i.invariant.1 c.loop-i-test.true refl (told c.day_order.ensures w.if-day_order.false))
+    ]
 
 -- src/lib.rt:89:1
 pub returns : goal.returns

@@ -1,5 +1,4 @@
 use Rattle.rules.specs.National.{bounds_of}
-use borrow.Author.Rules.{rules}
 use Rattle.national.proofs.bounds.Goals as goal
 
 pub returns : goal.returns

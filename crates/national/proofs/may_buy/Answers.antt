@@ -1,6 +1,5 @@
 use Rattle.rules.specs.National.{may_buy}
 use Rattle.base.specs.Pick.{tests}
-use borrow.Author.Rules.{rules}
 use Rattle.national.proofs.may_buy.Goals as goal
 
 pub returns-then-w-eq0 : goal.returns-then-w-eq0

@@ -1,7 +1,6 @@
 use Rattle.national.specs.National.{meet-yes, meet-no}
 use Rattle.base.specs.Pick.{told}
 use mathlib.Core.Path.{◌∙◌}
-use borrow.Author.Rules.{rules}
 use Rattle.national.proofs.may_meet.Goals as goal
 
 pub returns-then-may_buy : goal.returns-then-may_buy

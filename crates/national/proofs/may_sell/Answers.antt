@@ -1,6 +1,5 @@
 use Rattle.rules.specs.National.{may_sell}
 use Rattle.base.specs.Pick.{tests}
-use borrow.Author.Rules.{rules}
 use Rattle.national.proofs.may_sell.Goals as goal
 
 pub returns-then-w-eq0 : goal.returns-then-w-eq0

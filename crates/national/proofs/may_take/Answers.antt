@@ -1,6 +1,5 @@
 use mathlib.Core.Path.{◌∙◌}
 use Rattle.national.specs.National.{take-buy, take-sell}
-use borrow.Author.Rules.{rules}
 use Rattle.national.proofs.may_take.Goals as goal
 
 pub returns-then-side-eq0 : goal.returns-then-side-eq0

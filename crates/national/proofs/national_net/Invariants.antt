@@ -1,11 +1,7 @@
-use native.Mathlib.Omega.{arith}
-use borrow.Author.Rules.{rules}
 use Prim.Native.Nat.{◌≤◌, ◌-◌}
-use mathlib.Core.Path.{◌≡◌, ◌∙◌}
-use Rattle.base.specs.Walks.{stored, stored-first, stored_next}
-use Rattle.ranges.specs.Fit.{fit-leg}
+use mathlib.Core.Path.{◌≡◌}
+use Rattle.base.specs.Walks.{stored}
 use Rattle.rules.specs.National.{national_at}
-use Rattle.national.specs.National.{walked-most, price-is, walked_all, walked-missing}
 use Rattle.national.proofs.national_net.Given as goal
 
 abbrev pub invariant-loop-i : goal.invariant-loop-i

@@ -1,5 +1,4 @@
 use Rattle.base.specs.Pick.{tests}
-use borrow.Author.Rules.{rules}
 use Rattle.national.proofs.national_price.Goals as goal
 
 pub returns-then-on-eq0 : goal.returns-then-on-eq0

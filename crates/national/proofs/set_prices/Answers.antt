@@ -1,7 +1,6 @@
 use Rattle.rules.specs.State.{with_national}
 use Rattle.rules.specs.National.{on_national}
 use mathlib.Core.Path.{refl}
-use borrow.Author.Rules.{rules}
 use Rattle.national.proofs.set_prices.Goals as goal
 
 pub returns : goal.returns

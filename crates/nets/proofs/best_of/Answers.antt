@@ -1,8 +1,5 @@
 use Rattle.nets.specs.Bests.{best-first, best-next, best-last, best-fits}
 use Rattle.ranges.specs.Fit.{fit-order}
-use Rattle.rules.specs.Nets.{best_after}
-use Prim.Native.Nat.{◌≤◌, ◌-◌}
-use mathlib.Core.Path.{◌≡◌}
 use native.Mathlib.Omega.{arith}
 use Rattle.nets.proofs.best_of.Goals as goal
 

@@ -1,6 +1,5 @@
 use Rattle.nets.specs.Bests.{with-afresh, with-equal, with-worse, with_none}
 use Rattle.base.specs.Pick.{told}
-use borrow.Author.Rules.{rules}
 use Rattle.nets.proofs.best_with.Goals as goal
 
 pub returns-then-starts_afresh : goal.returns-then-starts_afresh

@@ -2,7 +2,6 @@ use Rattle.base.specs.Pick.{pick_true, pick-false}
 use borrow.Author.Tests.{eq-eqb, ne_eqb}
 use mathlib.Core.Path.{sym, ◌∙◌}
 use Rattle.rules.specs.Nets.{betters}
-use borrow.Author.Rules.{rules}
 use Rattle.nets.proofs.betters.Goals as goal
 
 -- src/lib.rt:275:9

@@ -1,9 +1,7 @@
-use Rattle.rules.specs.Nets.{known, priced_at}
-use Rattle.base.specs.Walks.{all_n, all_none, all_more, all-stop}
+use Rattle.rules.specs.Nets.{known}
+use Rattle.base.specs.Walks.{all_none, all_more, all-stop}
 use borrow.Author.Tests.{lt-ltb, le-ltb}
-use mathlib.Core.Bool.{true}
 use mathlib.Core.Path.{◌≡◌, sym}
-use Prim.Native.Nat.{◌≤◌, ◌-◌}
 use native.Mathlib.Omega.{arith}
 use Rattle.nets.proofs.known.Goals as goal
 

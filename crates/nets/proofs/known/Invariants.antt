@@ -1,10 +1,8 @@
-use Rattle.rules.specs.Nets.{known, priced_at}
-use Rattle.base.specs.Walks.{all_n, all_none, all_more, all-stop}
-use borrow.Author.Tests.{lt-ltb, le-ltb}
+use Rattle.rules.specs.Nets.{priced_at}
+use Rattle.base.specs.Walks.{all_n}
 use mathlib.Core.Bool.{true}
-use mathlib.Core.Path.{◌≡◌, sym}
+use mathlib.Core.Path.{◌≡◌}
 use Prim.Native.Nat.{◌≤◌, ◌-◌}
-use native.Mathlib.Omega.{arith}
 use Rattle.nets.proofs.known.Given as goal
 
 abbrev pub invariant-loop-i : goal.invariant-loop-i

@@ -1,13 +1,8 @@
-use Prim.Native.Nat.{◌<◌, ℕ, ◌≤◌, ◌-◌}
-use Rattle.nets.specs.Legs.{FitSums, leg-found, Netting, leg_best, netting-first, netting-next, sums-fit, legs-found, legs-missing}
-use Rattle.rules.specs.Nets.{best_of, leg_price, best_after, price_at}
-use Rattle.rules.specs.declared.Best.{Best}
-use mathlib.Core.Path.{ap, ◌≡◌}
-use Rattle.nets.specs.Bests.{best-first, best-next, best-fits, of-fits}
-use Rattle.ranges.specs.Fit.{fit-order, fit-leg}
-use Rattle.base.specs.Walks.{stored, stored-first, stored_next}
-use borrow.Author.Rules.{rules}
-use native.Mathlib.Omega.{arith}
+use Prim.Native.Nat.{◌≤◌, ◌-◌}
+use Rattle.nets.specs.Legs.{Netting, leg_best}
+use Rattle.rules.specs.Nets.{best_after, price_at}
+use mathlib.Core.Path.{◌≡◌}
+use Rattle.base.specs.Walks.{stored}
 use Rattle.nets.proofs.leg_bests.Given as goal
 
 abbrev pub invariant-loop-j : goal.invariant-loop-j

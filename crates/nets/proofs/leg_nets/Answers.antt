@@ -3,7 +3,6 @@ use borrow.Author.Tests.{eq-eqb, ne_eqb}
 use mathlib.Core.Path.{sym}
 use Rattle.rules.specs.Nets.{nets_in}
 use Rattle.nets.specs.Legs.{net-is}
-use borrow.Author.Rules.{rules}
 use Rattle.nets.proofs.leg_nets.Goals as goal
 
 -- src/lib.rt:279:9

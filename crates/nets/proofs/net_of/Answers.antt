@@ -1,9 +1,8 @@
 use Rattle.nets.specs.Nets.{net-unknown, net-known, weighed-most}
 use Rattle.base.specs.Pick.{told}
 use native.Mathlib.Omega.{arith}
-use Prim.Native.Nat.{ℕ, ◌≤◌, ◌*◌}
+use Prim.Native.Nat.{◌≤◌, ◌*◌}
 use Rattle.rules.specs.Nets.{weighed}
-use borrow.Author.Rules.{rules}
 use Rattle.nets.proofs.net_of.Goals as goal
 
 pub overflow_add-result : goal.overflow_add-result

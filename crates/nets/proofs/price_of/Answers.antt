@@ -1,8 +1,5 @@
-use borrow.Author.Rules.{rules}
 use native.Mathlib.Omega.{arith}
-use mathlib.Core.Path.{◌≡◌}
-use Prim.Native.Nat.{◌≤◌, ◌-◌}
-use Rattle.nets.specs.Bests.{price_after, price-first, price-next, price-last}
+use Rattle.nets.specs.Bests.{price-first, price-next, price-last}
 use Rattle.nets.proofs.price_of.Goals as goal
 
 -- src/lib.rt:299:5

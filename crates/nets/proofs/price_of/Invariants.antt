@@ -1,8 +1,6 @@
-use borrow.Author.Rules.{rules}
-use native.Mathlib.Omega.{arith}
 use mathlib.Core.Path.{◌≡◌}
 use Prim.Native.Nat.{◌≤◌, ◌-◌}
-use Rattle.nets.specs.Bests.{price_after, price-first, price-next, price-last}
+use Rattle.nets.specs.Bests.{price_after}
 use Rattle.nets.proofs.price_of.Given as goal
 
 abbrev pub invariant-loop-i : goal.invariant-loop-i

@@ -1,6 +1,5 @@
 use Rattle.base.specs.Pick.{told}
 use Rattle.nets.specs.Bests.{price-afresh, price-kept, price-none}
-use borrow.Author.Rules.{rules}
 use Rattle.nets.proofs.price_with.Goals as goal
 
 -- src/lib.rt:287:13

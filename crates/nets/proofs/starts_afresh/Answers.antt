@@ -2,7 +2,6 @@ use Rattle.rules.specs.Nets.{starts_afresh}
 use mathlib.Core.Path.{sym, ◌∙◌}
 use borrow.Author.Tests.{eq-eqb, ne_eqb}
 use Rattle.base.specs.Pick.{pick_true, pick-false}
-use borrow.Author.Rules.{rules}
 use Rattle.nets.proofs.starts_afresh.Goals as goal
 
 pub returns-then-p-eq0 : goal.returns-then-p-eq0

@@ -1,7 +1,6 @@
 use Rattle.nets.specs.Nets.{weight-most}
 use Rattle.nets.specs.Legs.{sums_with}
 use native.Mathlib.Omega.{arith}
-use borrow.Author.Rules.{rules}
 use Rattle.nets.proofs.sums_with.Goals as goal
 
 pub whole_units-units-requires : goal.whole_units-units-requires

@@ -6,7 +6,6 @@ use Rattle.base.specs.Walks.{sum_n}
 use lib.ListN.{get_or}
 use native.Mathlib.Numerals.{add-one}
 use mathlib.Core.Path.{◌≡◌, refl}
-use Prim.Native.Nat.{◌≤◌, ◌-◌}
 use native.Mathlib.Omega.{arith}
 use Rattle.nets.proofs.weighed.Goals as goal
 

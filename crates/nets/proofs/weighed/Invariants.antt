@@ -1,13 +1,6 @@
-use Rattle.nets.specs.Nets.{weight-most, weighed-most}
-use Rattle.ranges.specs.Fit.{fit-leg}
-use Rattle.rules.specs.State.{no_leg}
 use Rattle.rules.specs.Nets.{weighed}
-use Rattle.base.specs.Walks.{sum_n}
-use lib.ListN.{get_or}
-use native.Mathlib.Numerals.{add-one}
-use mathlib.Core.Path.{◌≡◌, refl}
+use mathlib.Core.Path.{◌≡◌}
 use Prim.Native.Nat.{◌≤◌, ◌-◌}
-use native.Mathlib.Omega.{arith}
 use Rattle.nets.proofs.weighed.Given as goal
 
 abbrev pub invariant-loop-i : goal.invariant-loop-i

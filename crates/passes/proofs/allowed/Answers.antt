@@ -1,5 +1,4 @@
 use Rattle.passes.specs.Passes.{turns}
-use borrow.Author.Rules.{rules}
 use Rattle.passes.proofs.allowed.Goals as goal
 
 pub returns-then-may_take : goal.returns-then-may_take

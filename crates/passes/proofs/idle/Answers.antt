@@ -1,5 +1,4 @@
 use Rattle.passes.specs.Passes.{stops-by, stops-in}
-use borrow.Author.Rules.{rules}
 use Rattle.passes.proofs.idle.Goals as goal
 
 pub returns : goal.returns

@@ -1,5 +1,4 @@
 use Rattle.passes.specs.Passes.{stops-by}
-use borrow.Author.Rules.{rules}
 use Rattle.passes.proofs.legs_idle.Goals as goal
 
 pub returns : goal.returns

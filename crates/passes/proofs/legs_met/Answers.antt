@@ -1,7 +1,6 @@
 use mathlib.Core.Path.{sym, ◌∙◌}
 use Rattle.base.specs.Pick.{pick_true, pick-false, told}
 use Rattle.passes.specs.Passes.{legs_met}
-use borrow.Author.Rules.{rules}
 use Rattle.passes.proofs.legs_met.Goals as goal
 
 pub leg_bests-requires : goal.leg_bests-requires

@@ -1,10 +1,8 @@
 use Rattle.fills.specs.Gives.{give-nobody}
 use Rattle.rules.specs.Passes.{meet_limit}
-use Rattle.rules.specs.declared.State.{State}
 use Rattle.rules.specs.declared.Allocation.{Allocation}
 use Rattle.records.specs.Done.{in-room, in-done}
-use mathlib.Core.Path.{◌≡◌, ap}
-use borrow.Author.Rules.{rules}
+use mathlib.Core.Path.{ap}
 use Rattle.passes.proofs.meet_limit.Goals as goal
 
 pub give_shared-requires : goal.give_shared-requires

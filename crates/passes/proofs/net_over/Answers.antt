@@ -1,6 +1,5 @@
 use mathlib.Core.Path.{sym, ◌∙◌}
 use Rattle.base.specs.Pick.{pick_true, pick-false}
-use borrow.Author.Rules.{rules}
 use Rattle.passes.proofs.net_over.Goals as goal
 
 pub returns-then-legs : goal.returns-then-legs

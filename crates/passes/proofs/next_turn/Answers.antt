@@ -1,4 +1,3 @@
-use borrow.Author.Rules.{rules}
 use Rattle.base.specs.Pick.{tests}
 use Rattle.passes.proofs.next_turn.Goals as goal
 

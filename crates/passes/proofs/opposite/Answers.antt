@@ -1,7 +1,6 @@
-use mathlib.Core.Path.{◌≡◌, sym, ap, ◌∙◌}
+use mathlib.Core.Path.{sym, ap, ◌∙◌}
 use Rattle.rules.specs.declared.Allocation.{Allocation}
 use Rattle.passes.specs.Passes.{opposite_in}
-use borrow.Author.Rules.{rules}
 use Rattle.passes.proofs.opposite.Goals as goal
 
 pub returns-in-LegsOnly : goal.returns-in-LegsOnly

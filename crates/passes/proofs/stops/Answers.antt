@@ -1,6 +1,5 @@
 use Rattle.passes.specs.Passes.{stops_at}
 use mathlib.Core.Path.{sym, ap}
-use borrow.Author.Rules.{rules}
 use Rattle.passes.proofs.stops.Goals as goal
 
 pub returns-in-Stop : goal.returns-in-Stop

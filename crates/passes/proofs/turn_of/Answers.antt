@@ -1,5 +1,4 @@
 use Rattle.passes.specs.Passes.{turn_in}
-use borrow.Author.Rules.{rules}
 use Rattle.passes.proofs.turn_of.Goals as goal
 
 pub returns : goal.returns

@@ -1,9 +1,7 @@
 use mathlib.Core.Path.{◌≡◌}
 use Prim.Native.Nat.{◌≤◌, ◌-◌}
-use native.Mathlib.Omega.{arith}
-use borrow.Author.Rules.{rules}
-use Rattle.base.specs.Walks.{walk, walk_first, walk-next}
-use Rattle.rules.specs.Passes.{best_opposite, limit_step}
+use Rattle.base.specs.Walks.{walk}
+use Rattle.rules.specs.Passes.{limit_step}
 use Rattle.quotas.proofs.best_opposite.Given as goal
 
 abbrev pub invariant-loop-i : goal.invariant-loop-i

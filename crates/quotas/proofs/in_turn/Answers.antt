@@ -1,9 +1,7 @@
-use mathlib.Core.Path.{◌≡◌, ◌∙◌}
-use Prim.Native.Nat.{◌≤◌, ◌-◌}
+use mathlib.Core.Path.{◌∙◌}
 use native.Mathlib.Omega.{arith}
-use borrow.Author.Rules.{rules}
-use Rattle.base.specs.Walks.{sum_n, slot, stored, stored-first, stored_next, stored_last}
-use Rattle.rules.specs.Quotas.{in_turn, in_turn_at}
+use Rattle.base.specs.Walks.{sum_n, stored-first, stored_next, stored_last}
+use Rattle.rules.specs.Quotas.{in_turn}
 use Rattle.quotas.specs.Laws.{in_turn-is, in_turn-left}
 use Rattle.quotas.proofs.in_turn.Goals as goal
 

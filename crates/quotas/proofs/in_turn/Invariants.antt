@@ -1,10 +1,7 @@
-use mathlib.Core.Path.{◌≡◌, ◌∙◌}
+use mathlib.Core.Path.{◌≡◌}
 use Prim.Native.Nat.{◌≤◌, ◌-◌}
-use native.Mathlib.Omega.{arith}
-use borrow.Author.Rules.{rules}
-use Rattle.base.specs.Walks.{sum_n, slot, stored, stored-first, stored_next, stored_last}
-use Rattle.rules.specs.Quotas.{in_turn, in_turn_at}
-use Rattle.quotas.specs.Laws.{in_turn-is, in_turn-left}
+use Rattle.base.specs.Walks.{sum_n, slot, stored}
+use Rattle.rules.specs.Quotas.{in_turn_at}
 use Rattle.quotas.proofs.in_turn.Given as goal
 
 abbrev pub invariant-loop-i : goal.invariant-loop-i

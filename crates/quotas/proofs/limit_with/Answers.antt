@@ -1,4 +1,3 @@
-use borrow.Author.Rules.{rules}
 use Rattle.base.specs.Pick.{tests, told}
 use Rattle.rules.specs.Passes.{limit_with}
 use Rattle.quotas.proofs.limit_with.Goals as goal

@@ -1,6 +1,5 @@
 use mathlib.Core.Path.{refl}
 use native.Mathlib.Omega.{arith}
-use borrow.Author.Rules.{rules}
 use Rattle.rules.specs.Quotas.{portion}
 use Rattle.quotas.specs.Bounds.{portion-fits}
 use Rattle.quotas.proofs.portion.Goals as goal

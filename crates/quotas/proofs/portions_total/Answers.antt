@@ -1,10 +1,9 @@
 use mathlib.Core.Path.{◌≡◌, refl}
-use Prim.Native.Nat.{◌≤◌, ◌-◌}
+use Prim.Native.Nat.{◌≤◌}
 use native.Mathlib.Numerals.{add-one}
 use native.Mathlib.Omega.{arith}
 use lib.ListN.{get_or}
 use Rattle.base.specs.Walks.{sum_n}
-use Rattle.rules.specs.Quotas.{portion_at}
 use Rattle.quotas.specs.Bounds.{portion-le, portions-le}
 use Rattle.quotas.proofs.portions_total.Goals as goal
 

@@ -1,10 +1,8 @@
-use mathlib.Core.Path.{◌≡◌, ap}
+use mathlib.Core.Path.{ap}
 use Prim.Native.Nat.{ℕ, ◌≤◌, ◌-◌}
 use native.Mathlib.Omega.{arith}
 use lib.ListN.{get_or}
-use borrow.Author.Rules.{rules}
-use Rattle.base.specs.Walks.{sum_n, stored, stored-first, stored_next, stored_last}
-use Rattle.rules.specs.Quotas.{holder_at, shared_at}
+use Rattle.base.specs.Walks.{sum_n, stored-first, stored_next, stored_last}
 use Rattle.quotas.specs.Laws.{one_left, portions-fit, share-parts, share-whole, shared-is}
 use Rattle.quotas.specs.Bounds.{one-le, portion-le}
 use Rattle.quotas.proofs.share.Goals as goal

@@ -1,12 +1,7 @@
-use mathlib.Core.Path.{◌≡◌, ap}
-use Prim.Native.Nat.{ℕ, ◌≤◌, ◌-◌}
-use native.Mathlib.Omega.{arith}
-use lib.ListN.{get_or}
-use borrow.Author.Rules.{rules}
-use Rattle.base.specs.Walks.{sum_n, stored, stored-first, stored_next, stored_last}
+use mathlib.Core.Path.{◌≡◌}
+use Prim.Native.Nat.{◌≤◌, ◌-◌}
+use Rattle.base.specs.Walks.{sum_n, stored}
 use Rattle.rules.specs.Quotas.{holder_at, shared_at}
-use Rattle.quotas.specs.Laws.{one_left, portions-fit, share-parts, share-whole, shared-is}
-use Rattle.quotas.specs.Bounds.{one-le, portion-le}
 use Rattle.quotas.proofs.share.Given as goal
 
 abbrev pub invariant-loop-i : goal.invariant-loop-i

@@ -1,9 +1,6 @@
-use mathlib.Core.Path.{◌≡◌}
-use Prim.Native.Nat.{◌≤◌, ◌-◌}
 use native.Mathlib.Omega.{arith}
-use borrow.Author.Rules.{rules}
-use Rattle.base.specs.Walks.{stored, stored-first, stored_next, stored_last}
-use Rattle.rules.specs.Passes.{size_at, sizes}
+use Rattle.base.specs.Walks.{stored-first, stored_next, stored_last}
+use Rattle.rules.specs.Passes.{sizes}
 use Rattle.quotas.proofs.sizes.Goals as goal
 
 pub loop-i-init : goal.loop-i-init

@@ -1,9 +1,7 @@
 use mathlib.Core.Path.{◌≡◌}
 use Prim.Native.Nat.{◌≤◌, ◌-◌}
-use native.Mathlib.Omega.{arith}
-use borrow.Author.Rules.{rules}
-use Rattle.base.specs.Walks.{stored, stored-first, stored_next, stored_last}
-use Rattle.rules.specs.Passes.{size_at, sizes}
+use Rattle.base.specs.Walks.{stored}
+use Rattle.rules.specs.Passes.{size_at}
 use Rattle.quotas.proofs.sizes.Given as goal
 
 abbrev pub invariant-loop-i : goal.invariant-loop-i

@@ -1,8 +1,6 @@
-use mathlib.Core.Path.{◌≡◌, refl}
+use mathlib.Core.Path.{◌≡◌}
 use Prim.Native.Nat.{◌≤◌, ◌-◌}
-use native.Mathlib.Numerals.{add-one}
-use native.Mathlib.Omega.{arith}
-use Rattle.base.specs.Walks.{sum-le, sum_n, slot}
+use Rattle.base.specs.Walks.{sum_n, slot}
 use Rattle.quotas.proofs.total.Given as goal
 
 abbrev pub invariant-loop-i : goal.invariant-loop-i

@@ -1,6 +1,5 @@
 use Rattle.ready.specs.Lots.{by_first, by-better, by_equal, by-worse}
 use Rattle.base.specs.Pick.{told}
-use borrow.Author.Rules.{rules}
 use Rattle.ready.proofs.best_by.Goals as goal
 
 pub returns-then-p-eq0 : goal.returns-then-p-eq0

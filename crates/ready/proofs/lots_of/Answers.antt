@@ -1,8 +1,5 @@
-use Rattle.ready.specs.Lots.{Walked, walked-first, walked_skip, walked_next, walked-last, own-fits}
+use Rattle.ready.specs.Lots.{walked-first, walked_skip, walked_next, walked-last, own-fits}
 use Rattle.ranges.specs.Fit.{fit-order}
-use mathlib.Core.Logic.{⊎_elim}
-use Prim.Native.Nat.{◌≤◌, ◌-◌}
-use borrow.Author.Rules.{rules}
 use native.Mathlib.Omega.{arith}
 use Rattle.ready.proofs.lots_of.Goals as goal
 use Rattle.ready.proofs.lots_of.Goals.{then-o-gt0, else-o-gt0}
@@ -45,11 +42,12 @@ loop-i-smaller c = omega arith
 
 pub loop-i-preserved : goal.loop-i-preserved
 loop-i-preserved c = (
-      omega arith,
-      (elim c.if-o-gt0.branch [
-      then-o-gt0 w ↦ rw (w.ps-is, w.ls-is) (walked_next _ _ (fit-order c.requires.0 _) c.loop-i.invariant.1 w.best_by-b.ensures)
-    | else-o-gt0 w ↦ rw (w.ps-is, w.ls-is) (walked_skip _ _ (omega (arith, w.if-o-gt0.false)) c.loop-i.invariant.1) ]),
-    )
+  omega arith,
+  (elim c.if-o-gt0.branch [
+    | then-o-gt0 w ↦ rw (w.ps-is, w.ls-is) (walked_next _ _ (fit-order c.requires.0 _) c.loop-i.invariant.1 w.best_by-b.ensures)
+    | else-o-gt0 w ↦ rw (w.ps-is, w.ls-is) (walked_skip _ _ (omega (arith, w.if-o-gt0.false)) c.loop-i.invariant.1)
+  ]),
+)
 
 pub returns : goal.returns
 returns c = walked-last _ c.requires.1 (omega arith) c.loop-i.invariant.1

@@ -1,9 +1,5 @@
-use Rattle.ready.specs.Lots.{Walked, walked-first, walked_skip, walked_next, walked-last, own-fits}
-use Rattle.ranges.specs.Fit.{fit-order}
-use mathlib.Core.Logic.{⊎_elim}
+use Rattle.ready.specs.Lots.{Walked}
 use Prim.Native.Nat.{◌≤◌, ◌-◌}
-use borrow.Author.Rules.{rules}
-use native.Mathlib.Omega.{arith}
 use Rattle.ready.proofs.lots_of.Given as goal
 
 abbrev pub invariant-loop-i : goal.invariant-loop-i

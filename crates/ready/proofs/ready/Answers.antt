@@ -1,13 +1,8 @@
-use Rattle.ready.specs.Ready.{ready_leg, ready_by}
+use Rattle.ready.specs.Ready.{ready_by}
 use Rattle.ready.specs.Lots.{other-most, leg-ready, leg-short}
 use Rattle.ranges.specs.Fit.{fit-leg}
-use Rattle.rules.specs.State.{no_leg}
-use Rattle.base.specs.Walks.{all_n, all_none, all_more, all-stop}
-use lib.ListN.{get_or}
-use mathlib.Core.Bool.{true}
+use Rattle.base.specs.Walks.{all_none, all_more, all-stop}
 use mathlib.Core.Path.{◌≡◌, sym}
-use Prim.Native.Nat.{ℕ, ◌≤◌, ◌-◌}
-use borrow.Author.Rules.{rules}
 use native.Mathlib.Omega.{arith}
 use Rattle.ready.proofs.ready.Goals as goal
 

@@ -1,14 +1,10 @@
-use Rattle.ready.specs.Ready.{ready_leg, ready_by}
-use Rattle.ready.specs.Lots.{other-most, leg-ready, leg-short}
-use Rattle.ranges.specs.Fit.{fit-leg}
+use Rattle.ready.specs.Ready.{ready_leg}
 use Rattle.rules.specs.State.{no_leg}
-use Rattle.base.specs.Walks.{all_n, all_none, all_more, all-stop}
+use Rattle.base.specs.Walks.{all_n}
 use lib.ListN.{get_or}
 use mathlib.Core.Bool.{true}
-use mathlib.Core.Path.{◌≡◌, sym}
+use mathlib.Core.Path.{◌≡◌}
 use Prim.Native.Nat.{ℕ, ◌≤◌, ◌-◌}
-use borrow.Author.Rules.{rules}
-use native.Mathlib.Omega.{arith}
 use Rattle.ready.proofs.ready.Given as goal
 
 abbrev pub invariant-loop-i : goal.invariant-loop-i

@@ -3,7 +3,6 @@ use mir.Facts.{to_z-of_z}
 use mir.Val.{to_z, of_z}
 use mir.Syntax.{w32}
 use mathlib.Core.Path.{ap, ◌∙◌}
-use borrow.Author.Rules.{rules}
 use Rattle.records.proofs.cents.Goals as goal
 
 pub overflow_sub-result : goal.overflow_sub-result

@@ -1,6 +1,5 @@
 use mathlib.Core.Path.{sym, ap}
 use Rattle.rules.specs.Records.{kind_number}
-use borrow.Author.Rules.{rules}
 use Rattle.records.proofs.kind_number.Goals as goal
 
 pub returns-in-WholeFill : goal.returns-in-WholeFill

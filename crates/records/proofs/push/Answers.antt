@@ -7,7 +7,6 @@ use mir.Facts.{to_z_pos, to_z-of_z}
 use lib.ListN.{length-set}
 use native.Mathlib.Omega.{arith}
 use Prim.Native.Nat.{◌<◌, ◌^◌}
-use borrow.Author.Rules.{rules}
 use Rattle.records.proofs.push.Goals as goal
 
 pub cents-price-requires : goal.cents-price-requires

@@ -1,5 +1,4 @@
 use Rattle.refusals.specs.Refusing.{withdraws, is-better, no-better}
-use borrow.Author.Rules.{rules}
 use Rattle.refusals.proofs.betters_nothing.Goals as goal
 
 pub returns-then-e-eq0 : goal.returns-then-e-eq0

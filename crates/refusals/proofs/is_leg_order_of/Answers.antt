@@ -1,6 +1,5 @@
 use Rattle.rules.specs.Refusals.{is_leg_order_of}
 use Rattle.rules.specs.Events.{live_order}
-use borrow.Author.Rules.{rules}
 use Rattle.refusals.proofs.is_leg_order_of.Goals as goal
 
 pub returns : goal.returns

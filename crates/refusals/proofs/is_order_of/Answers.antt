@@ -1,5 +1,4 @@
 use Rattle.refusals.specs.Refusing.{sweep-not, order-live}
-use borrow.Author.Rules.{rules}
 use Rattle.refusals.proofs.is_order_of.Goals as goal
 
 pub returns-then-e-eq4 : goal.returns-then-e-eq4

@@ -1,8 +1,7 @@
 use Rattle.refusals.specs.Refusing.{found, found_none}
-use Rattle.base.specs.Walks.{Passed, passed_first, passed-next}
-use Rattle.rules.specs.Refusals.{started_by, is_starter}
+use Rattle.base.specs.Walks.{passed_first, passed-next}
+use Rattle.rules.specs.Refusals.{is_starter}
 use borrow.Author.Tests.{eq-eqb, ne_eqb}
-use Prim.Native.Nat.{◌≤◌, ◌-◌}
 use native.Mathlib.Omega.{arith}
 use Rattle.refusals.proofs.is_starter.Goals as goal
 

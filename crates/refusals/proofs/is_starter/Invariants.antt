@@ -1,9 +1,6 @@
-use Rattle.refusals.specs.Refusing.{found, found_none}
-use Rattle.base.specs.Walks.{Passed, passed_first, passed-next}
-use Rattle.rules.specs.Refusals.{started_by, is_starter}
-use borrow.Author.Tests.{eq-eqb, ne_eqb}
+use Rattle.base.specs.Walks.{Passed}
+use Rattle.rules.specs.Refusals.{started_by}
 use Prim.Native.Nat.{◌≤◌, ◌-◌}
-use native.Mathlib.Omega.{arith}
 use Rattle.refusals.proofs.is_starter.Given as goal
 
 abbrev pub invariant-loop-k : goal.invariant-loop-k

@@ -1,6 +1,6 @@
 use Rattle.rules.specs.Events.{free_order_slot}
 use Rattle.refusals.specs.Refusing.{slots-full}
-use lib.ListN.{length, length-map}
+use lib.ListN.{length}
 use mathlib.Core.Path.{◌≡◌}
 use borrow.Author.Rules.{rules}
 use Rattle.refusals.proofs.leg_orders_full.Goals as goal

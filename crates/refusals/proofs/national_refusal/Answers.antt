@@ -1,6 +1,5 @@
 use Rattle.rules.specs.Refusals.{causes}
 use Rattle.refusals.specs.Refusing.{cause-here, cause-last}
-use borrow.Author.Rules.{rules}
 use Rattle.refusals.proofs.national_refusal.Goals as goal
 
 pub returns-then-bid_above_offer : goal.returns-then-bid_above_offer

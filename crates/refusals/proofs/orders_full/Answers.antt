@@ -2,7 +2,6 @@ use Rattle.rules.specs.Refusals.{orders_full}
 use Rattle.base.specs.Pick.{pick}
 use mathlib.Core.Path.{ap}
 use lib.Dec.{leb}
-use borrow.Author.Rules.{rules}
 use Rattle.refusals.proofs.orders_full.Goals as goal
 
 pub returns : goal.returns

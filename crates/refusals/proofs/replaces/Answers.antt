@@ -1,5 +1,4 @@
 use Rattle.rules.specs.Events.{old_sweep}
-use borrow.Author.Rules.{rules}
 use Rattle.refusals.proofs.replaces.Goals as goal
 
 pub returns : goal.returns

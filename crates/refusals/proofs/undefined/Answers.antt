@@ -1,6 +1,5 @@
 use Rattle.rules.specs.Refusals.{undefined}
 use mathlib.Core.Path.{refl}
-use borrow.Author.Rules.{rules}
 use Rattle.refusals.proofs.undefined.Goals as goal
 
 pub returns : goal.returns

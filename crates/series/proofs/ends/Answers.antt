@@ -1,6 +1,5 @@
 use mathlib.Core.Path.{◌∙◌}
 use Rattle.base.specs.Pick.{some-not, some-yes}
-use borrow.Author.Rules.{rules}
 use Rattle.series.proofs.ends.Goals as goal
 
 pub returns-then-h-eq0 : goal.returns-then-h-eq0

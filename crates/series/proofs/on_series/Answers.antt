@@ -1,7 +1,6 @@
 use Rattle.base.specs.Pick.{told}
 use Rattle.records.specs.Done.{done-still, done-of, room_of}
 use Rattle.series.specs.Series.{series-shuts, series-stays, series-stays-shut, series-opens}
-use borrow.Author.Rules.{rules}
 use Rattle.series.proofs.on_series.Goals as goal
 
 pub shut-requires : goal.shut-requires

@@ -3,7 +3,6 @@ use Rattle.base.specs.SetLaws.{add-lt}
 use Rattle.records.specs.Done.{done-then, done-of, room_of, room-then, room_after}
 use Rattle.series.specs.Series.{reopen-is, fit_opened}
 use Rattle.matching.specs.Matching.{fit-series}
-use borrow.Author.Rules.{rules}
 use Rattle.series.proofs.reopen.Goals as goal
 
 pub with_series-more-requires : goal.with_series-more-requires

@@ -1,12 +1,8 @@
 use Rattle.base.specs.SetLaws.{shifted}
 use Rattle.base.specs.Pick.{told}
 use Rattle.series.specs.Series.{shut-is, holding-yes, holding-not}
-use Rattle.rules.specs.Auctions.{end_holding}
-use mathlib.Core.Logic.{⊎_elim}
-use Rattle.records.specs.Done.{Visited, visit-none, visit-moves, visit-stays, visit-room, visit-all, done-length, done-of, room_of}
-use Prim.Native.Nat.{◌-◌}
+use Rattle.records.specs.Done.{visit-none, visit-moves, visit-stays, visit-room, visit-all, done-of, room_of}
 use native.Mathlib.Omega.{arith}
-use borrow.Author.Rules.{rules}
 use Rattle.series.proofs.shut.Goals as goal
 use Rattle.series.proofs.shut.Goals.{then-ends, else-ends}
 
@@ -27,8 +23,9 @@ loop-k-smaller c = omega arith
 
 pub loop-k-preserved : goal.loop-k-preserved
 loop-k-preserved c = (elim c.if-ends.branch [
-      then-ends w ↦ rw (w.space-is, w.c-is, w.m-is) (visit-moves c.loop-k.invariant c.loop-k-test.true (holding-yes _ _ _ (told c.ends.ensures w.if-ends.true)) w.end_unfilled-t.ensures)
-    | else-ends w ↦ rw (w.space-is, w.c-is, w.m-is) (visit-stays c.loop-k.invariant c.loop-k-test.true (holding-not _ _ _ (told c.ends.ensures w.if-ends.false))) ])
+  | then-ends w ↦ rw (w.space-is, w.c-is, w.m-is) (visit-moves c.loop-k.invariant c.loop-k-test.true (holding-yes _ _ _ (told c.ends.ensures w.if-ends.true)) w.end_unfilled-t.ensures)
+  | else-ends w ↦ rw (w.space-is, w.c-is, w.m-is) (visit-stays c.loop-k.invariant c.loop-k-test.true (holding-not _ _ _ (told c.ends.ensures w.if-ends.false)))
+])
 
 pub returns : goal.returns
 returns c = done-of (shut-is _ _ (shifted _ c.requires.s_bound) c.less-left.ensures c.with_opened-c.ensures) (visit-all c.loop-k.invariant c.loop-k-test.false)

@@ -1,12 +1,6 @@
-use Rattle.base.specs.SetLaws.{shifted}
-use Rattle.base.specs.Pick.{told}
-use Rattle.series.specs.Series.{shut-is, holding-yes, holding-not}
 use Rattle.rules.specs.Auctions.{end_holding}
-use mathlib.Core.Logic.{⊎_elim}
-use Rattle.records.specs.Done.{Visited, visit-none, visit-moves, visit-stays, visit-room, visit-all, done-length, done-of, room_of}
+use Rattle.records.specs.Done.{Visited}
 use Prim.Native.Nat.{◌-◌}
-use native.Mathlib.Omega.{arith}
-use borrow.Author.Rules.{rules}
 use Rattle.series.proofs.shut.Given as goal
 
 abbrev pub invariant-loop-k : goal.invariant-loop-k

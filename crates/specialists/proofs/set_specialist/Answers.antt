@@ -1,6 +1,5 @@
 use Rattle.rules.specs.State.{with_strategies}
 use Rattle.specialists.specs.Laws.{named-is}
-use borrow.Author.Rules.{rules}
 use Rattle.specialists.proofs.set_specialist.Goals as goal
 
 pub returns : goal.returns

@@ -1,6 +1,5 @@
 use native.Mathlib.Omega.{arith}
 use Rattle.specialists.specs.Laws.{shares-enough, shares-none, shares-beside}
-use borrow.Author.Rules.{rules}
 use Rattle.specialists.proofs.share_beside.Goals as goal
 
 pub returns-then-k-ge-ROWS : goal.returns-then-k-ge-ROWS

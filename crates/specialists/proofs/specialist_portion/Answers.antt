@@ -1,6 +1,5 @@
 use native.Mathlib.Omega.{arith}
 use Rattle.specialists.specs.Laws.{percentage-fits, by-percentage, by-share}
-use borrow.Author.Rules.{rules}
 use Rattle.specialists.proofs.specialist_portion.Goals as goal
 
 pub overflow_mul-by_percentage : goal.overflow_mul-by_percentage

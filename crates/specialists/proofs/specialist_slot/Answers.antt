@@ -1,10 +1,7 @@
-use Prim.Native.Nat.{◌≤◌, ◌-◌}
 use native.Mathlib.Omega.{arith}
 use Rattle.base.specs.Pick.{told}
-use Rattle.base.specs.Walks.{Passed, passed_first, passed-next, passed_here, passed-all}
-use Rattle.rules.specs.Passes.{sweep_at}
+use Rattle.base.specs.Walks.{passed_first, passed-next, passed_here, passed-all}
 use Rattle.specialists.specs.Laws.{slot-named, slot-none}
-use borrow.Author.Rules.{rules}
 use Rattle.specialists.proofs.specialist_slot.Goals as goal
 
 pub returns-then-member-eq0 : goal.returns-then-member-eq0

@@ -1,10 +1,6 @@
 use Prim.Native.Nat.{◌≤◌, ◌-◌}
-use native.Mathlib.Omega.{arith}
-use Rattle.base.specs.Pick.{told}
-use Rattle.base.specs.Walks.{Passed, passed_first, passed-next, passed_here, passed-all}
+use Rattle.base.specs.Walks.{Passed}
 use Rattle.rules.specs.Passes.{sweep_at}
-use Rattle.specialists.specs.Laws.{slot-named, slot-none}
-use borrow.Author.Rules.{rules}
 use Rattle.specialists.proofs.specialist_slot.Given as goal
 
 abbrev pub invariant-loop-i : goal.invariant-loop-i

@@ -1,6 +1,5 @@
 use Rattle.base.specs.SetLaws.{minus-and}
 use native.Mathlib.Omega.{arith}
-use borrow.Author.Rules.{rules}
 use Rattle.states.proofs.shut_in.Goals as goal
 
 pub returns : goal.returns

@@ -1,5 +1,4 @@
 use Rattle.rules.specs.Strategies.{shut_set}
-use borrow.Author.Rules.{rules}
 use Rattle.states.proofs.shut_set.Goals as goal
 
 pub returns : goal.returns

@@ -1,14 +1,7 @@
-use Rattle.stored_nets.specs.Refreshing.{step-first, step_set, step_skip, step-last, anew-here}
-use Rattle.stored_nets.specs.Stored.{anew_at, all_anew}
-use Rattle.ranges.specs.Fit.{fit-legs}
+use Rattle.stored_nets.specs.Stored.{anew_at}
 use Rattle.base.specs.Walks.{seam}
-use Rattle.base.specs.Pick.{pick-false, told}
-use lib.ListN.{length}
-use Prim.Native.Nat.{◌≤◌, ◌-◌, ◌<◌}
-use mathlib.Core.Logic.{⊎_elim}
+use Prim.Native.Nat.{◌≤◌, ◌-◌}
 use mathlib.Core.Path.{◌≡◌}
-use borrow.Author.Rules.{rules}
-use native.Mathlib.Omega.{arith}
 use Rattle.stored_nets.proofs.appeared.Given as goal
 
 abbrev pub invariant-loop-k : goal.invariant-loop-k

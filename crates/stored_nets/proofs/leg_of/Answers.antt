@@ -1,10 +1,7 @@
 use Rattle.stored_nets.specs.Places.{leg-found, leg-missing}
-use Rattle.rules.specs.Strategies.{in_series}
-use Rattle.base.specs.Walks.{Passed, passed_first, passed-next}
+use Rattle.base.specs.Walks.{passed_first, passed-next}
 use mathlib.Core.Path.{refl}
 use borrow.Author.Tests.{ne_eqb}
-use Prim.Native.Nat.{◌≤◌, ◌-◌}
-use borrow.Author.Rules.{rules}
 use native.Mathlib.Omega.{arith}
 use Rattle.stored_nets.proofs.leg_of.Goals as goal
 

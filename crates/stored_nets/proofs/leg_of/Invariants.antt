@@ -1,11 +1,6 @@
-use Rattle.stored_nets.specs.Places.{leg-found, leg-missing}
 use Rattle.rules.specs.Strategies.{in_series}
-use Rattle.base.specs.Walks.{Passed, passed_first, passed-next}
-use mathlib.Core.Path.{refl}
-use borrow.Author.Tests.{ne_eqb}
+use Rattle.base.specs.Walks.{Passed}
 use Prim.Native.Nat.{◌≤◌, ◌-◌}
-use borrow.Author.Rules.{rules}
-use native.Mathlib.Omega.{arith}
 use Rattle.stored_nets.proofs.leg_of.Given as goal
 
 abbrev pub invariant-loop-i : goal.invariant-loop-i

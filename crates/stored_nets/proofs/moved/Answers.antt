@@ -1,13 +1,11 @@
 use Rattle.stored_nets.specs.Refreshing.{step-first, step_set, step_skip, step-last, moved_here}
 use Rattle.stored_nets.specs.Places.{leg-ratio}
 use Rattle.stored_nets.specs.Laws.{fit_at_lem}
-use Rattle.stored_nets.specs.Stored.{moved_at, all_moved}
+use Rattle.stored_nets.specs.Stored.{all_moved}
 use Rattle.ranges.specs.Fit.{fit-legs}
-use Rattle.base.specs.Walks.{seam}
 use Rattle.base.specs.Pick.{pick-false, told}
 use lib.ListN.{length}
-use Prim.Native.Nat.{◌≤◌, ◌-◌, ◌<◌}
-use mathlib.Core.Logic.{⊎_elim}
+use Prim.Native.Nat.{◌<◌}
 use mathlib.Core.Path.{◌≡◌}
 use borrow.Author.Rules.{rules}
 use native.Mathlib.Omega.{arith}
@@ -51,8 +49,9 @@ pub loop-k-preserved : goal.loop-k-preserved
 loop-k-preserved c = let n : length c.args.ns ≡ 16 = search rules in
     let h : c.loop-k.k < 16 = omega arith in
     (elim c.if-holds.branch [
-      then-holds w ↦ (omega arith, rw w.ms-is (step_set _ _ n h (moved_here c.args.ns c.args.ss c.args.s c.args.side c.loop-k.k (told c.holds.ensures w.if-holds.true) w.leg_of-l.ensures c.args.p c.args.q w.nets_moved.ensures) c.loop-k.invariant.1))
-    | else-holds w ↦ (omega arith, rw w.ms-is (step_skip _ _ n h (pick-false _ _ _ (told c.holds.ensures w.if-holds.false)) c.loop-k.invariant.1)) ])
+      | then-holds w ↦ (omega arith, rw w.ms-is (step_set _ _ n h (moved_here c.args.ns c.args.ss c.args.s c.args.side c.loop-k.k (told c.holds.ensures w.if-holds.true) w.leg_of-l.ensures c.args.p c.args.q w.nets_moved.ensures) c.loop-k.invariant.1))
+      | else-holds w ↦ (omega arith, rw w.ms-is (step_skip _ _ n h (pick-false _ _ _ (told c.holds.ensures w.if-holds.false)) c.loop-k.invariant.1))
+    ])
 
 pub returns : goal.returns
 unfolding all_moved

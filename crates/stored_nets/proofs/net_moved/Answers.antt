@@ -3,7 +3,6 @@ use Rattle.nets.specs.Nets.{weight-fits}
 use Rattle.base.specs.Pick.{tests}
 use native.Mathlib.Omega.{arith}
 use Prim.Native.Nat.{◌*◌, ◌≤◌}
-use borrow.Author.Rules.{rules}
 use Rattle.stored_nets.proofs.net_moved.Goals as goal
 
 pub returns-then-net-eq0 : goal.returns-then-net-eq0

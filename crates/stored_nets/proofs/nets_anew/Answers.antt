@@ -1,7 +1,6 @@
 use Rattle.stored_nets.specs.Stored.{nets_anew}
 use Rattle.nets.specs.Legs.{net-is}
 use Rattle.base.specs.Pick.{tests}
-use borrow.Author.Rules.{rules}
 use Rattle.stored_nets.proofs.nets_anew.Goals as goal
 
 pub returns-then-l-eq0 : goal.returns-then-l-eq0

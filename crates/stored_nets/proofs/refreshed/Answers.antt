@@ -1,7 +1,6 @@
 use Rattle.stored_nets.specs.Refreshing.{refreshed-same, refreshed-anew, refreshed-moved}
 use Rattle.rules.proofs.BetterNets.{price-most}
 use mathlib.Core.Path.{sym, ◌∙◌}
-use borrow.Author.Rules.{rules}
 use Rattle.stored_nets.proofs.refreshed.Goals as goal
 
 pub returns-then-q-p : goal.returns-then-q-p

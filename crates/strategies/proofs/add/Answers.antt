@@ -7,10 +7,6 @@ use Rattle.rules.specs.declared.LegNets.{LegNets}
 use Rattle.rules.specs.State.{with_strategies, with_nets}
 use lib.ListN.{length}
 use mathlib.Core.Path.{refl, ap, ◌∙◌}
-use borrow.Author.Rules.{rules}
-use Rattle.strategies.proofs.add.Reads as reads
-use Rattle.strategies.proofs.add.Lts as lts
-use Rattle.nets.proofs.leg_nets.Reads as leg-nets-reads
 use Rattle.strategies.proofs.add.Goals as goal
 
 -- src/lib.rt:161:9

@@ -1,7 +1,6 @@
 use Rattle.base.specs.Pick.{told}
 use Rattle.strategies.specs.Order.{add-past, add-held, add-new, add-fits}
 use Rattle.base.specs.SetLaws.{shifted}
-use borrow.Author.Rules.{rules}
 use Rattle.strategies.proofs.add_series.Goals as goal
 
 pub returns-then-s-ge32 : goal.returns-then-s-ge32

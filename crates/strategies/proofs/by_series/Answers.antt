@@ -1,8 +1,7 @@
 use mathlib.Core.Path.{refl}
 use Rattle.base.specs.Sets.{lowest_of}
-use Rattle.strategies.specs.Order.{Walking, lowest-in, walking-first, walking-next, walking-last, left-fits}
+use Rattle.strategies.specs.Order.{lowest-in, walking-first, walking-next, walking-last, left-fits}
 use Rattle.base.specs.SetLaws.{shifted}
-use borrow.Author.Rules.{rules}
 use native.Mathlib.Omega.{arith}
 use Rattle.strategies.proofs.by_series.Goals as goal
 

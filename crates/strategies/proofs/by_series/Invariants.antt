@@ -1,9 +1,4 @@
-use mathlib.Core.Path.{refl}
-use Rattle.base.specs.Sets.{lowest_of}
-use Rattle.strategies.specs.Order.{Walking, lowest-in, walking-first, walking-next, walking-last, left-fits}
-use Rattle.base.specs.SetLaws.{shifted}
-use borrow.Author.Rules.{rules}
-use native.Mathlib.Omega.{arith}
+use Rattle.strategies.specs.Order.{Walking}
 use Rattle.strategies.proofs.by_series.Given as goal
 
 abbrev pub invariant-loop-left : goal.invariant-loop-left

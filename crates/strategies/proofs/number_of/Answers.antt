@@ -1,8 +1,6 @@
-use Prim.Native.Nat.{◌-◌}
-use mathlib.Core.Path.{◌≡◌, refl}
+use mathlib.Core.Path.{refl}
 use Rattle.base.specs.Pick.{told}
-use Rattle.strategies.specs.Held.{Looking, Comparing, look-first, look-end, compare-first, compare-more, compare-stop, compare-all}
-use borrow.Author.Rules.{rules}
+use Rattle.strategies.specs.Held.{look-first, look-end, compare-first, compare-more, compare-stop, compare-all}
 use native.Mathlib.Omega.{arith}
 use Rattle.strategies.proofs.number_of.Goals as goal
 

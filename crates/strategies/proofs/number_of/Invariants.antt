@@ -1,9 +1,6 @@
 use Prim.Native.Nat.{◌-◌}
-use mathlib.Core.Path.{◌≡◌, refl}
-use Rattle.base.specs.Pick.{told}
-use Rattle.strategies.specs.Held.{Looking, Comparing, look-first, look-end, compare-first, compare-more, compare-stop, compare-all}
-use borrow.Author.Rules.{rules}
-use native.Mathlib.Omega.{arith}
+use mathlib.Core.Path.{◌≡◌}
+use Rattle.strategies.specs.Held.{Looking, Comparing}
 use Rattle.strategies.proofs.number_of.Given as goal
 
 abbrev pub invariant-loop-i : goal.invariant-loop-i

@@ -1,5 +1,4 @@
 use Rattle.strategies.specs.Order.{put-row, put-none}
-use borrow.Author.Rules.{rules}
 use Rattle.strategies.proofs.put_leg.Goals as goal
 
 pub returns-then-at-ge6 : goal.returns-then-at-ge6

@@ -1,5 +1,4 @@
 use Rattle.strategies.specs.Order.{put-found}
-use borrow.Author.Rules.{rules}
 use Rattle.strategies.proofs.put_series.Goals as goal
 
 pub returns : goal.returns

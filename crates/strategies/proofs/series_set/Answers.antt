@@ -1,9 +1,6 @@
-use Prim.Native.Nat.{◌≤◌, ◌-◌}
 use mathlib.Core.Path.{◌≡◌}
-use Rattle.base.specs.Sets.{set_n}
-use Rattle.rules.specs.Strategies.{present, series_set}
+use Rattle.rules.specs.Strategies.{series_set}
 use Rattle.strategies.specs.Order.{set_first, set_next}
-use borrow.Author.Rules.{rules}
 use native.Mathlib.Omega.{arith}
 use Rattle.strategies.proofs.series_set.Goals as goal
 

@@ -1,10 +1,7 @@
 use Prim.Native.Nat.{◌≤◌, ◌-◌}
 use mathlib.Core.Path.{◌≡◌}
 use Rattle.base.specs.Sets.{set_n}
-use Rattle.rules.specs.Strategies.{present, series_set}
-use Rattle.strategies.specs.Order.{set_first, set_next}
-use borrow.Author.Rules.{rules}
-use native.Mathlib.Omega.{arith}
+use Rattle.rules.specs.Strategies.{present}
 use Rattle.strategies.proofs.series_set.Given as goal
 
 abbrev pub invariant-loop-i : goal.invariant-loop-i

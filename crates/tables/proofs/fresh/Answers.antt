@@ -1,4 +1,3 @@
-use borrow.Author.Rules.{rules}
 use Rattle.rules.specs.State.{fresh}
 use Rattle.tables.proofs.fresh.Goals as goal
 

@@ -1,4 +1,3 @@
-use borrow.Author.Rules.{rules}
 use Rattle.terms.proofs.divided.Goals as goal
 
 pub returns : goal.returns

@@ -1,8 +1,6 @@
-use Prim.Native.Nat.{◌≤◌, ◌-◌}
 use mathlib.Core.Path.{◌≡◌}
-use Rattle.base.specs.Walks.{walk, walk_first, walk-next}
-use Rattle.rules.specs.Strategies.{divisor, divisor_step}
-use borrow.Author.Rules.{rules}
+use Rattle.base.specs.Walks.{walk_first, walk-next}
+use Rattle.rules.specs.Strategies.{divisor}
 use native.Mathlib.Omega.{arith}
 use Rattle.terms.proofs.divisor.Goals as goal
 

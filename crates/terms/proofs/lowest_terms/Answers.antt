@@ -1,8 +1,6 @@
-use Prim.Native.Nat.{◌≤◌, ◌-◌}
 use mathlib.Core.Path.{◌≡◌, sym}
 use lib.ListN.{length}
-use Rattle.base.specs.Walks.{seam, seam-first}
-use Rattle.rules.specs.Strategies.{divided_at, divisor}
+use Rattle.base.specs.Walks.{seam-first}
 use Rattle.terms.specs.Terms.{terms-next, terms-last}
 use borrow.Author.Rules.{rules}
 use native.Mathlib.Omega.{arith}

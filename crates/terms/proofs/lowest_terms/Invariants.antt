@@ -1,11 +1,7 @@
 use Prim.Native.Nat.{◌≤◌, ◌-◌}
-use mathlib.Core.Path.{◌≡◌, sym}
-use lib.ListN.{length}
-use Rattle.base.specs.Walks.{seam, seam-first}
-use Rattle.rules.specs.Strategies.{divided_at, divisor}
-use Rattle.terms.specs.Terms.{terms-next, terms-last}
-use borrow.Author.Rules.{rules}
-use native.Mathlib.Omega.{arith}
+use mathlib.Core.Path.{◌≡◌}
+use Rattle.base.specs.Walks.{seam}
+use Rattle.rules.specs.Strategies.{divided_at}
 use Rattle.terms.proofs.lowest_terms.Given as goal
 
 abbrev pub invariant-loop-i : goal.invariant-loop-i

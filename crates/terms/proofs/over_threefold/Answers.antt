@@ -1,7 +1,6 @@
 use Rattle.rules.specs.Strategies.{over_threefold}
 use Rattle.terms.specs.Terms.{smallest-most}
 use native.Mathlib.Omega.{arith}
-use borrow.Author.Rules.{rules}
 use Rattle.terms.proofs.over_threefold.Goals as goal
 
 pub overflow_mul-result : goal.overflow_mul-result

@@ -1,11 +1,8 @@
-use Prim.Native.Nat.{ℕ, ◌≤◌, ◌<◌, ◌-◌}
-use mathlib.Core.Path.{◌≡◌, sym}
-use mathlib.Core.Bool.{false}
+use mathlib.Core.Path.{sym}
 use borrow.Author.Tests.{eq-eqb, ne_eqb}
 use Rattle.base.specs.Walks.{first-is, first-none}
-use Rattle.rules.specs.Strategies.{place_of, in_series}
+use Rattle.rules.specs.Strategies.{place_of}
 use Rattle.terms.specs.Terms.{none_more}
-use borrow.Author.Rules.{rules}
 use native.Mathlib.Omega.{arith}
 use Rattle.terms.proofs.place_of.Goals as goal
 

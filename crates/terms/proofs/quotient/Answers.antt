@@ -1,6 +1,5 @@
 use mathlib.Core.Path.{sym}
 use native.Mathlib.Nat.{div-zero, div-one}
-use borrow.Author.Rules.{rules}
 use Rattle.terms.proofs.quotient.Goals as goal
 
 pub returns-then-d-eq0 : goal.returns-then-d-eq0

@@ -1,8 +1,5 @@
-use Prim.Native.Nat.{◌≤◌, ◌-◌}
 use mathlib.Core.Path.{◌≡◌}
-use Rattle.base.specs.Walks.{walk, walk_first, walk-next}
-use Rattle.rules.specs.Strategies.{largest_step, smallest_step}
-use borrow.Author.Rules.{rules}
+use Rattle.base.specs.Walks.{walk_first, walk-next}
 use native.Mathlib.Omega.{arith}
 use Rattle.terms.proofs.spread.Goals as goal
 

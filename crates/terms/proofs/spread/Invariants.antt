@@ -1,9 +1,7 @@
 use Prim.Native.Nat.{◌≤◌, ◌-◌}
 use mathlib.Core.Path.{◌≡◌}
-use Rattle.base.specs.Walks.{walk, walk_first, walk-next}
+use Rattle.base.specs.Walks.{walk}
 use Rattle.rules.specs.Strategies.{largest_step, smallest_step}
-use borrow.Author.Rules.{rules}
-use native.Mathlib.Omega.{arith}
 use Rattle.terms.proofs.spread.Given as goal
 
 abbrev pub invariant-loop-i : goal.invariant-loop-i

@@ -1,11 +1,8 @@
-use Prim.Native.Nat.{ℕ, ◌≤◌, ◌<◌, ◌-◌}
-use mathlib.Core.Path.{◌≡◌, sym}
-use mathlib.Core.Bool.{false}
+use mathlib.Core.Path.{sym}
 use borrow.Author.Tests.{lt-ltb, le-ltb}
 use Rattle.base.specs.Walks.{any-holds, any_none}
-use Rattle.rules.specs.Strategies.{twice, repeats, place_of}
+use Rattle.rules.specs.Strategies.{twice, place_of}
 use Rattle.terms.specs.Terms.{none_more}
-use borrow.Author.Rules.{rules}
 use native.Mathlib.Omega.{arith}
 use Rattle.terms.proofs.twice.Goals as goal
 

@@ -1,12 +1,7 @@
 use Prim.Native.Nat.{ℕ, ◌≤◌, ◌<◌, ◌-◌}
-use mathlib.Core.Path.{◌≡◌, sym}
+use mathlib.Core.Path.{◌≡◌}
 use mathlib.Core.Bool.{false}
-use borrow.Author.Tests.{lt-ltb, le-ltb}
-use Rattle.base.specs.Walks.{any-holds, any_none}
-use Rattle.rules.specs.Strategies.{twice, repeats, place_of}
-use Rattle.terms.specs.Terms.{none_more}
-use borrow.Author.Rules.{rules}
-use native.Mathlib.Omega.{arith}
+use Rattle.rules.specs.Strategies.{repeats}
 use Rattle.terms.proofs.twice.Given as goal
 
 abbrev pub invariant-loop-i : goal.invariant-loop-i

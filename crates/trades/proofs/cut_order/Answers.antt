@@ -1,4 +1,3 @@
-use borrow.Author.Rules.{rules}
 use Rattle.trades.proofs.cut_order.Goals as goal
 
 pub returns : goal.returns

@@ -1,6 +1,4 @@
-use native.Mathlib.Omega.{arith}
 use Rattle.trades.specs.Trades.{traded_rows}
-use borrow.Author.Rules.{rules}
 use Rattle.trades.proofs.leg_trade.Goals as goal
 
 -- src/lib.rt:74:1

@@ -1,7 +1,6 @@
 use Rattle.base.specs.All.{all_head}
 use Rattle.trades.specs.Trades.{row-none, row-some}
 use Rattle.records.specs.Space.{wrote-nil}
-use borrow.Author.Rules.{rules}
 use Rattle.trades.proofs.order_row.Goals as goal
 
 pub returns-then-q-eq0 : goal.returns-then-q-eq0

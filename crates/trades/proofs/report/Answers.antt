@@ -1,7 +1,6 @@
 use Rattle.records.specs.Space.{wrote-append, room-first, room_next}
 use Rattle.base.specs.All.{all_head}
 use mathlib.Core.List.{[], ◌∷◌}
-use borrow.Author.Rules.{rules}
 use Rattle.trades.proofs.report.Goals as goal
 
 pub order_record-r-requires : goal.order_record-r-requires

@@ -1,10 +1,8 @@
 use borrow.Author.Rules.{rules}
 use native.Mathlib.Omega.{arith}
-use Prim.Native.Nat.{◌-◌}
 use mathlib.Core.Path.{◌≡◌}
 use lib.ListN.{length}
-use Rattle.records.specs.Done.{in-length}
-use Rattle.trades.specs.Trades.{Trading, trading-none, trading-slots, trading-room, trading-moves, trading-stops, trading-all}
+use Rattle.trades.specs.Trades.{trading-none, trading-slots, trading-room, trading-moves, trading-stops, trading-all}
 use Rattle.trades.proofs.trade_all.Goals as goal
 
 -- src/lib.rt:113:5

@@ -1,4 +1,4 @@
-use Rattle.std.proofs.Common.{◌-◌, sym, ◌∙◌, arith, rules, eq-eqb, ne_eqb}
+use Rattle.std.proofs.Common.{sym, ◌∙◌, arith, eq-eqb, ne_eqb}
 use Rattle.base.specs.Pick.{pick_true, pick-false}
 use Rattle.events.specs.Kinds.{fixed-le, length_of}
 use Rattle.events.proofs.kinds.length_of.Goals as goal

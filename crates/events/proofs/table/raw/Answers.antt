@@ -1,4 +1,4 @@
-use Rattle.std.proofs.Common.{◌-◌, arith, rules}
+use Rattle.std.proofs.Common.{arith}
 use Rattle.events.specs.Fields.{raw_of}
 use Rattle.events.proofs.table.raw.Goals as goal
 

@@ -1,4 +1,4 @@
-use Rattle.std.proofs.Common.{refl, rules}
+use Rattle.std.proofs.Common.{refl}
 use Rattle.events.proofs.table.specialist_fields.Goals as goal
 
 pub returns : goal.returns

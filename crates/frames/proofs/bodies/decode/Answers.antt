@@ -1,4 +1,4 @@
-use Rattle.std.proofs.Common.{◌≡◌, ◌+◌, ◌-◌, ◌≤◌, length, refl, add-one, arith, rules}
+use Rattle.std.proofs.Common.{◌≡◌, ◌+◌, ◌≤◌, length, refl, add-one, arith}
 use Rattle.events.specs.Fields.{width, layout, offset, offset-room}
 use Rattle.frames.specs.Bodies.{row_n}
 use Rattle.frames.proofs.bodies.decode.Goals as goal

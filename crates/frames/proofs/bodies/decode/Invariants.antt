@@ -1,5 +1,5 @@
-use Rattle.std.proofs.Common.{◌≡◌, ◌+◌, ◌-◌, ◌≤◌, length, refl, add-one, arith, rules}
-use Rattle.events.specs.Fields.{width, layout, offset, offset-room}
+use Rattle.std.proofs.Common.{◌≡◌, ◌-◌, ◌≤◌}
+use Rattle.events.specs.Fields.{layout, offset}
 use Rattle.frames.specs.Bodies.{row_n}
 use Rattle.frames.proofs.bodies.decode.Given as goal
 

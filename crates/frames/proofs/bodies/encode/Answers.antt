@@ -1,5 +1,4 @@
-use Rattle.std.proofs.Common.{◌≡◌, ◌+◌, ◌-◌, ◌≤◌, length, refl, ◌∙◌, add-one, arith, rules}
-use lib.Seq.{sets}
+use Rattle.std.proofs.Common.{◌≡◌, ◌+◌, ◌≤◌, length, refl, ◌∙◌, add-one, arith}
 use Rattle.frames.specs.Bodies.{body-next, body_n}
 use Rattle.events.specs.Fields.{width, layout, offset, offset-room}
 use Rattle.frames.proofs.bodies.encode.Goals as goal

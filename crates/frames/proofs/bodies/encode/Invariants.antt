@@ -1,7 +1,7 @@
-use Rattle.std.proofs.Common.{◌≡◌, ◌+◌, ◌-◌, ◌≤◌, length, refl, ◌∙◌, add-one, arith, rules}
+use Rattle.std.proofs.Common.{◌≡◌, ◌-◌, ◌≤◌, length}
 use lib.Seq.{sets}
-use Rattle.frames.specs.Bodies.{body-next, body_n}
-use Rattle.events.specs.Fields.{width, layout, offset, offset-room}
+use Rattle.frames.specs.Bodies.{body_n}
+use Rattle.events.specs.Fields.{layout, offset}
 use Rattle.frames.proofs.bodies.encode.Given as goal
 
 abbrev pub invariant-loop-i : goal.invariant-loop-i

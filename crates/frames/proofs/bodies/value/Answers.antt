@@ -1,4 +1,3 @@
-use Rattle.std.proofs.Common.{◌-◌, rules}
 use Rattle.frames.specs.Bodies.{value_at}
 use Rattle.frames.proofs.bodies.value.Goals as goal
 

@@ -1,4 +1,3 @@
-use Rattle.std.proofs.Common.{◌-◌, rules}
 use Rattle.frames.specs.Bodies.{value_bytes}
 use Rattle.frames.proofs.bodies.write_value.Goals as goal
 

@@ -1,4 +1,4 @@
-use Rattle.std.proofs.Common.{◌∙◌, rules}
+use Rattle.std.proofs.Common.{◌∙◌}
 use Rattle.frames.specs.Codec.{table-room, table-carried}
 use Rattle.frames.proofs.carried.by_table.Goals as goal
 

@@ -1,4 +1,3 @@
-use Rattle.std.proofs.Common.{rules}
 use Rattle.frames.specs.Carried.{carried-by}
 use Rattle.events.specs.declared.Kind.TheVariants as K
 use Rattle.frames.proofs.carried.cancel_in.Goals as goal

@@ -1,4 +1,3 @@
-use Rattle.std.proofs.Common.{rules}
 use Rattle.frames.specs.Carried.{whole-fixed}
 use Rattle.frames.proofs.carried.carried.Goals as goal
 

@@ -1,17 +1,16 @@
-use Rattle.std.proofs.Common.{rules}
 use Rattle.frames.specs.Carried.{carried-by}
 use Rattle.events.specs.declared.Kind.TheVariants as K
 use Rattle.frames.proofs.carried.order_in.Goals as goal
 
 pub returns : goal.returns
 returns c = rw (
-      c.if_fits.ensures,
-      c.test-level.ensures,
-      c.test-units.ensures,
-      c.test-life.ensures,
-      c.test-class.ensures,
-      c.test-side.ensures,
-      c.test-strategy.ensures,
-      c.test-member.ensures,
-    )
+  c.if_fits.ensures,
+  c.test-level.ensures,
+  c.test-units.ensures,
+  c.test-life.ensures,
+  c.test-class.ensures,
+  c.test-side.ensures,
+  c.test-strategy.ensures,
+  c.test-member.ensures,
+)
     (carried-by K.Order _)

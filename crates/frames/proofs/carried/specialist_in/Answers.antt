@@ -1,13 +1,12 @@
-use Rattle.std.proofs.Common.{rules}
 use Rattle.frames.specs.Carried.{carried-by}
 use Rattle.events.specs.declared.Kind.TheVariants as K
 use Rattle.frames.proofs.carried.specialist_in.Goals as goal
 
 pub returns : goal.returns
 returns c = rw (
-      c.if_fits.ensures,
-      c.test-percentage.ensures,
-      c.test-strategy.ensures,
-      c.test-member.ensures,
-    )
+  c.if_fits.ensures,
+  c.test-percentage.ensures,
+  c.test-strategy.ensures,
+  c.test-member.ensures,
+)
     (carried-by K.Specialist _)

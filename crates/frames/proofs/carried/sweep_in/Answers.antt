@@ -1,15 +1,14 @@
-use Rattle.std.proofs.Common.{rules}
 use Rattle.frames.specs.Carried.{carried-by}
 use Rattle.events.specs.declared.Kind.TheVariants as K
 use Rattle.frames.proofs.carried.sweep_in.Goals as goal
 
 pub returns : goal.returns
 returns c = rw (
-      c.if_fits.ensures,
-      c.test-level.ensures,
-      c.test-units.ensures,
-      c.test-side.ensures,
-      c.test-strategy.ensures,
-      c.test-member.ensures,
-    )
+  c.if_fits.ensures,
+  c.test-level.ensures,
+  c.test-units.ensures,
+  c.test-side.ensures,
+  c.test-strategy.ensures,
+  c.test-member.ensures,
+)
     (carried-by K.Sweep _)

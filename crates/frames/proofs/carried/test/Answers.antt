@@ -1,4 +1,3 @@
-use Rattle.std.proofs.Common.{rules}
 use Rattle.frames.proofs.carried.test.Goals as goal
 
 pub returns : goal.returns

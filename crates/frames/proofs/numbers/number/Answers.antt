@@ -1,5 +1,5 @@
 use Rattle.frames.specs.Number.{number, number-next, number-all, number-le, Bytes}
-use Rattle.std.proofs.Common.{◌≡◌, ◌+◌, ◌-◌, ◌^◌, ◌<◌, ◌≤◌, refl, arith, rules}
+use Rattle.std.proofs.Common.{◌+◌, ◌-◌, ◌^◌, ◌<◌, refl, arith}
 use Rattle.frames.proofs.numbers.number.Goals as goal
 
 pub loop-i-init : goal.loop-i-init

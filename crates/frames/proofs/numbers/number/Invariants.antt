@@ -1,5 +1,5 @@
-use Rattle.frames.specs.Number.{number, number-next, number-all, number-le, Bytes}
-use Rattle.std.proofs.Common.{◌≡◌, ◌+◌, ◌-◌, ◌^◌, ◌<◌, ◌≤◌, refl, arith, rules}
+use Rattle.frames.specs.Number.{number}
+use Rattle.std.proofs.Common.{◌≡◌, ◌+◌, ◌-◌, ◌≤◌}
 use Rattle.frames.proofs.numbers.number.Given as goal
 
 abbrev pub invariant-loop-i : goal.invariant-loop-i

@@ -1,6 +1,5 @@
-use Rattle.std.proofs.Common.{◌≡◌, ◌+◌, ◌-◌, ◌≤◌, length, sym, refl, ◌∙◌, arith, length-set}
-use lib.Seq.{sets}
-use Rattle.frames.specs.Number.{bytes, put-end, put-start, put_step}
+use Rattle.std.proofs.Common.{sym, refl, ◌∙◌, arith, length-set}
+use Rattle.frames.specs.Number.{put-end, put-start, put_step}
 use Rattle.frames.proofs.numbers.put.Goals as goal
 
 pub loop-i-init : goal.loop-i-init

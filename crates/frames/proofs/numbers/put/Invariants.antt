@@ -1,6 +1,6 @@
-use Rattle.std.proofs.Common.{◌≡◌, ◌+◌, ◌-◌, ◌≤◌, length, sym, refl, ◌∙◌, arith, length-set}
+use Rattle.std.proofs.Common.{◌≡◌, ◌+◌, ◌-◌, ◌≤◌, length}
 use lib.Seq.{sets}
-use Rattle.frames.specs.Number.{bytes, put-end, put-start, put_step}
+use Rattle.frames.specs.Number.{bytes}
 use Rattle.frames.proofs.numbers.put.Given as goal
 
 abbrev pub invariant-loop-i : goal.invariant-loop-i
