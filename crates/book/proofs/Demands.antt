@@ -22,7 +22,7 @@ use Rattle.rules.specs.declared.Answer.TheVariants as A
 use Rattle.rules.specs.State.{fresh}
 use Rattle.rules.specs.Moves.{Moved, still}
 use Rattle.rules.specs.Refusals.{applies, read_causes, table_of}
-use Rattle.rules.specs.Step.{Outcome, refused, step, answer_of, answer_number, answer_value, answer_count}
+use Rattle.rules.specs.Step.{Outcome, refused, step, answer_of, answer_number, answer_count}
 use Rattle.rules.specs.Records.{Line, line_of, numbers_of}
 use Rattle.rules.specs.Totals.{Sent, outcome, after, log_of, run}
 use Rattle.rules.specs.Valid.{Valid}

@@ -10,7 +10,6 @@ use lib.IntN.{ℤ}
 use lib.ListN.{length}
 use lib.Seq.{length-sets}
 use Rattle.rules.specs.declared.State.{State}
-use Rattle.rules.specs.declared.Answer.{Answer}
 use Rattle.rules.specs.State.{fresh}
 use Rattle.rules.specs.Step.{Outcome, step, answer_of, answer_number, answer_value, answer_count}
 use Rattle.rules.specs.Valid.{Valid}

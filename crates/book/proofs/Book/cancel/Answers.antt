@@ -1,6 +1,5 @@
 use Rattle.book.specs.Premises.{cancel-accepts, cancel-value}
 use Rattle.book.specs.Outcomes.{took, took-refused, room-event}
-use borrow.Author.Rules.{rules}
 use Rattle.book.proofs.Book.cancel.Goals as goal
 
 pub returns-then-r-ne0 : goal.returns-then-r-ne0

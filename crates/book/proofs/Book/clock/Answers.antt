@@ -1,7 +1,6 @@
 use Rattle.book.specs.Premises.{clock-accepts, clock-value}
 use Rattle.book.specs.Outcomes.{took, took-refused, room-event}
 use Rattle.auctions.specs.Ranged.{ranged-sound}
-use borrow.Author.Rules.{rules}
 use Rattle.book.proofs.Book.clock.Goals as goal
 
 pub returns-then-r-ne0 : goal.returns-then-r-ne0

@@ -1,7 +1,6 @@
 use Rattle.book.specs.Premises.{day-end-none, day-end-accepts, day-end-value}
 use Rattle.book.specs.Outcomes.{took, room-event}
 use mathlib.Core.Path.{refl}
-use borrow.Author.Rules.{rules}
 use Rattle.book.proofs.Book.day_end.Goals as goal
 
 pub on_day_end-t-requires : goal.on_day_end-t-requires

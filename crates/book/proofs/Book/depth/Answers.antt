@@ -1,4 +1,3 @@
-use borrow.Author.Rules.{rules}
 use Rattle.rules.proofs.Bests.{priced-sound}
 use Rattle.book.proofs.Book.depth.Goals as goal
 

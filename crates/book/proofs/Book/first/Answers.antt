@@ -1,6 +1,5 @@
 use native.Mathlib.Omega.{arith}
 use Rattle.rules.proofs.Validity.{valid-fresh}
-use borrow.Author.Rules.{rules}
 use Rattle.book.proofs.Book.first.Goals as goal
 
 pub returns : goal.returns

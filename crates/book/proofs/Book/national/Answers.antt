@@ -1,7 +1,6 @@
 use Rattle.book.specs.Premises.{national-accepts, national-value}
 use Rattle.book.specs.Outcomes.{took, took-refused}
 use Rattle.records.specs.Done.{done-still}
-use borrow.Author.Rules.{rules}
 use Rattle.book.proofs.Book.national.Goals as goal
 
 pub returns-then-r-ne0 : goal.returns-then-r-ne0

@@ -1,6 +1,5 @@
 use Rattle.book.specs.Premises.{order-asks, order-took}
 use Rattle.book.specs.Outcomes.{took-refused}
-use borrow.Author.Rules.{rules}
 use Rattle.book.proofs.Book.order.Goals as goal
 
 pub returns-then-r-ne0 : goal.returns-then-r-ne0

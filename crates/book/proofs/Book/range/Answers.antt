@@ -2,7 +2,6 @@ use mathlib.Core.Path.{refl}
 use Rattle.book.specs.Premises.{range_none, range-accepts, range-value}
 use Rattle.book.specs.Outcomes.{took}
 use Rattle.records.specs.Done.{done-still}
-use borrow.Author.Rules.{rules}
 use Rattle.book.proofs.Book.range.Goals as goal
 
 pub returns : goal.returns

@@ -2,7 +2,6 @@ use Rattle.book.specs.Premises.{series-none, series-accepts, series-value}
 use Rattle.book.specs.Outcomes.{took, room-event}
 use Rattle.ranges.specs.Fit.{fit-sound}
 use mathlib.Core.Path.{refl}
-use borrow.Author.Rules.{rules}
 use Rattle.book.proofs.Book.series.Goals as goal
 
 pub on_series-t-requires : goal.on_series-t-requires

@@ -1,13 +1,7 @@
 use Rattle.book.specs.Outcomes.{stepped-short, stepped-refused, stepped, event-asks}
-use Rattle.events.specs.declared.Event.{Event}
 use Rattle.events.specs.declared.Reading.TheVariants as R
 use Rattle.frames.specs.Frames.{read_of}
-use Rattle.rules.specs.Fits.{FitEvent}
-use Rattle.rules.specs.Valid.{Valid}
 use mathlib.Core.Path.{◌≡◌, sym, ◌∙◌}
-use Prim.Native.Nat.{◌≤◌}
-use lib.ListN.{length}
-use borrow.Author.Rules.{rules}
 use Rattle.book.proofs.Book.step.Goals as goal
 
 pub returns-then-space-lt-RECORD_SPACE : goal.returns-then-space-lt-RECORD_SPACE

@@ -4,7 +4,6 @@ use Rattle.base.specs.Pick.{told}
 use Rattle.records.specs.Done.{done-still}
 use Rattle.book.specs.Outcomes.{took, took-refused}
 use Rattle.book.specs.Premises.{number-most, strategy-ill, strategy-held, strategy-full, strategy-new, strategy-value, strategy-legs}
-use borrow.Author.Rules.{rules}
 use Rattle.book.proofs.Book.strategy.Goals as goal
 
 pub returns-then-ill_formed : goal.returns-then-ill_formed

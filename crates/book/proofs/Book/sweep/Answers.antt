@@ -1,7 +1,6 @@
 use Rattle.book.specs.Premises.{sweep-asks, sweep-took}
 use Rattle.book.specs.Outcomes.{took-refused}
 use native.Mathlib.Omega.{arith}
-use borrow.Author.Rules.{rules}
 use Rattle.book.proofs.Book.sweep.Goals as goal
 
 pub sweep_refusal-r-requires : goal.sweep_refusal-r-requires
