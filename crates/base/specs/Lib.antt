@@ -4,3 +4,4 @@ pub mod All
 pub mod Sets
 pub mod Gcd
 pub mod SetLaws
+pub mod Chains

@@ -1,5 +1,6 @@
 pub mod Fields
 pub mod Kinds
+pub mod Refusals
 pub mod Table
 pub mod Rows
 pub mod Laws

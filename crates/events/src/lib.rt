@@ -2,6 +2,7 @@
 #![tactic(auto)]
 
 pub mod kinds; // the number and the length of each kind
+pub mod refusals; // the number of each refusal
 pub mod table; // the fields of each kind
 
 // The kinds of frames.
@@ -126,6 +127,26 @@ pub enum Event {
     National(National),
     Range(Range),
     Specialist(Specialist),
+}
+
+// Why a frame, an event or a lookup is refused: one variant for each cause that the papers number, in the order of their numbers.
+#[derive(Clone, Copy, PartialEq, Eq)]
+pub enum Refusal {
+    ShortSpace,
+    BadFrame,
+    BadField,
+    UnknownStrategy,
+    BadDefinition,
+    SeriesShut,
+    UnknownOrder,
+    AuctionStarter,
+    NoAuction,
+    NothingRemoved,
+    EarlyClock,
+    TableFull,
+    NumbersOut,
+    BidAboveOffer,
+    NothingBettered,
 }
 
 // What reading answers: the event, or the refusal.
