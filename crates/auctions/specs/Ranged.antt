@@ -14,6 +14,7 @@ use Rattle.rules.proofs.Shrinks.{Shrinks, set-by, whole-shrinks, legs-shrinks, t
 use Rattle.rules.proofs.Control.{Kept}
 use Rattle.records.specs.Done.{Done}
 use Rattle.ranges.specs.Fit.{Fit, fit-entry, fit-sound, fit-shrinks}
+use Rattle.records.specs.declared.Records.{Records}
 
 -- an auction: the number of its starter, and the clock at its start
 pub record FitAuction (s : Strategy) : Type 0 where
@@ -97,5 +98,5 @@ ranged-sound s = record {
 }
 
 -- the state that a function left
-pub ranged-done : {sp sq : List ℤ} {n m : ℕ} {b c : State} {x : Moved} → Done sp sq n m c x → (Ranged b → Ranged x.state) → Ranged b → Ranged c
+pub ranged-done : {r₀ r₁ : Records} {b c : State} {x : Moved} → Done r₀ r₁ c x → (Ranged b → Ranged x.state) → Ranged b → Ranged c
 ranged-done d k r = rw d.state (k r)

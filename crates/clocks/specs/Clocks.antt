@@ -11,6 +11,7 @@ use Rattle.records.specs.Done.{Done}
 use Rattle.ranges.specs.Fit.{Fit}
 use Rattle.auctions.specs.Ranged.{Ranged, ranged-kept, ranged-done}
 use Rattle.base.specs.Pick.{pick, pick_true, pick-false}
+use Rattle.records.specs.declared.Records.{Records}
 
 module _ (k : ℕ) (b : State) where
   pub due-not : pick (running b k) (leb ((strategy_at b k).begun + b.timer) b.clock) false ≡ false → end_due k b ≡ still b
@@ -31,8 +32,8 @@ clock-is t b e = rw e
 
 -- THE RANGES
 
-pub ranged-each : (f : ℕ → State → Moved) → ((i : ℕ) (b : State) → Ranged b → Ranged (f i b).state) → (i : ℕ) (b : State) {c : State} {sp sq : List ℤ} {n m : ℕ}
-    → Ranged b → Done sp sq n m c (each f i b) → Ranged c
+pub ranged-each : (f : ℕ → State → Moved) → ((i : ℕ) (b : State) → Ranged b → Ranged (f i b).state) → (i : ℕ) (b : State) {c : State} {r₀ r₁ : Records}
+    → Ranged b → Done r₀ r₁ c (each f i b) → Ranged c
 ranged-each f h i b r d = ranged-done d (each-kept ranged-kept f h i b) r
 
 clock-fit : (b : State) (t : ℕ) → Fit b → Fit (with_clock b t)

@@ -36,6 +36,7 @@ use Rattle.stored_nets.specs.Laws.{net-stored}
 use Rattle.passes.specs.Passes.{stops_at, opposite_in, net_in, net_over, legs_met, turn-met, pass-still}
 use Rattle.complex_orders.specs.declared.Arrival.{Arrival}
 use Rattle.complex_orders.specs.declared.Arrival.TheVariants as A
+use Rattle.records.specs.declared.Records.{Records}
 
 -- whether an order of strategy s starts an auction, by the leg orders
 unfoldable pub starts_in : Entry → Strategy → List LegOrder → Bool
@@ -210,11 +211,11 @@ module _ (e : Entry) (b : State) {i : ℕ} {rows : List Entry} (p : rows ≡ beh
     told_of : r ≡ cancel_record (entry_at (entered e rows b) i)
     told_of = rw (enters-at h) w
 
-    pub cancels-room : {sp : List ℤ} {n : ℕ} → Room sp n (cancel_entry i (entered e rows b)).records → Room sp n (r ∷ [])
+    pub cancels-room : {r₀ : Records} → Room r₀ (cancel_entry i (entered e rows b)).records → Room r₀ (r ∷ [])
     cancels-room x = cancel-room i (entered e rows b) stands told_of x
 
-    pub cancels-done : {f : Entry} → f ≡ cut_entry e e.units → {sp sq : List ℤ} {n m : ℕ} → Appended sp sq n m (r ∷ [])
-        → Done sp sq n m (with_entry (entered e rows b) i f) (cancel_entry i (entered e rows b))
+    pub cancels-done : {f : Entry} → f ≡ cut_entry e e.units → {r₀ r₁ : Records} → Appended r₀ r₁ (r ∷ [])
+        → Done r₀ r₁ (with_entry (entered e rows b) i f) (cancel_entry i (entered e rows b))
     cancels-done g x = cancel-stores i (entered e rows b) stands told_of (rw (enters-at h) g) x
 
   -- an answer

@@ -19,6 +19,7 @@ use Rattle.rules.proofs.Cancels.{number-strategies}
 use Rattle.records.specs.Done.{Done, done-still, done-of, done-then}
 use Rattle.rules.proofs.Turns.{idle}
 use Rattle.base.specs.Pick.{pick, pick_true, pick-false, pick_all, pick-by, tests}
+use Rattle.records.specs.declared.Records.{Records}
 
 -- the lower of some numbers does not depend on their order
 lower-none : (n : ℕ) → lower_number n 0 ≡ n
@@ -88,8 +89,8 @@ unfolding lowest_live
 lowest-is b h p = (rw h at p) ∙ walk-both (lower_entry b) (lower_order b) (λ i j n. live-swap _ _ n _ _) 0 32
 
 -- after a turn that finds nothing live no turn cancels
-pub lowest-stops : (i : ℕ) (b₀ : State) {sp sq : List ℤ} {n m : ℕ} {b : State} → i < 64 → Done sp sq n m b (each cancel_lowest i b₀) → ((j : ℕ) → cancel_lowest j b ≡ still b)
-    → Done sp sq n m b (each cancel_lowest 64 b₀)
+pub lowest-stops : (i : ℕ) (b₀ : State) {r₀ r₁ : Records} {b : State} → i < 64 → Done r₀ r₁ b (each cancel_lowest i b₀) → ((j : ℕ) → cancel_lowest j b ≡ still b)
+    → Done r₀ r₁ b (each cancel_lowest 64 b₀)
 lowest-stops i b₀ h d q =
     let u : 64 ≡ 64 - i + i = omega arith in
     done-of (ap (λ (j : ℕ). each cancel_lowest j b₀) u ∙ idle cancel_lowest b₀ i (rw d.state at q) (64 - i)) d
@@ -109,15 +110,15 @@ unfolding cancel_lowest
 low-is i b p = rw p
 
 -- a fresh book writes nothing
-restarted : (timer : ℕ) {f : State} → f ≡ fresh timer → (sp : List ℤ) (n : ℕ) (b : State) → Done sp sp n n f (restart timer b)
+restarted : (timer : ℕ) {f : State} → f ≡ fresh timer → (r₀ : Records) (b : State) → Done r₀ r₀ f (restart timer b)
 unfolding restart
-restarted timer e sp n b = rw e (done-still sp n (fresh timer))
+restarted timer e r b = rw e (done-still r (fresh timer))
 
 -- the day's end by its three parts
-pub day-end : (timer : ℕ) (b : State) {c d f : State} {sp sq sr : List ℤ} {n m k : ℕ} → Done sp sq n m c (each close_running 16 b) → Done sq sr m k d (each cancel_lowest 64 c) → f ≡ fresh timer
-    → Done sp sr n k f (on_day_end timer b)
+pub day-end : (timer : ℕ) (b : State) {c d f : State} {r₀ r₁ r₂ : Records} → Done r₀ r₁ c (each close_running 16 b) → Done r₁ r₂ d (each cancel_lowest 64 c) → f ≡ fresh timer
+    → Done r₀ r₂ f (on_day_end timer b)
 unfolding on_day_end
-day-end timer b {d = d} {sr = sr} {k = k} x y e = done-then _ _ x (done-then _ _ y (restarted timer e sr k d))
+day-end timer b {d = d} {r₂ = r₂} x y e = done-then _ _ x (done-then _ _ y (restarted timer e r₂ d))
 
 -- cancels and closed auctions leave a sound state
 pub lowest-sound : (i : ℕ) (b : State) → Sound b → Sound (cancel_lowest i b).state
@@ -132,6 +133,6 @@ running-sound k b s =
     pick_all (λ (m : Moved). Sound m.state) _
     (sound-shrinks (auction-shrinks b k 0 0 false) (put-auctions b k 0 0 false (omega arith) (omega arith) (λ _. refl) (sound-auctions b s)) s) s
 
-pub sound-each : (f : ℕ → State → Moved) → ((i : ℕ) (b : State) → Sound b → Sound (f i b).state) → (i : ℕ) (b : State) {c : State} {sp sq : List ℤ} {n m : ℕ}
-    → Sound b → Done sp sq n m c (each f i b) → Sound c
+pub sound-each : (f : ℕ → State → Moved) → ((i : ℕ) (b : State) → Sound b → Sound (f i b).state) → (i : ℕ) (b : State) {c : State} {r₀ r₁ : Records}
+    → Sound b → Done r₀ r₁ c (each f i b) → Sound c
 sound-each f h i b s d = rw d.state (each_keeps Sound f i (λ j _ c. h j c) b s)

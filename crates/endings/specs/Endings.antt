@@ -14,6 +14,7 @@ use Rattle.rules.specs.Auctions.{starter_slot, starter_pass, later, later_pass}
 use Rattle.rules.proofs.Control.{each-kept, starter_pass-kept, later_pass-kept, shrinks-kept}
 use Rattle.records.specs.Done.{Done}
 use Rattle.ranges.specs.Fit.{Fit, fit-done}
+use Rattle.records.specs.declared.Records.{Records}
 
 -- a pass of no entry
 pub pass-past : (way : Allocation) (legs : Bool) (a : ℕ) (b : State) → length b.entries ≡ 32 → 32 ≤ a → pass way legs a b ≡ still b
@@ -41,8 +42,8 @@ module _ (k n i : ℕ) (b : State) where
   later-yes e l = rw l (search tests)
 
 -- the ranges after the passes
-pub fit-starter : (k : ℕ) (b : State) {c : State} {sp sq : List ℤ} {p q : ℕ} → Fit b → Done sp sq p q c (starter_pass k b) → Fit c
+pub fit-starter : (k : ℕ) (b : State) {c : State} {r₀ r₁ : Records} → Fit b → Done r₀ r₁ c (starter_pass k b) → Fit c
 fit-starter k b f d = fit-done d (starter_pass-kept shrinks-kept k b f.order_rows) f
 
-pub fit-later : (k n i : ℕ) (b : State) {c : State} {sp sq : List ℤ} {p q : ℕ} → Fit b → Done sp sq p q c (each (later_pass k n) i b) → Fit c
+pub fit-later : (k n i : ℕ) (b : State) {c : State} {r₀ r₁ : Records} → Fit b → Done r₀ r₁ c (each (later_pass k n) i b) → Fit c
 fit-later k n i b f d = fit-done d (each-kept shrinks-kept (later_pass k n) (later_pass-kept shrinks-kept k n) i b f.order_rows) f

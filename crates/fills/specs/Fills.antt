@@ -9,6 +9,7 @@ use Rattle.rules.specs.Moves.{Moved, still}
 use Rattle.records.specs.Space.{Appended, Room}
 use Rattle.records.specs.Done.{Done, done-of, room_of}
 use Rattle.rules.specs.Fills.{party_records, no_prices, cut_entry, cut, whole_fill, cancel_record, cancel_entry}
+use Rattle.records.specs.declared.Records.{Records}
 
 -- a fill of some units
 unfoldable pub filled : State → ℕ → ℕ → ℕ → ℕ → Moved
@@ -51,11 +52,11 @@ with_entry b i f = record {
 
 -- a cancel in place: the record written, and the entry stored that has nothing left
 module _ (i : ℕ) (b : State) (live : ¬ ((entry_at b i).units ≡ 0)) {r : Record} (p : r ≡ cancel_record (entry_at b i)) where
-  pub cancel-room : {sp : List ℤ} {n : ℕ} → Room sp n (cancel_entry i b).records → Room sp n (r ∷ [])
+  pub cancel-room : {r₀ : Records} → Room r₀ (cancel_entry i b).records → Room r₀ (r ∷ [])
   unfolding cancelled
   cancel-room w = rw p (room_of (cancel-live i b live) w)
 
-  pub cancel-stores : {f : Entry} → f ≡ cut_entry (entry_at b i) (entry_at b i).units → {sp sq : List ℤ} {n m : ℕ} → Appended sp sq n m (r ∷ [])
-      → Done sp sq n m (with_entry b i f) (cancel_entry i b)
+  pub cancel-stores : {f : Entry} → f ≡ cut_entry (entry_at b i) (entry_at b i).units → {r₀ r₁ : Records} → Appended r₀ r₁ (r ∷ [])
+      → Done r₀ r₁ (with_entry b i f) (cancel_entry i b)
   unfolding cancelled cut with_entries
   cancel-stores q w = done-of (cancel-live i b live) (record { wrote = rw p at w; state = rw q })

@@ -20,6 +20,7 @@ use Rattle.records.specs.Space.{Appended, Room}
 use Rattle.records.specs.Done.{RoomIn, DoneIn, done-still, done-of, room_of, slots-none, slots-move, slots-stay, slots-room}
 use Rattle.ranges.specs.Fit.{Fit, fit-legs, fit-done}
 use Rattle.fills.specs.Fills.{filled, whole-some}
+use Rattle.records.specs.declared.Records.{Records}
 
 -- a fit book with these entries, of which s is the strategy of entry a
 pub record HasRows (es : List Entry) (s : Strategy) (a : ℕ) (b : State) : Type 0 where
@@ -45,7 +46,7 @@ unfolding give_group give
 group-shrinks divide a level g b = slots-shrink a level (divide (entry_at b a).units (sizes b.entries (entry_at b a) level g)) 32 b
 
 -- a rule that shrinks the book leaves entry a its strategy
-pub holds_after : {es rows : List Entry} {s : Strategy} {a : ℕ} {f : State → Moved} {sp sq : List ℤ} {n m : ℕ} → ((b : State) → Shrinks b (f b).state) → DoneIn (HasRows es s a) f sp sq n m (put_entries rows) → (b : State) → HasRows es s a b → HasRows rows s a (put_entries rows b)
+pub holds_after : {es rows : List Entry} {s : Strategy} {a : ℕ} {f : State → Moved} {r₀ r₁ : Records} → ((b : State) → Shrinks b (f b).state) → DoneIn (HasRows es s a) f r₀ r₁ (put_entries rows) → (b : State) → HasRows es s a b → HasRows rows s a (put_entries rows b)
 unfolding with_entries
 holds_after {rows = rows} {a = a} shrinks d b h =
     let x = d.done b h in
@@ -53,15 +54,15 @@ holds_after {rows = rows} {a = a} shrinks d b h =
     record { fit = fit-done x (shrinks b) h.fit; entries = refl; strategy = ap (λ (i : ℕ). get_or b.strategies i no_strategy) (k.entry a).strategy ∙ h.strategy }
 
 -- nobody is met
-pub give-nobody : (es : List Entry) (s : Strategy) (a : ℕ) (sp : List ℤ) (n : ℕ) → DoneIn (HasRows es s a) still sp sp n n (put_entries es)
+pub give-nobody : (es : List Entry) (s : Strategy) (a : ℕ) (r₀ : Records) → DoneIn (HasRows es s a) still r₀ r₀ (put_entries es)
 unfolding with_entries
-give-nobody es s a sp n = record { done = λ b h. rw (sym h.entries) (done-still sp n b) }
+give-nobody es s a r = record { done = λ b h. rw (sym h.entries) (done-still r b) }
 
 -- what the witness of the room tells of the strategy and the entries
-pub legs-few : {es : List Entry} {s : Strategy} {a : ℕ} {f : State → Moved} {sp : List ℤ} {n : ℕ} → RoomIn (HasRows es s a) f sp n → s.count ≤ 6
+pub legs-few : {es : List Entry} {s : Strategy} {a : ℕ} {f : State → Moved} {r₀ : Records} → RoomIn (HasRows es s a) f r₀ → s.count ≤ 6
 legs-few r = rw (sym r.held.strategy) (fit-legs r.held.fit.strategies _).count
 
-pub entries_fit : {es : List Entry} {s : Strategy} {a : ℕ} {f : State → Moved} {sp : List ℤ} {n : ℕ} → RoomIn (HasRows es s a) f sp n → All FitEntry es
+pub entries_fit : {es : List Entry} {s : Strategy} {a : ℕ} {f : State → Moved} {r₀ : Records} → RoomIn (HasRows es s a) f r₀ → All FitEntry es
 entries_fit r = rw (sym r.held.entries) r.held.fit.entries
 
 -- entries a and i after a fill of q units
@@ -71,37 +72,37 @@ cut_both rows a i q =
     set first i (cut_entry (get_or first i no_entry) q)
 
 -- the loop over the slots, which has visited i of them
-pub record Giving (es : List Entry) (s : Strategy) (a level : ℕ) (qs : List ℕ) (sp sq : List ℤ) (n m : ℕ) (rows : List Entry) (i : ℕ) : Type 0 where
+pub record Giving (es : List Entry) (s : Strategy) (a level : ℕ) (qs : List ℕ) (r₀ r₁ : Records) (rows : List Entry) (i : ℕ) : Type 0 where
   pub most : i ≤ 32
-  pub done : DoneIn (HasRows es s a) (each (give_at a level qs) i) sp sq n m (put_entries rows)
+  pub done : DoneIn (HasRows es s a) (each (give_at a level qs) i) r₀ r₁ (put_entries rows)
 
-pub give-none : (es : List Entry) (s : Strategy) (a level : ℕ) (qs : List ℕ) (sp : List ℤ) (n : ℕ) → Giving es s a level qs sp sp n n es 0
+pub give-none : (es : List Entry) (s : Strategy) (a level : ℕ) (qs : List ℕ) (r₀ : Records) → Giving es s a level qs r₀ r₀ es 0
 unfolding with_entries
-give-none es s a level qs sp n = record { most = omega arith; done = slots-none _ (λ b h. rw (sym h.entries)) }
+give-none es s a level qs r = record { most = omega arith; done = slots-none _ (λ b h. rw (sym h.entries)) }
 
-module _ {es : List Entry} {s : Strategy} {a level : ℕ} {qs : List ℕ} {sp sq : List ℤ} {n m : ℕ} {rows : List Entry} {i : ℕ} (g : Giving es s a level qs sp sq n m rows i) where
+module _ {es : List Entry} {s : Strategy} {a level : ℕ} {qs : List ℕ} {r₀ r₁ : Records} {rows : List Entry} {i : ℕ} (g : Giving es s a level qs r₀ r₁ rows i) where
   holds-here : (b : State) → HasRows es s a b → HasRows rows s a (put_entries rows b)
   holds-here = holds_after (slots-shrink a level qs i) g.done
 
-  pub give-room : RoomIn (HasRows es s a) (give a level qs) sp n → i < 32 → (slot qs i ≡ 0 → ⊥) →
-      Room sq m (party_records (get_or rows a no_entry) s (slot qs i) level no_prices ++ party_records (get_or rows i no_entry) s (slot qs i) level no_prices)
+  pub give-room : RoomIn (HasRows es s a) (give a level qs) r₀ → i < 32 → (slot qs i ≡ 0 → ⊥) →
+      Room r₁ (party_records (get_or rows a no_entry) s (slot qs i) level no_prices ++ party_records (get_or rows i no_entry) s (slot qs i) level no_prices)
   unfolding give filled with_entries
   give-room r l some =
       rw (holds-here r.book r.held).strategy at (room_of (whole-some _ a i level (slot qs i) some) (slots-room (give_at a level qs) g.done 32 r l))
 
-  pub give-moves : i < 32 → (slot qs i ≡ 0 → ⊥) → {sr : List ℤ} {o : ℕ}
-      → Appended sq sr m o (party_records (get_or rows a no_entry) s (slot qs i) level no_prices ++ party_records (get_or rows i no_entry) s (slot qs i) level no_prices)
-      → Giving es s a level qs sp sr n o (cut_both rows a i (slot qs i)) (i + 1)
+  pub give-moves : i < 32 → (slot qs i ≡ 0 → ⊥) → {r₂ : Records}
+      → Appended r₁ r₂ (party_records (get_or rows a no_entry) s (slot qs i) level no_prices ++ party_records (get_or rows i no_entry) s (slot qs i) level no_prices)
+      → Giving es s a level qs r₀ r₂ (cut_both rows a i (slot qs i)) (i + 1)
   unfolding filled cut cut_both with_entries
   give-moves l some w = record {
     most = omega arith;
     done = slots-move (give_at a level qs) g.done (λ b h. done-of (whole-some _ a i level (slot qs i) some) (record { wrote = rw (holds-here b h).strategy w; state = refl }));
   }
 
-  pub give-stays : i < 32 → slot qs i ≡ 0 → Giving es s a level qs sp sq n m rows (i + 1)
+  pub give-stays : i < 32 → slot qs i ≡ 0 → Giving es s a level qs r₀ r₁ rows (i + 1)
   give-stays l none = record { most = omega arith; done = slots-stay (give_at a level qs) g.done (λ b h. whole-none _ a i level (slot qs i) none) }
 
-  pub give_all : 32 ≤ i → DoneIn (HasRows es s a) (give a level qs) sp sq n m (put_entries rows)
+  pub give_all : 32 ≤ i → DoneIn (HasRows es s a) (give a level qs) r₀ r₁ (put_entries rows)
   unfolding give
   give_all l = let e : i ≡ 32 = omega (arith, g.most) in rw e at g.done
 

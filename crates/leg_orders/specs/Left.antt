@@ -29,6 +29,7 @@ use Rattle.tables.specs.Only.{only_orders}
 use Rattle.trades.specs.Trades.{next_trade, HasOrders, put_orders, put_same, trades-none}
 use Rattle.stored_nets.specs.Stored.{Prices, with_price, all_nets_by, FitNets, Refreshed}
 use Rattle.stored_nets.specs.Laws.{with-price-is, with-price-most, with-price-at, with-price-other, all-nets-ext, nets-by, fit-all-by}
+use Rattle.records.specs.declared.Records.{Records}
 
 -- order o has entered at slot a behind the leg orders os, whose nets are ns
 pub record Enters (os rows : List LegOrder) (a : ℕ) (o : LegOrder) (ss : List Strategy) (ns : List LegNets) : Type 0 where
@@ -51,8 +52,8 @@ abbrev pub but_own : List LegOrder → List LegOrder → LegOrder → Prices
 but_own os left o = with_price (price_of left) o.series o.side (price_of os o.series o.side)
 
 -- the trades done: the records, the leg orders left, and the nets
-pub record TradesLeft (os rows : List LegOrder) (a : ℕ) (o : LegOrder) (ss : List Strategy) (sp sq : List ℤ) (n : ℕ) (left : List LegOrder) (ms : List LegNets) (m : ℕ) : Type 0 where
-  pub done : DoneIn (HasOrders rows) (trade_all a) sp sq n m (put_orders left)
+pub record TradesLeft (os rows : List LegOrder) (a : ℕ) (o : LegOrder) (ss : List Strategy) (r₀ r₁ : Records) (left : List LegOrder) (ms : List LegNets) (m : ℕ) : Type 0 where
+  pub done : DoneIn (HasOrders rows) (trade_all a) r₀ r₁ (put_orders left)
   pub nets : ms ≡ all_nets_by (but_own os left o) ss
 
 -- laws
@@ -60,7 +61,7 @@ pub record TradesLeft (os rows : List LegOrder) (a : ℕ) (o : LegOrder) (ss : L
 pub has-orders : {rows : List LegOrder} {b : State} → HasRows rows b → HasOrders rows b
 has-orders h = record { orders = h.orders; nets = h.fit.nets }
 
-pub room-rows : {rows : List LegOrder} {f : State → Moved} {sp : List ℤ} {n : ℕ} → RoomIn (HasRows rows) f sp n → RoomIn (HasOrders rows) f sp n
+pub room-rows : {rows : List LegOrder} {f : State → Moved} {r₀ : Records} → RoomIn (HasRows rows) f r₀ → RoomIn (HasOrders rows) f r₀
 room-rows r = record { book = r.book; held = has-orders r.held; room = r.room }
 
 other-not : (side : ℕ) → ¬ (other side ≡ side)
@@ -95,20 +96,20 @@ module _ {os rows : List LegOrder} {a : ℕ} {o : LegOrder} {ss : List Strategy}
   enters-fits = rw stored-before (fit-all-by (price_of os) (price-most os g.orders) ss g.legs)
 
   -- no trade
-  pub left-none : {h : ℕ} (sp : List ℤ) (n : ℕ) → h ≡ next_trade a (only_orders rows) → h ≡ 32 → TradesLeft os rows a o ss sp sp n rows ns n
+  pub left-none : {h : ℕ} (r₀ : Records) → h ≡ next_trade a (only_orders rows) → h ≡ 32 → TradesLeft os rows a o ss sp sp n rows ns n
   left-none {h} sp n e z = record {
     done = record { done = λ b k. none b k };
     nets = stored-before ∙ all-nets-ext ss (λ x d. with-price-is (price_of rows) o.series o.side _ (λ (y : ℕ). price_of os x d ≡ y) x d (λ p q. rw (p, q) refl) (λ u. sym (entered-price x d u)));
   }
     where
-      none : (b : State) → HasOrders rows b → Done sp sp n n (put_orders rows b) (trade_all a b)
-      none b k = rw (put_same rows b k) (done-of (trades-none a b {h = h} (rw k.orders e) (omega arith)) (done-still sp n b))
+      none : (b : State) → HasOrders rows b → Done r₀ r₀ (put_orders rows b) (trade_all a b)
+      none b k = rw (put_same rows b k) (done-of (trades-none a b {h = h} (rw k.orders e) (omega arith)) (done-still r₀ b))
 
   -- the order stands at its slot
   entered_at : get_or rows a no_order ≡ o
   entered_at = rw (g.entered, g.slot) (behind-slot live_order no_order o os g.room)
 
-  module _ {h : ℕ} (e : h ≡ next_trade a (only_orders rows)) (z : ¬ (h ≡ 32)) {sp : List ℤ} {n : ℕ} (r : RoomIn (HasRows rows) (trade_all a) sp n) where
+  module _ {h : ℕ} (e : h ≡ next_trade a (only_orders rows)) (z : ¬ (h ≡ 32)) {r₀ : Records} (r : RoomIn (HasRows rows) (trade_all a) r₀) where
     -- what it meets stands on the other side
     meets_at_lem : (h < 32) × (stands o.series (other o.side) (get_or rows h no_order) ≡ true)
     unfolding next_trade meets_order
@@ -128,7 +129,7 @@ module _ {os rows : List LegOrder} {a : ℕ} {o : LegOrder} {ss : List Strategy}
         let m = meets_at_lem in
         rw (entered-price o.series (other o.side) (λ u. other-not o.side u.1)) at (price-best rows o.series (other o.side) priced-rows h m.0 m.1).0
 
-    module _ (left : List LegOrder) {sq : List ℤ} {m : ℕ} (d : DoneIn (HasOrders rows) (trade_all a) sp sq n m (put_orders left)) where
+    module _ (left : List LegOrder) {r₁ : Records} (d : DoneIn (HasOrders rows) (trade_all a) r₀ r₁ (put_orders left)) where
       left_is : left ≡ (trade_all a r.book).state.orders
       unfolding with_orders
       left_is = ap (λ (b : State). b.orders) (d.done r.book (has-orders r.held)).state

@@ -26,6 +26,7 @@ use Rattle.stored_nets.specs.Stored.{FitNets, Refreshed}
 use Rattle.leg_orders.specs.Left.{Enters, HasRows, TradesLeft, has-orders, left-nets, same-nets, left-fits}
 use Rattle.base.specs.All.{All}
 use Rattle.base.specs.Pick.{pick_true, pick-false}
+use Rattle.records.specs.declared.Records.{Records}
 
 module _ (s a : ℕ) (b : State) where
   pub rests-not : (order_at b a).contracts ≡ 0 → if_rests s a b ≡ still b
@@ -80,7 +81,7 @@ enter-rows o b p h q f = record { fit = enter-fit o b h q f; orders = sym p }
 pub slot_is : (b : State) {a : ℕ} → a ≡ free_order_slot b → free_order_slot b < 32 → a < 32
 slot_is b e h = rw e h
 
-pub fit-trades : (a : ℕ) (b : State) {c : State} {sp sq : List ℤ} {n m : ℕ} → Fit b → Done sp sq n m c (trade_all a b) → Fit c
+pub fit-trades : (a : ℕ) (b : State) {c : State} {r₀ r₁ : Records} → Fit b → Done r₀ r₁ c (trade_all a b) → Fit c
 fit-trades a b f d = fit-done d (trade_all-kept shrinks-kept a b f.order_rows) f
 
 -- AN ORDER THAT HAS ENTERED at slot a, among these rows
@@ -90,11 +91,11 @@ module _ (o : LegOrder) (b : State) {a : ℕ} {rows : List LegOrder} (slot : a �
   unfolding free_order_slot
   enters = record { legs = fit.strategies; orders = fit.orders; own = own; size = fit.order_rows; slot = slot; room = free; entered = entered; nets = fit.nets.are }
 
-  pub enters-room : {sp : List ℤ} {n : ℕ} → Room sp n (on_leg_order o b).records → RoomIn (HasRows rows) (trade_all a) sp n
+  pub enters-room : {r₀ : Records} → Room r₀ (on_leg_order o b).records → RoomIn (HasRows rows) (trade_all a) r₀
   enters-room r = record { book = enter_order o b; held = enter-rows o b entered own priced fit; room = room-then _ _ (room_of (leg-is o b slot refl) r) }
 
-  module _ (left : List LegOrder) {sp sq : List ℤ} {n m : ℕ} {ms : List LegNets} (t : TradesLeft b.orders rows a o b.strategies sp sq n left ms m) where
-    done-here : Done sp sq n m (put_orders left (enter_order o b)) (trade_all a (enter_order o b))
+  module _ (left : List LegOrder) {r₀ r₁ : Records} {ms : List LegNets} (t : TradesLeft b.orders rows a o b.strategies sp sq n left ms m) where
+    done-here : Done r₀ r₁ (put_orders left (enter_order o b)) (trade_all a (enter_order o b))
     done-here = t.done.done (enter_order o b) (has-orders (enter-rows o b entered own priced fit))
 
     pub left-length : length sq ≡ length sp
@@ -107,7 +108,7 @@ module _ (o : LegOrder) (b : State) {a : ℕ} {rows : List LegOrder} (slot : a �
     left-orders = unfold with_orders in fit-left.orders
 
     -- the trades in the state that the code has stored
-    done-in : {nets : List LegNets} → nets ≡ nets_of left b.strategies → Done sp sq n m (left_state o left nets b) (trade_all a (enter_order o b))
+    done-in : {nets : List LegNets} → nets ≡ nets_of left b.strategies → Done r₀ r₁ (left_state o left nets b) (trade_all a (enter_order o b))
     done-in e = rw (left-state o b left e) done-here
 
     -- NOTHING RESTS: the own side's price is as it was, so the nets by the trades are those of the leg orders left
@@ -117,7 +118,7 @@ module _ (o : LegOrder) (b : State) {a : ℕ} {rows : List LegOrder} (slot : a �
         let is : left ≡ (trade_all a (enter_order o b)).state.orders = ap (λ (c : State). c.orders) done-here.state in
         rw is (filled-price o b.orders a o.series (enter_order o b) free fit.order_rows slot ((enter-rows o b entered own priced fit).orders ∙ entered) (rw is at z))
 
-    pub gone-done : (get_or left a no_order).contracts ≡ 0 → Done sp sq n m (left_state o left ms b) (trade_all a (enter_order o b))
+    pub gone-done : (get_or left a no_order).contracts ≡ 0 → Done r₀ r₁ (left_state o left ms b) (trade_all a (enter_order o b))
     gone-done z = done-in (same-nets b.orders left o b.strategies t.nets (own-price z))
 
     -- SOMETHING RESTS: the nets are made anew by the own side's price, which was `before`
@@ -128,7 +129,7 @@ module _ (o : LegOrder) (b : State) {a : ℕ} {rows : List LegOrder} (slot : a �
       left-asks =
           (fit.strategies, fit-left.orders, fit-left.priced, left-fits b.orders left o b.strategies fit.orders left-orders fit.strategies t.nets, own.side, rw p (price-most b.orders fit.orders _ _))
 
-      pub left-done : {nets : List LegNets} → Refreshed ms b.strategies left o.series o.side before nets → Done sp sq n m (left_state o left nets b) (trade_all a (enter_order o b))
+      pub left-done : {nets : List LegNets} → Refreshed ms b.strategies left o.series o.side before nets → Done r₀ r₁ (left_state o left nets b) (trade_all a (enter_order o b))
       left-done f = done-in (left-nets b.orders left o b.strategies fit.orders left-orders t.nets p f)
 
       pub left-fit : {nets : List LegNets} → Refreshed ms b.strategies left o.series o.side before nets → Fit (left_state o left nets b)

@@ -19,15 +19,16 @@ use Rattle.records.specs.Done.{Done, done-of, room_of}
 use Rattle.nets.specs.declared.LegBests.{LegBests}
 use Rattle.nets.specs.Legs.{leg_bests, legs-known, units-cut}
 use Rattle.legging.specs.declared.AfterLegs.{AfterLegs}
+use Rattle.records.specs.declared.Records.{Records}
 
 -- one leg: its records are written, and its quotas taken from the rows
-pub record OneLeg (sp sq : List ℤ) (n m : ℕ) (rows rest os : List LegOrder) (side q price : ℕ) (l : Leg) : Type 0 where
-  pub wrote : Appended sp sq n m (join_n (order_rows os (leg_quotas os (leg_take side (l.ratio * q) price l)) price) 32)
+pub record OneLeg (r₀ r₁ : Records) (rows rest os : List LegOrder) (side q price : ℕ) (l : Leg) : Type 0 where
+  pub wrote : Appended r₀ r₁ (join_n (order_rows os (leg_quotas os (leg_take side (l.ratio * q) price l)) price) 32)
   pub left : rest ≡ cut_orders rows (leg_quotas os (leg_take side (l.ratio * q) price l))
 
 -- the first k legs
-pub record AllLegs (sp sq : List ℤ) (n m : ℕ) (rows os : List LegOrder) (side q : ℕ) (legs : List Leg) (ps : List ℕ) (k : ℕ) : Type 0 where
-  pub wrote : Appended sp sq n m (join_n (order_records_at os (takes_at side q legs ps)) k)
+pub record AllLegs (r₀ r₁ : Records) (rows os : List LegOrder) (side q : ℕ) (legs : List Leg) (ps : List ℕ) (k : ℕ) : Type 0 where
+  pub wrote : Appended r₀ r₁ (join_n (order_records_at os (takes_at side q legs ps)) k)
   pub left : rows ≡ cut_by_legs os (takes_at side q legs ps) k
 
 -- a fill of entry e by the legs of s: its units
@@ -45,19 +46,19 @@ records_by_legs e os s =
     party_records e s (units_by_legs e os s) (net_of s ps) ps ++ join_n (order_records_at os (takes_at e.side (units_by_legs e os s) s.legs ps)) s.count
 
 -- .. such a fill done: the records written, the units and the leg orders handed back
-pub record FilledByLegs (sp sq : List ℤ) (n : ℕ) (t : AfterLegs) (e : Entry) (os : List LegOrder) (s : Strategy) : Type 0 where
-  pub wrote : Appended sp sq n t.count (records_by_legs e os s)
+pub record FilledByLegs (r₀ r₁ : Records) (t : AfterLegs) (e : Entry) (os : List LegOrder) (s : Strategy) : Type 0 where
+  pub wrote : Appended r₀ r₁.count (records_by_legs e os s)
   pub units : t.units ≡ units_by_legs e os s
   pub rows : t.rows ≡ orders_by_legs e os s
 
 -- laws
 
-pub legs-first : (sp : List ℤ) (n : ℕ) (os : List LegOrder) (side q : ℕ) (legs : List Leg) (ps : List ℕ) → AllLegs sp sp n n os os side q legs ps 0
+pub legs-first : (r₀ : Records) (os : List LegOrder) (side q : ℕ) (legs : List Leg) (ps : List ℕ) → AllLegs r₀ r₀ os os side q legs ps 0
 unfolding cut_by_legs
-legs-first sp n os side q legs ps = record { wrote = wrote-first sp n _; left = walk_first _ os }
+legs-first r os side q legs ps = record { wrote = wrote-first r _; left = walk_first _ os }
 
-pub legs-next : {sp sq sr : List ℤ} {n m k : ℕ} {rows rest os : List LegOrder} {side q : ℕ} {legs : List Leg} {ps : List ℕ} {i : ℕ}
-    → AllLegs sp sq n m rows os side q legs ps i → OneLeg sq sr m k rows rest os side q (slot ps i) (get_or legs i no_leg) → AllLegs sp sr n k rest os side q legs ps (i + 1)
+pub legs-next : {r₀ r₁ r₂ : Records} {rows rest os : List LegOrder} {side q : ℕ} {legs : List Leg} {ps : List ℕ} {i : ℕ}
+    → AllLegs r₀ r₁ rows os side q legs ps i → OneLeg r₁ r₂ rows rest os side q (slot ps i) (get_or legs i no_leg) → AllLegs r₀ r₂ rest os side q legs ps (i + 1)
 unfolding cut_by_legs
 legs-next {os = os} {side = side} {q = q} {legs = legs} {ps = ps} {i = i} g d =
     record { wrote = wrote-next (order_records_at os (takes_at side q legs ps)) i g.wrote d.wrote; left = walk-next (cut_step os (takes_at side q legs ps)) os i g.left d.left }
@@ -130,9 +131,9 @@ pub by-legs : (a : ℕ) (b : State) →
 unfolding leg_fill take_legs units_by_legs orders_by_legs records_by_legs
 by-legs a b = refl
 
-pub legs-room : (a : ℕ) (b : State) {sp : List ℤ} {n : ℕ} → Room sp n (leg_fill a b).records → Room sp n (records_by_legs (entry_at b a) b.orders (strategy_of b (entry_at b a)))
+pub legs-room : (a : ℕ) (b : State) {r₀ : Records} → Room r₀ (leg_fill a b).records → Room r₀ (records_by_legs (entry_at b a) b.orders (strategy_of b (entry_at b a)))
 legs-room a b r = room_of (by-legs a b) r
 
-pub legs-done : (a : ℕ) (b : State) {sp sq : List ℤ} {n : ℕ} {t : AfterLegs} → FilledByLegs sp sq n t (entry_at b a) b.orders (strategy_of b (entry_at b a))
-    → Done sp sq n t.count (with_orders (cut b a t.units) t.rows) (leg_fill a b)
+pub legs-done : (a : ℕ) (b : State) {r₀ r₁ : Records} {t : AfterLegs} → FilledByLegs r₀ r₁ (entry_at b a) b.orders (strategy_of b (entry_at b a))
+    → Done r₀ r₁.count (with_orders (cut b a t.units) t.rows) (leg_fill a b)
 legs-done a b f = done-of (by-legs a b) (record { wrote = f.wrote; state = rw (f.units, f.rows) })

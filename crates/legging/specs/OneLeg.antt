@@ -14,17 +14,18 @@ use Rattle.rules.specs.Fills.{LegTake, leg_take, leg_quotas, order_row, order_ro
 use Rattle.records.specs.Space.{Appended, Room, room_row, wrote-nil, wrote-first, wrote-next}
 use Rattle.quotas.specs.Laws.{in_turn-is, in_turn-left}
 use Rattle.legging.specs.Legging.{OneLeg}
+use Rattle.records.specs.declared.Records.{Records}
 
--- the first i leg orders have given what they give of t: the space sp became sq, the next place is m, of the rows rest are left, and r is to be taken
-pub record Taking (sp sq : List ℤ) (n m : ℕ) (rows rest os : List LegOrder) (t : LegTake) (r i : ℕ) : Type 0 where
+-- the first i leg orders have given what they give of t: the records r₀ became r₁, of the rows rest are left, and r is to be taken
+pub record Taking (r₀ r₁ : Records) (rows rest os : List LegOrder) (t : LegTake) (r i : ℕ) : Type 0 where
   pub most : i ≤ 32
   pub left : r ≡ t.contracts - sum_n (slot (lots os t.series t.side t.price)) i
-  pub wrote : Appended sp sq n m (join_n (order_rows os (leg_quotas os t) t.price) i)
+  pub wrote : Appended r₀ r₁ (join_n (order_rows os (leg_quotas os t) t.price) i)
   pub cut : rest ≡ seam (cut_at rows (leg_quotas os t)) rows i
 
-pub taking-first : (sp : List ℤ) (n : ℕ) (rows os : List LegOrder) (t : LegTake) → Taking sp sp n n rows rows os t t.contracts 0
+pub taking-first : (r₀ : Records) (rows os : List LegOrder) (t : LegTake) → Taking r₀ r₀ rows rows os t t.contracts 0
 unfolding sum_n
-taking-first sp n rows os t = record { most = omega arith; left = omega arith; wrote = wrote-first sp n _; cut = sym (seam-first _ rows) }
+taking-first r rows os t = record { most = omega arith; left = omega arith; wrote = wrote-first r _; cut = sym (seam-first _ rows) }
 
 module _ (os : List LegOrder) (t : LegTake) {i r x k : ℕ} (h : i < 32) (l : r ≡ t.contracts - sum_n (slot (lots os t.series t.side t.price)) i)
     (found : x ≡ lot_at os t.series t.side t.price i) (least : k ≡ min r x) where
@@ -44,18 +45,18 @@ module _ (os : List LegOrder) (t : LegTake) {i r x k : ℕ} (h : i < 32) (l : r 
   left_is = ap (λ (y : ℕ). r - y) least-held ∙ in_turn-left t.contracts held i r l
 
 -- one order more
-module _ {sp sq : List ℤ} {n m : ℕ} {rows rest os : List LegOrder} (t : LegTake) {r i x k : ℕ} (size : length rows ≡ 32) (h : i < 32) (g : Taking sp sq n m rows rest os t r i)
+module _ {r₀ r₁ : Records} {rows rest os : List LegOrder} (t : LegTake) {r i x k : ℕ} (size : length rows ≡ 32) (h : i < 32) (g : Taking r₀ r₁ rows rest os t r i)
     (found : x ≡ lot_at os t.series t.side t.price i) (least : k ≡ min r x) where
   abbrev quota : k ≡ slot (leg_quotas os t) i
   quota = quota-is os t h g.left found least
 
   -- there is room for its record
-  pub taking-room : Room sp n (join_n (order_rows os (leg_quotas os t) t.price) 32) → Room sq m (order_row (get_or os i no_order) k t.price)
+  pub taking-room : Room r₀ (join_n (order_rows os (leg_quotas os t) t.price) 32) → Room r₁ (order_row (get_or os i no_order) k t.price)
   taking-room room = rw quota (room_row (order_rows os (leg_quotas os t) t.price) 32 i room h g.wrote)
 
   -- it gives k
-  pub taking-some : {sr : List ℤ} {j : ℕ} {row : LegOrder} → Appended sq sr m j (order_row (get_or os i no_order) k t.price) → row ≡ cut_order (get_or rest i no_order) k
-      → Taking sp sr n j rows (set rest i row) os t (r - k) (i + 1)
+  pub taking-some : {r₂ : Records} {row : LegOrder} → Appended r₁ r₂ (order_row (get_or os i no_order) k t.price) → row ≡ cut_order (get_or rest i no_order) k
+      → Taking r₀ r₂ rows (set rest i row) os t (r - k) (i + 1)
   taking-some {row = row} d e = record {
     most = omega arith;
     left = left_is os t h g.left found least;
@@ -68,19 +69,19 @@ module _ {sp sq : List ℤ} {n m : ℕ} {rows rest os : List LegOrder} (t : LegT
           ∙ ap (cut_order (get_or rows i no_order)) quota
 
   -- it gives nothing
-  pub taking-none : k ≤ 0 → Taking sp sq n m rows rest os t r (i + 1)
+  pub taking-none : k ≤ 0 → Taking r₀ r₁ rows rest os t r (i + 1)
   unfolding order_row pick
   taking-none z =
       let none : slot (leg_quotas os t) i ≡ 0 = sym quota ∙ (omega arith) in
       record {
         most = omega arith;
         left = omega (arith, left_is os t h g.left found least);
-        wrote = wrote-next (order_rows os (leg_quotas os t) t.price) i g.wrote (rw none (wrote-nil sq m));
+        wrote = wrote-next (order_rows os (leg_quotas os t) t.price) i g.wrote (rw none (wrote-nil r₁));
         cut = g.cut ∙ seam-skip (cut_at rows (leg_quotas os t)) rows no_order i (omega arith) (rw (none, sub-zero (get_or rows i no_order).contracts));
       }
 
 -- all of them
-pub taking-last : {sp sq : List ℤ} {n m : ℕ} {rows rest os : List LegOrder} (side q price : ℕ) (l : Leg) {r i : ℕ} → length rows ≡ 32 → i ≡ 32
-    → Taking sp sq n m rows rest os (leg_take side (l.ratio * q) price l) r i → OneLeg sp sq n m rows rest os side q price l
+pub taking-last : {r₀ r₁ : Records} {rows rest os : List LegOrder} (side q price : ℕ) (l : Leg) {r i : ℕ} → length rows ≡ 32 → i ≡ 32
+    → Taking r₀ r₁ rows rest os (leg_take side (l.ratio * q) price l) r i → OneLeg r₀ r₁ rows rest os side q price l
 unfolding cut_orders
 taking-last side q price l {i = i} size e g = let d = rw e at g in record { wrote = d.wrote; left = d.cut ∙ seam-last _ _ 32 (omega arith) }

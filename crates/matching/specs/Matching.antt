@@ -28,6 +28,7 @@ use Rattle.rules.proofs.Gives.{bounds-same}
 use Rattle.rules.proofs.Turns.{idle}
 use Rattle.records.specs.Done.{Done}
 use Rattle.ranges.specs.Fit.{Fit, fit-done}
+use Rattle.records.specs.declared.Records.{Records}
 
 -- whether a strategy holds series s and is all open
 unfoldable pub open_with : Strategy → ℕ → ℕ → Bool
@@ -179,15 +180,15 @@ match-stops k i b c h e s =
     ap (λ (j : ℕ). each (match_once k) j b) q ∙ idle (match_once k) b i (λ j. match-turn k j i (each (match_once k) i b).state ∙ g) (32 - i)
 
 -- the ranges after the matches of some strategies
-pub fit-series : (s i : ℕ) (b : State) {c : State} {sp sq : List ℤ} {n m : ℕ} → Fit b → Done sp sq n m c (each (match_in s) i b) → Fit c
+pub fit-series : (s i : ℕ) (b : State) {c : State} {r₀ r₁ : Records} → Fit b → Done r₀ r₁ c (each (match_in s) i b) → Fit c
 fit-series s i b f d = fit-done d (each-kept shrinks-kept (match_in s) (match_in-kept shrinks-kept s) i b f.order_rows) f
 
 -- .. and of one
-pub fit-matches : (k i : ℕ) (b : State) {c : State} {sp sq : List ℤ} {n m : ℕ} → Fit b → Done sp sq n m c (each (match_once k) i b) → Fit c
+pub fit-matches : (k i : ℕ) (b : State) {c : State} {r₀ r₁ : Records} → Fit b → Done r₀ r₁ c (each (match_once k) i b) → Fit c
 fit-matches k i b f d = fit-done d (each-kept shrinks-kept (match_once k) (match_once-kept shrinks-kept k) i b f.order_rows) f
 
 -- .. which leave its bounds
-pub same-bounds : (k i : ℕ) (b : State) {c : State} {w : Bounds} {sp sq : List ℤ} {n m : ℕ} → Fit b → w ≡ bounds_at b k → Done sp sq n m c (each (match_once k) i b) → w ≡ bounds_at c k
+pub same-bounds : (k i : ℕ) (b : State) {c : State} {w : Bounds} {r₀ r₁ : Records} → Fit b → w ≡ bounds_at b k → Done r₀ r₁ c (each (match_once k) i b) → w ≡ bounds_at c k
 same-bounds k i b {c} f e d =
     let h : Shrinks b c = rw d.state (each-kept shrinks-kept (match_once k) (match_once-kept shrinks-kept k) i b f.order_rows) in
     e ∙ sym (bounds-same h k)

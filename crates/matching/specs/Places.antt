@@ -37,6 +37,7 @@ use Rattle.stored_nets.specs.Laws.{net-stored}
 use Rattle.passes.specs.Passes.{stops_at, legs_met, legs-still, legs-turn}
 use Rattle.matching.specs.Searches.{Searched, searched-past, searched-here, searched-all}
 use Rattle.matching.specs.Matching.{passes_legs, legs-not, legs-yes, in-yes, in-not}
+use Rattle.records.specs.declared.Records.{Records}
 
 -- whether strategy t gets passes by legs only, and the pass of its entry e would do something but for its bounds
 unfoldable pub acts_in : Entry → Strategy → List LegOrder → ℕ → ℕ → Bool
@@ -207,8 +208,8 @@ each-skips f b i (suc j) h =
     ∙ ap (λ (x : Moved). and_then x (f (j + i))) (each-skips f b i j (λ p l m. h p l (omega arith)))
     ∙ then-still (each f i b) (f (j + i)) (h (j + i) (omega arith) (omega arith))
 
-visit-skips : {f : ℕ → State → Moved} {k i j : ℕ} {b₀ b : State} {sp sq : List ℤ} {n m : ℕ} → Visited f k b₀ sp sq n m b i → i ≤ j → j ≤ k
-    → ((p : ℕ) → i ≤ p → p < j → f p b ≡ still b) → Visited f k b₀ sp sq n m b j
+visit-skips : {f : ℕ → State → Moved} {k i j : ℕ} {b₀ b : State} {r₀ r₁ : Records} → Visited f k b₀ r₀ r₁ b i → i ≤ j → j ≤ k
+    → ((p : ℕ) → i ≤ p → p < j → f p b ≡ still b) → Visited f k b₀ r₀ r₁ b j
 visit-skips {f} {k} {i} {j} {b₀} v h g s =
     let q : j ≡ j - i + i = omega arith in
     let e : each f j b₀ ≡ each f i b₀ = ap (λ (x : ℕ). each f x b₀) q ∙ each-skips f b₀ i (j - i) (λ p l m. rw (← v.done.state) (s p l (omega arith))) in
@@ -277,22 +278,22 @@ module _ (s : ℕ) where
           legs-yes (p / 32) (p % 32) b d ∙ legs-still (p % 32) b (net_ready b.orders e.side (strategy_at b (p / 32))) (rw own refl) (not-false _ idle)
 
 -- THE LOOP: the places before one are visited, and that one acts
-pub record PassedTo (s : ℕ) (b₀ : State) (sp sq : List ℤ) (n m : ℕ) (b : State) (at : ℕ) : Type 0 where
-  pub visited : Visited (place_pass s) 512 b₀ sp sq n m b at
+pub record PassedTo (s : ℕ) (b₀ : State) (r₀ r₁ : Records) (b : State) (at : ℕ) : Type 0 where
+  pub visited : Visited (place_pass s) 512 b₀ r₀ r₁ b at
   pub next : at < 512 → acts_at b s at ≡ true
 
 -- the next that acts, after the first i places
-passing-from : {s : ℕ} {b₀ b : State} {sp sq : List ℤ} {n m i at : ℕ} → Visited (place_pass s) 512 b₀ sp sq n m b i
-    → at ≡ next_at b s i → PassedTo s b₀ sp sq n m b at
+passing-from : {s : ℕ} {b₀ b : State} {r₀ r₁ : Records} {i at : ℕ} → Visited (place_pass s) 512 b₀ r₀ r₁ b i
+    → at ≡ next_at b s i → PassedTo s b₀ r₀ r₁ b at
 passing-from {s} {b = b} {i = i} {at = at} v e = record {
   visited = visit-skips v (next-from b s i e v.most) (next-most b s i e) (λ p l h. place-stays s p b (next-skips b s i e p l h));
   next = next-acts b s i e;
 }
 
-pub passing-first : {s : ℕ} {b : State} {at : ℕ} (sp : List ℤ) (n : ℕ) → at ≡ next_at b s 0 → PassedTo s b sp sp n n b at
-passing-first {s} {b} sp n e = passing-from (visit-none (place_pass s) 512 b sp n) e
+pub passing-first : {s : ℕ} {b : State} {at : ℕ} (r₀ : Records) → at ≡ next_at b s 0 → PassedTo s b r₀ r₀ b at
+passing-first {s} {b} r e = passing-from (visit-none (place_pass s) 512 b r) e
 
-module _ {s : ℕ} {b₀ b : State} {sp sq : List ℤ} {n m at : ℕ} (f : Fit b₀) (v : PassedTo s b₀ sp sq n m b at) where
+module _ {s : ℕ} {b₀ b : State} {r₀ r₁ : Records} {at : ℕ} (f : Fit b₀) (v : PassedTo s b₀ r₀ r₁ b at) where
   -- the ranges in the loop
   pub passing-fit : Fit b
   unfolding place_pass
@@ -301,20 +302,20 @@ module _ {s : ℕ} {b₀ b : State} {sp sq : List ℤ} {n m at : ℕ} (f : Fit b
       (each-kept shrinks-kept (place_pass s) (λ p c rows. pick_all (λ (x : Moved). Shrinks c x.state) _ (leg_pass-kept shrinks-kept _ _ c rows) (shrinks-refl c)) at b₀ f.order_rows) f
 
   -- .. and after the pass
-  pub passing-fits : {sr : List ℤ} {o : ℕ} {c : State} → Done sq sr m o c (pass LegsOnly true (at % 32) b) → Fit c
+  pub passing-fits : {r₂ : Records} {c : State} → Done r₁ r₂ c (pass LegsOnly true (at % 32) b) → Fit c
   passing-fits d = fit-done d (pass_kept shrinks-kept LegsOnly true (at % 32) b passing-fit.order_rows) passing-fit
 
-  pub passing-room : at < 512 → Room sp n (leg_passes s b₀).records → Room sq m (pass LegsOnly true (at % 32) b).records
+  pub passing-room : at < 512 → Room r₀ (leg_passes s b₀).records → Room r₁ (pass LegsOnly true (at % 32) b).records
   passing-room h r = visit-room v.visited h (place-moves s at b (v.next h)) (room_of (passes-places s f) r)
 
-  pub passing-next : at < 512 → {sr : List ℤ} {o x : ℕ} {c : State} → Done sq sr m o c (pass LegsOnly true (at % 32) b)
-      → x ≡ next_at c s (at + 1) → PassedTo s b₀ sp sr n o c x
+  pub passing-next : at < 512 → {r₂ : Records} {x : ℕ} {c : State} → Done r₁ r₂ c (pass LegsOnly true (at % 32) b)
+      → x ≡ next_at c s (at + 1) → PassedTo s b₀ r₀ r₂ c x
   passing-next h d e = passing-from (visit-moves v.visited h (place-moves s at b (v.next h)) d) e
 
-  pub passing-less : at < 512 → {sr : List ℤ} {o x : ℕ} {c : State} → Done sq sr m o c (pass LegsOnly true (at % 32) b) → x ≡ next_at c s (at + 1) → 512 - x < 512 - at
+  pub passing-less : at < 512 → {r₂ : Records} {x : ℕ} {c : State} → Done r₁ r₂ c (pass LegsOnly true (at % 32) b) → x ≡ next_at c s (at + 1) → 512 - x < 512 - at
   passing-less h {c = c} d e = omega (arith, next-from c s (at + 1) e (omega arith))
 
-  pub passing-all : 512 ≤ at → Done sp sq n m b (leg_passes s b₀)
+  pub passing-all : 512 ≤ at → Done r₀ r₁ b (leg_passes s b₀)
   passing-all h = done-of (passes-places s f) (visit-all v.visited h)
 
 -- where no place acts nothing moves

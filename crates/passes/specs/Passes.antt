@@ -41,6 +41,7 @@ use Rattle.stored_nets.specs.Laws.{net-stored}
 use Rattle.legging.specs.declared.AfterLegs.{AfterLegs}
 use Rattle.legging.specs.Legging.{records_by_legs, FilledByLegs}
 use Rattle.legging.specs.Legging as L
+use Rattle.records.specs.declared.Records.{Records}
 
 unfoldable pub stops_at : Turn → Bool
 stops_at Stop = true
@@ -72,8 +73,8 @@ unfoldable pub turn_in : Bounds → Entry → ℕ → ℕ → Turn
 turn_in w e x net = allowed w e.side net (turn_at e x net)
 
 -- a loop of turns, of which i are taken; no strategy has changed
-pub record Turning (way : Allocation) (legs : Bool) (a k : ℕ) (b₀ : State) (sp sq : List ℤ) (n m : ℕ) (b : State) (i : ℕ) : Type 0 where
-  pub visited : Visited (turn way legs a) k b₀ sp sq n m b i
+pub record Turning (way : Allocation) (legs : Bool) (a k : ℕ) (b₀ : State) (r₀ r₁ : Records) (b : State) (i : ℕ) : Type 0 where
+  pub visited : Visited (turn way legs a) k b₀ r₀ r₁ b i
   pub strategies : b.strategies ≡ b₀.strategies
 
 -- what the choice of turn t by entry a of strategy s says of what was met on the legs, p
@@ -278,11 +279,11 @@ turn-limit way legs a b level e = ap (λ (t : Turn). take_turn way a t b) e
 
 -- THE LOOP OF TURNS
 
-pub turning-none : (way : Allocation) (legs : Bool) (a k : ℕ) (b : State) (sp : List ℤ) (n : ℕ) → Turning way legs a k b sp sp n n b 0
-turning-none way legs a k b sp n = record { visited = visit-none _ _ _ _ _; strategies = refl }
+pub turning-none : (way : Allocation) (legs : Bool) (a k : ℕ) (b : State) (r₀ : Records) → Turning way legs a k b r₀ r₀ b 0
+turning-none way legs a k b r = record { visited = visit-none _ _ _ _; strategies = refl }
 
-module _ (way : Allocation) (legs : Bool) (a : ℕ) {k i : ℕ} {b₀ b : State} {sp sq : List ℤ} {n m : ℕ} (g : Turning way legs a k b₀ sp sq n m b i) where
-  pub turning-stops : turn_of way legs a b ≡ Stop → Turning way legs a k b₀ sp sq n m b k
+module _ (way : Allocation) (legs : Bool) (a : ℕ) {k i : ℕ} {b₀ b : State} {r₀ r₁ : Records} (g : Turning way legs a k b₀ r₀ r₁ b i) where
+  pub turning-stops : turn_of way legs a b ≡ Stop → Turning way legs a k b₀ r₀ r₁ b k
   unfolding stops_at
   turning-stops e = record {
     visited = record { most = omega arith; done = done-of (pass-stops way legs a k i b₀ b g.visited.most g.visited.done.state (ap stops_at e)) g.visited.done };
@@ -290,10 +291,10 @@ module _ (way : Allocation) (legs : Bool) (a : ℕ) {k i : ℕ} {b₀ b : State}
   }
 
   -- the end is as good as the next turn, where nothing of the entry f is left
-  turning-next : {f : Entry} → f ≡ entry_at b a → {r : ℕ} → r ≡ pick (eqb f.units 0) k i → Turning way legs a k b₀ sp sq n m b r
+  turning-next : {f : Entry} → f ≡ entry_at b a → {r : ℕ} → r ≡ pick (eqb f.units 0) k i → Turning way legs a k b₀ r₀ r₁ b r
   turning-next {f} p e =
       rw e
-      (pick-by (Turning way legs a k b₀ sp sq n m b) (eqb f.units 0)
+      (pick-by (Turning way legs a k b₀ r₀ r₁ b) (eqb f.units 0)
       (λ z. turning-stops (sym (turn-none way legs a b (sym (ap (λ (x : Entry). x.units) p) ∙ eqb-true _ _ z))))
       (λ z. g))
 
@@ -301,7 +302,7 @@ module _ (way : Allocation) (legs : Bool) (a : ℕ) {k i : ℕ} {b₀ b : State}
 pub next-less : (t : Bool) {i k r : ℕ} → i < k → r ≡ pick t k (i + 1) → k - r < k - i
 next-less t {i} {k} l e = rw e (pick_all (λ (x : ℕ). k - x < k - i) t (omega arith) (omega arith))
 
-module _ (way : Allocation) (legs : Bool) (a : ℕ) {k i : ℕ} {b₀ b : State} {sp sq : List ℤ} {n m : ℕ} (fit : Fit b₀) (g : Turning way legs a k b₀ sp sq n m b i) where
+module _ (way : Allocation) (legs : Bool) (a : ℕ) {k i : ℕ} {b₀ b : State} {r₀ r₁ : Records} (fit : Fit b₀) (g : Turning way legs a k b₀ r₀ r₁ b i) where
   -- the strategy of the active entry
   abbrev own : Strategy
   own = strategy_of b₀ (entry_at b₀ a)
@@ -371,17 +372,17 @@ module _ (way : Allocation) (legs : Bool) (a : ℕ) {k i : ℕ} {b₀ b : State}
     pub turning-chosen : Chosen way legs a b own t p
     turning-chosen = record { turn = turning-turn; found = turning-found; some = turning-some }
 
-  pub legs-room : turn_of way legs a b ≡ ByLegs → i < k → Room sp n (each (turn way legs a) k b₀).records → Room sq m (records_by_legs (entry_at b a) b.orders own)
+  pub legs-room : turn_of way legs a b ≡ ByLegs → i < k → Room r₀ (each (turn way legs a) k b₀).records → Room r₁ (records_by_legs (entry_at b a) b.orders own)
   legs-room e l r = rw same-own at (L.legs-room a b (visit-room g.visited l (turn-legs way legs a b e) r))
 
   -- the leg orders left are in range
-  pub legs-fit : turn_of way legs a b ≡ ByLegs → {sr : List ℤ} {t : AfterLegs} → FilledByLegs sq sr m t (entry_at b a) b.orders own → Fit (with_orders (cut b a t.units) t.rows)
+  pub legs-fit : turn_of way legs a b ≡ ByLegs → {r₂ : Records} {t : AfterLegs} → FilledByLegs r₁ r₂ (entry_at b a) b.orders own → Fit (with_orders (cut b a t.units) t.rows)
   legs-fit e d =
       fit-done (L.legs-done a b (rw (sym same-own) at d)) (rw (turn-legs way legs a b e) at (turn-kept shrinks-kept way legs a i b turning-fit.order_rows)) turning-fit
 
-  pub turning-legs : turn_of way legs a b ≡ ByLegs → i < k → {sr : List ℤ} {t : AfterLegs} → FilledByLegs sq sr m t (entry_at b a) b.orders own
+  pub turning-legs : turn_of way legs a b ≡ ByLegs → i < k → {r₂ : Records} {t : AfterLegs} → FilledByLegs r₁ r₂ (entry_at b a) b.orders own
       → {f : Entry} → f ≡ cut_entry (entry_at b a) t.units → {r : ℕ} → r ≡ pick (eqb f.units 0) k (i + 1)
-      → Turning way legs a k b₀ sp sr n t.count (with_orders (cut b a t.units) t.rows) r
+      → Turning way legs a k b₀ r₀ r₂.count (with_orders (cut b a t.units) t.rows) r
   unfolding with_orders cut with_entries
   turning-legs e l {t = t} d p q =
       turning-next way legs a
@@ -389,11 +390,11 @@ module _ (way : Allocation) (legs : Bool) (a : ℕ) {k i : ℕ} {b₀ b : State}
       (p ∙ sym (cut_at b a t.units))
       q
 
-  pub limit-room : {level : ℕ} → turn_of way legs a b ≡ AtLimit level → i < k → Room sp n (each (turn way legs a) k b₀).records → RoomIn (HasRows b.entries own a) (meet_limit way a level) sq m
+  pub limit-room : {level : ℕ} → turn_of way legs a b ≡ AtLimit level → i < k → Room r₀ (each (turn way legs a) k b₀).records → RoomIn (HasRows b.entries own a) (meet_limit way a level) r₁
   limit-room {level} e l r = record { book = b; held = turning-rows; room = visit-room g.visited l (turn-limit way legs a b level e) r }
 
-  pub turning-limit : (rows : List Entry) {level : ℕ} → turn_of way legs a b ≡ AtLimit level → i < k → {sr : List ℤ} {o : ℕ} → DoneIn (HasRows b.entries own a) (meet_limit way a level) sq sr m o (put_entries rows)
-      → {r : ℕ} → r ≡ pick (eqb (get_or rows a no_entry).units 0) k (i + 1) → Turning way legs a k b₀ sp sr n o (with_entries b rows) r
+  pub turning-limit : (rows : List Entry) {level : ℕ} → turn_of way legs a b ≡ AtLimit level → i < k → {r₂ : Records} → DoneIn (HasRows b.entries own a) (meet_limit way a level) r₁ r₂ (put_entries rows)
+      → {r : ℕ} → r ≡ pick (eqb (get_or rows a no_entry).units 0) k (i + 1) → Turning way legs a k b₀ r₀ r₂ (with_entries b rows) r
   unfolding with_entries
   turning-limit rows {level} e l d q =
       turning-next way legs a

@@ -17,6 +17,7 @@ use Rattle.rules.proofs.Shrinks.{SameOrder, SameStrategy, Shrinks}
 use Rattle.rules.proofs.Bests.{priced-none, priced-sound}
 use Rattle.rules.proofs.Entering.{fit-no-leg, fit_none, fit-no-order, entry-fits, order-fits}
 use Rattle.records.specs.Done.{Done}
+use Rattle.records.specs.declared.Records.{Records}
 
 -- the legs of a strategy, whatever auction runs
 pub record FitLegs (s : Strategy) : Type 0 where
@@ -118,5 +119,5 @@ fit-shrinks {b} {c} s f = record {
 }
 
 -- the state that a function left
-pub fit-done : {sp sq : List ℤ} {n m : ℕ} {b c : State} {x : Moved} → Done sp sq n m c x → Shrinks b x.state → Fit b → Fit c
+pub fit-done : {r₀ r₁ : Records} {b c : State} {x : Moved} → Done r₀ r₁ c x → Shrinks b x.state → Fit b → Fit c
 fit-done d s f = rw d.state (fit-shrinks s f)

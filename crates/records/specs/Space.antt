@@ -12,6 +12,7 @@ use Rattle.rules.specs.Sizes.{records_lent, record_space}
 use Rattle.rules.specs.declared.Kind.{Kind}
 use Rattle.rules.specs.declared.Kind.TheVariants.{WholeFill, LegFill, LegOrderFill, Cancelled, LegOrderCancelled, AuctionBegun, AuctionEnded}
 use Rattle.rules.specs.declared.Record.{Record}
+use Rattle.records.specs.declared.Records.{Records}
 use Rattle.rules.specs.Records.{kind_number, cents, line_of, numbers_of}
 
 -- the numbers of records, one after the other
@@ -23,10 +24,11 @@ numbers (r ∷ rs) = numbers_of (line_of r) ++ numbers rs
 unfoldable pub laid : List ℤ → ℕ → List Record → List ℤ
 laid s n rs = sets s (n * 6) (numbers rs)
 
--- rs were written from place n on: the space s became t, the next place is m
-pub record Appended (s t : List ℤ) (n m : ℕ) (rs : List Record) : Type 0 where
-  pub count : m ≡ n + length rs
-  pub space : t ≡ laid s n rs
+-- rs were written behind the records of r₀, which became r₁; the space is the same one
+pub record Appended (r₀ r₁ : Records) (rs : List Record) : Type 0 where
+  pub count : r₁.count ≡ r₀.count + length rs
+  pub space : r₁.space.now ≡ laid r₀.space.now r₀.count rs
+  pub lent : r₁.space.ghost_name ≡ r₀.space.ghost_name
 
 -- "Six signed 32-bit numbers each": a record's numbers fit (kind, place and side are smaller by their types)
 pub record Small (r : Record) : Type 0 where
@@ -34,10 +36,10 @@ pub record Small (r : Record) : Type 0 where
   pub quantity : r.quantity < 2_147_483_648
   pub level : r.level < 2_147_483_648
 
--- there is room for rs from place n on: "Each event is lent space for 2,560 records", and each of them fits it
-pub record Room (s : List ℤ) (n : ℕ) (rs : List Record) : Type 0 where
-  pub count : n + length rs ≤ records_lent
-  pub space : record_space ≤ length s
+-- there is room for rs behind the records of r: "Each event is lent space for 2,560 records", and each of them fits it
+pub record Room (r : Records) (rs : List Record) : Type 0 where
+  pub count : r.count + length rs ≤ records_lent
+  pub space : record_space ≤ length r.space.now
   pub small : All Small rs
 
 -- laws
@@ -120,31 +122,35 @@ laid-append s n rs qs =
     let e : (n + length rs) * 6 ≡ n * 6 + length (numbers rs) = omega (arith, length-numbers rs) in
     rw (e, numbers-append) (sym (sets-append s (n * 6) (numbers rs) (numbers qs)))
 
-pub wrote-nil : (s : List ℤ) (n : ℕ) → Appended s s n n []
+pub wrote-nil : (r : Records) → Appended r r []
 unfolding laid numbers
-wrote-nil s n = record { count = sym (add-zero n); space = refl }
+wrote-nil r = record { count = sym (add-zero r.count); space = refl; lent = refl }
 
-pub wrote-append : {s t u : List ℤ} {n m k : ℕ} {rs qs : List Record} → Appended s t n m rs → Appended t u m k qs → Appended s u n k (rs ++ qs)
-wrote-append {s} {t} {u} {n} {m} {k} {rs} {qs} a b =
-    record { count = rw length-append (omega arith); space = cc (a.space, b.space, a.count, laid-append s n rs qs) }
+pub wrote-append : {r₀ r₁ r₂ : Records} {rs qs : List Record} → Appended r₀ r₁ rs → Appended r₁ r₂ qs → Appended r₀ r₂ (rs ++ qs)
+wrote-append {r₀} {r₁} {r₂} {rs} {qs} a b =
+    record {
+      count = rw length-append (omega (arith, a.count, b.count));
+      space = cc (a.space, b.space, a.count, laid-append r₀.space.now r₀.count rs qs);
+      lent = b.lent ∙ a.lent;
+    }
 
-pub wrote-length : {s t : List ℤ} {n m : ℕ} {rs : List Record} → Appended s t n m rs → length t ≡ length s
-wrote-length {s} {t} {n} {m} {rs} w = ap length w.space ∙ length-laid s n rs
+pub wrote-length : {r₀ r₁ : Records} {rs : List Record} → Appended r₀ r₁ rs → length r₁.space.now ≡ length r₀.space.now
+wrote-length {r₀} {r₁} {rs} w = ap length w.space ∙ length-laid r₀.space.now r₀.count rs
 
 -- a walk that writes records: none yet, and one slot more
-pub wrote-first : (s : List ℤ) (n : ℕ) (f : ℕ → List Record) → Appended s s n n (join_n f 0)
+pub wrote-first : (r : Records) (f : ℕ → List Record) → Appended r r (join_n f 0)
 unfolding join_n
-wrote-first s n f = wrote-nil s n
+wrote-first r f = wrote-nil r
 
-pub wrote-next : (f : ℕ → List Record) (i : ℕ) {s t u : List ℤ} {n m k : ℕ} → Appended s t n m (join_n f i) → Appended t u m k (f i) → Appended s u n k (join_n f (i + 1))
+pub wrote-next : (f : ℕ → List Record) (i : ℕ) {r₀ r₁ r₂ : Records} → Appended r₀ r₁ (join_n f i) → Appended r₁ r₂ (f i) → Appended r₀ r₂ (join_n f (i + 1))
 unfolding join_n
 wrote-next f i a b = rw (add-one i) (wrote-append a b)
 
 -- room for two lists is room for the first, and then for the second
-pub room-first : (rs qs : List Record) {s : List ℤ} {n : ℕ} → Room s n (rs ++ qs) → Room s n rs
+pub room-first : (rs qs : List Record) {r₀ : Records} → Room r₀ (rs ++ qs) → Room r₀ rs
 room-first rs qs r = record { count = omega (arith, r.count, length-append rs qs); space = r.space; small = all_first rs qs r.small }
 
-pub room_next : (rs qs : List Record) {s t : List ℤ} {n m : ℕ} → Room s n (rs ++ qs) → Appended s t n m rs → Room t m qs
+pub room_next : (rs qs : List Record) {r₀ r₁ : Records} → Room r₀ (rs ++ qs) → Appended r₀ r₁ rs → Room r₁ qs
 room_next rs qs r w =
     record { count = omega (arith, r.count, w.count, length-append rs qs); space = omega (arith, r.space, wrote-length w); small = all_rest rs qs r.small }
 
@@ -154,7 +160,7 @@ join-rise f i zero = rw zero-add (omega arith)
 join-rise f i (suc j) = let h = join-rise f i j in rw (suc-add, length-append) (omega arith)
 
 -- room for all slots is room for the next one
-pub room_row : (f : ℕ → List Record) (k i : ℕ) {s t : List ℤ} {n m : ℕ} → Room s n (join_n f k) → i < k → Appended s t n m (join_n f i) → Room t m (f i)
+pub room_row : (f : ℕ → List Record) (k i : ℕ) {r₀ r₁ : Records} → Room r₀ (join_n f k) → i < k → Appended r₀ r₁ (join_n f i) → Room r₁ (f i)
 unfolding join_n
 room_row f k i r h w =
     let q : k ≡ k - suc i + suc i = omega arith in

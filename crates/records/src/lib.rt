@@ -1,16 +1,16 @@
-// Records written into a space that the caller lends, and what every function that moves the state hands back.
+// Records written into a space that the caller lends.
 #![tactic(auto)]
 
 ghost use Rattle.std.specs.Prelude.{◌≡◌, [], ◌∷◌, ◌+◌, ◌*◌, ◌-◌, ◌<◌, min};
 ghost use Rattle.rules.specs.Records.{kind_number, cents};
 ghost use Rattle.records.specs.Space.{Appended, Room};
 
-use rules::{Kind, Record, State};
+use rules::{Kind, Record};
 
-// A state that moved, and the next free place for records.
-#[derive(Clone, Copy)]
-pub struct After {
-    pub state: State,
+// The space that a caller lends for records, and how many were written at its start.
+#[derive(Drop)]
+pub struct Records<'a> {
+    pub space: &'a mut [i32],
     pub count: usize,
 }
 
@@ -37,22 +37,21 @@ pub fn cents(level: u32) -> i32
     level as i32 - 10000000
 }
 
-// One record at place n of the space, counted in records; answers the next place.
-pub fn push(space: &mut [i32], n: usize, r: Record) -> usize
-    requires { Room space.old n (r ∷ []) }
-    ensures { Appended space.old space.new n result (r ∷ []) }
-{
-    let k = r.kind;
-    let kind = kind_number(k);
-    let price = cents(r.level);
-    let at = n * 6;
-    space[at] = kind as i32;
-    space[at + 1] = r.number as i32;
-    space[at + 2] = r.place as i32;
-    space[at + 3] = r.side as i32;
-    space[at + 4] = r.quantity as i32;
-    space[at + 5] = price;
-    n + 1
+impl<'a> Records<'a> {
+    // One record behind those written.
+    pub fn push(&mut self, r: Record)
+        requires { Room self.old (r ∷ []) }
+        ensures { Appended self.old self.new (r ∷ []) }
+    {
+        let at = self.count * 6;
+        self.space[at] = kind_number(r.kind) as i32;
+        self.space[at + 1] = r.number as i32;
+        self.space[at + 2] = r.place as i32;
+        self.space[at + 3] = r.side as i32;
+        self.space[at + 4] = r.quantity as i32;
+        self.space[at + 5] = cents(r.level);
+        self.count += 1;
+    }
 }
 
 pub fn least(a: u32, b: u32) -> u32

@@ -17,6 +17,7 @@ use Rattle.records.specs.Space.{Appended, Room}
 use Rattle.records.specs.Done.{RoomIn, DoneIn, room_of, done-of, in-done, slots-none, slots-move, slots-room}
 use Rattle.tables.specs.Only.{only_orders}
 use Rattle.legs.specs.Search.{best-order-most}
+use Rattle.records.specs.declared.Records.{Records}
 
 -- the records of a trade of q contracts at the resting price
 abbrev pub trade_records : LegOrder → LegOrder → ℕ → List Record
@@ -125,20 +126,20 @@ traded-length os a h q =
     length-set first h (cut_order (get_or first h no_order) q) ∙ length-set os a (cut_order (get_or os a no_order) q)
 
 -- THE LOOP, which has made i turns
-pub record Trading (os : List LegOrder) (a : ℕ) (sp sq : List ℤ) (n m : ℕ) (rows : List LegOrder) (i : ℕ) : Type 0 where
+pub record Trading (os : List LegOrder) (a : ℕ) (r₀ r₁ : Records) (rows : List LegOrder) (i : ℕ) : Type 0 where
   pub most : i ≤ 32
   pub size : length rows ≡ 32
-  pub done : DoneIn (HasOrders os) (each (trade_once a) i) sp sq n m (put_orders rows)
+  pub done : DoneIn (HasOrders os) (each (trade_once a) i) r₀ r₁ (put_orders rows)
 
 -- a book as it was
 pub put_same : (os : List LegOrder) (b : State) → HasOrders os b → put_orders os b ≡ b
 unfolding with_orders
 put_same os b h = rw (sym h.orders, ← h.nets.are)
 
-pub trading-none : (os : List LegOrder) (a : ℕ) (sp : List ℤ) (n : ℕ) → length os ≡ 32 → Trading os a sp sp n n os 0
-trading-none os a sp n l = record { most = omega arith; size = l; done = slots-none _ (put_same os) }
+pub trading-none : (os : List LegOrder) (a : ℕ) (r₀ : Records) → length os ≡ 32 → Trading os a r₀ r₀ os 0
+trading-none os a r l = record { most = omega arith; size = l; done = slots-none _ (put_same os) }
 
-module _ {os : List LegOrder} {a : ℕ} {sp sq : List ℤ} {n m : ℕ} {rows : List LegOrder} {i : ℕ} (g : Trading os a sp sq n m rows i) where
+module _ {os : List LegOrder} {a : ℕ} {r₀ r₁ : Records} {rows : List LegOrder} {i : ℕ} (g : Trading os a r₀ r₁ rows i) where
   -- the slot that the rows give is that of the book
   next-put : {h : ℕ} → h ≡ next_trade a (only_orders rows) → (b : State) → h ≡ next_trade a (put_orders rows b)
   unfolding with_orders
@@ -151,14 +152,14 @@ module _ {os : List LegOrder} {a : ℕ} {sp sq : List ℤ} {n m : ℕ} {rows : L
   turn-put : {h : ℕ} → h ≡ next_trade a (only_orders rows) → ¬ (h ≡ 32) → (b : State) → trade_once a i (put_orders rows b) ≡ leg_trade (put_orders rows b) a h
   turn-put e z b = trade-turn a i (put_orders rows b) (next-put e b) z
 
-  pub trading-room : {h : ℕ} → RoomIn (HasOrders os) (trade_all a) sp n → i < 32 → h ≡ next_trade a (only_orders rows) → ¬ (h ≡ 32)
-      → Room sq m (trade_records (get_or rows a no_order) (get_or rows h no_order) (min (get_or rows a no_order).contracts (get_or rows h no_order).contracts))
+  pub trading-room : {h : ℕ} → RoomIn (HasOrders os) (trade_all a) r₀ → i < 32 → h ≡ next_trade a (only_orders rows) → ¬ (h ≡ 32)
+      → Room r₁ (trade_records (get_or rows a no_order) (get_or rows h no_order) (min (get_or rows a no_order).contracts (get_or rows h no_order).contracts))
   unfolding trade_all leg_trade with_orders
   trading-room r l e z = room_of (turn-put e z r.book) (slots-room (trade_once a) g.done 32 r l)
 
-  pub trading-moves : {h : ℕ} → i < 32 → h ≡ next_trade a (only_orders rows) → ¬ (h ≡ 32) → {sr : List ℤ} {o q : ℕ} {left : List LegOrder}
-      → q ≡ min (get_or rows a no_order).contracts (get_or rows h no_order).contracts → Appended sq sr m o (trade_records (get_or rows a no_order) (get_or rows h no_order) q)
-      → left ≡ traded_rows rows a h q → Trading os a sp sr n o left (i + 1)
+  pub trading-moves : {h : ℕ} → i < 32 → h ≡ next_trade a (only_orders rows) → ¬ (h ≡ 32) → {r₂ : Records} {q : ℕ} {left : List LegOrder}
+      → q ≡ min (get_or rows a no_order).contracts (get_or rows h no_order).contracts → Appended r₁ r₂ (trade_records (get_or rows a no_order) (get_or rows h no_order) q)
+      → left ≡ traded_rows rows a h q → Trading os a r₀ r₂ left (i + 1)
   unfolding leg_trade cut_leg with_orders traded_rows
   trading-moves l e z {q = q} f w t = record {
     most = omega arith;
@@ -166,9 +167,9 @@ module _ {os : List LegOrder} {a : ℕ} {sp sq : List ℤ} {n m : ℕ} {rows : L
     done = slots-move (trade_once a) g.done (λ b h. done-of (turn-put e z b) (record { wrote = rw f at w; state = rw (t, f) refl }));
   }
 
-  pub trading-stops : {h : ℕ} → h ≡ next_trade a (only_orders rows) → h ≡ 32 → DoneIn (HasOrders os) (trade_all a) sp sq n m (put_orders rows)
+  pub trading-stops : {h : ℕ} → h ≡ next_trade a (only_orders rows) → h ≡ 32 → DoneIn (HasOrders os) (trade_all a) r₀ r₁ (put_orders rows)
   trading-stops e z = in-done (λ b h. trades-stop a i b (put_orders rows b) g.most (g.done.done b h).state (next-put e b) z) g.done
 
-  pub trading-all : 32 ≤ i → DoneIn (HasOrders os) (trade_all a) sp sq n m (put_orders rows)
+  pub trading-all : 32 ≤ i → DoneIn (HasOrders os) (trade_all a) r₀ r₁ (put_orders rows)
   unfolding trade_all
   trading-all l = let e : i ≡ 32 = omega (arith, g.most) in rw e at g.done
