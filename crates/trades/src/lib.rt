@@ -11,15 +11,8 @@ ghost use Rattle.tables.specs.Only.{only_orders};
 ghost use Rattle.trades.specs.Trades.{trade_records, next_trade, traded_rows, HasOrders, put_orders};
 
 use legs::best_order;
-use records::{least, less, push};
+use records::Records;
 use rules::{Kind, LegOrder, Record, State, ZERO_LEVEL};
-
-// The leg orders after trades, and the next free place for records.
-#[derive(Clone, Copy)]
-pub struct Traded {
-    pub rows: [LegOrder; State::LEG_ORDERS],
-    pub count: usize,
-}
 
 // A leg order's record of a fill of q contracts.
 fn order_record(o: LegOrder, q: u32, price: u32) -> Record
@@ -37,52 +30,40 @@ fn order_record(o: LegOrder, q: u32, price: u32) -> Record
 }
 
 // The record of a leg order's fill; none of 0 contracts.
-pub fn order_row(space: &mut [i32], n: usize, o: LegOrder, q: u32, price: u32) -> usize
-    requires { Room space.old n (order_row o q price) }
-    ensures { Appended space.old space.new n result (order_row o q price) }
+pub fn order_row(records: &mut Records, o: LegOrder, q: u32, price: u32)
+    requires { Room records.old (order_row o q price) }
+    ensures { Appended records.old records.new (order_row o q price) }
 {
-    if q == 0 {
-        return n;
+    if q != 0 {
+        records.push(order_record(o, q, price));
     }
-    let r = order_record(o, q, price);
-    push(space, n, r)
 }
 
 pub fn cut_order(o: LegOrder, q: u32) -> LegOrder
     ensures { result ≡ cut_order o q }
 {
-    let mut p = o;
-    p.contracts = less(o.contracts, q);
-    p
+    LegOrder {
+        contracts: o.contracts.saturating_sub(q),
+        ..o
+    }
 }
 
 // The two records of a trade at the resting price, the incoming order's first.
-fn report(space: &mut [i32], n: usize, o: LegOrder, p: LegOrder, q: u32) -> usize
-    requires { Room space.old n (trade_records o p q) }
-    ensures { Appended space.old space.new n result (trade_records o p q) }
+fn report(records: &mut Records, o: LegOrder, p: LegOrder, q: u32)
+    requires { Room records.old (trade_records o p q) }
+    ensures { Appended records.old records.new (trade_records o p q) }
 {
-    let r = order_record(o, q, p.price);
-    let m = push(space, n, r);
-    let s = order_record(p, q, p.price);
-    push(space, m, s)
+    records.push(order_record(o, q, p.price));
+    records.push(order_record(p, q, p.price));
 }
 
 // One trade of the leg order at slot a with the one at slot h, of q contracts.
-fn leg_trade(
-    os: [LegOrder; State::LEG_ORDERS],
-    a: usize,
-    h: usize,
-    q: u32,
-) -> [LegOrder; State::LEG_ORDERS]
+fn leg_trade(rows: &mut [LegOrder; State::LEG_ORDERS], a: usize, h: usize, q: u32)
     requires { (a < table_rows) × (h < table_rows) }
-    ensures { result ≡ traded_rows os a h q }
+    ensures { rows.new ≡ traded_rows rows.old a h q }
 {
-    let mut rows = os;
-    let o = rows[a];
-    rows[a] = cut_order(o, q);
-    let p = rows[h];
-    rows[h] = cut_order(p, q);
-    rows
+    rows[a] = cut_order(rows[a], q);
+    rows[h] = cut_order(rows[h], q);
 }
 
 // The slot that the leg order at slot a trades with next, 32 where there is none.
@@ -100,31 +81,20 @@ pub fn next_trade(os: [LegOrder; State::LEG_ORDERS], a: usize) -> usize
 }
 
 // The trades of the leg order at slot a, until none meets it or nothing of it is left.
-pub fn trade_all(os: [LegOrder; State::LEG_ORDERS], a: usize, space: &mut [i32], n: usize) -> Traded
-    requires { RoomIn (HasOrders os) (trade_all a) space.old n }
-    ensures { DoneIn (HasOrders os) (trade_all a) space.old space.new n result.count (put_orders result.rows) }
+pub fn trade_all(rows: &mut [LegOrder; State::LEG_ORDERS], a: usize, records: &mut Records)
+    requires { RoomIn (HasOrders rows.old) (trade_all a) records.old }
+    ensures { DoneIn (HasOrders rows.old) (trade_all a) records.old records.new (put_orders rows.new) }
 {
-    let mut rows = os;
-    let mut m = n;
-    let mut i: usize = 0;
-    while i < State::LEG_ORDERS {
-        let h = next_trade(rows, a);
+    for _ in 0..State::LEG_ORDERS {
+        let h = next_trade(*rows, a);
         if h == State::LEG_ORDERS {
-            return Traded {
-                rows: rows,
-                count: m,
-            };
+            return;
         }
         let o = rows[a];
         let p = rows[h];
-        let q = least(o.contracts, p.contracts);
-        m = report(space, m, o, p, q);
-        rows = leg_trade(rows, a, h, q);
-        i += 1;
-    }
-    Traded {
-        rows: rows,
-        count: m,
+        let q = o.contracts.min(p.contracts);
+        report(records, o, p, q);
+        leg_trade(rows, a, h, q);
     }
 }
 

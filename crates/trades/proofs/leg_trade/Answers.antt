@@ -1,7 +1,6 @@
 use Rattle.trades.specs.Trades.{traded_rows}
 use Rattle.trades.proofs.leg_trade.Goals as goal
 
--- src/lib.rt:74:1
 pub returns : goal.returns
 unfolding traded_rows
 returns c = rw (c.cut_order-2.ensures, c.cut_order.ensures)
