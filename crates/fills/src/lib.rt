@@ -13,7 +13,7 @@ ghost use Rattle.ranges.specs.Fit.{Fit};
 ghost use Rattle.fills.specs.Gives.{HasRows, put_entries};
 
 use quotas::{in_turn, sizes};
-use records::{After, less, push};
+use records::Records;
 use rules::{Entry, Kind, Leg, Record, State, Strategy, ZERO_LEVEL};
 use sides::leg_side;
 use specialists::{share_beside, specialist_slot};
@@ -48,242 +48,177 @@ fn leg_record(e: Entry, q: u32, price: u32, l: Leg) -> Record
 }
 
 // A complex party's leg fills, by leg.
-fn leg_records(
-    space: &mut [i32],
-    n: usize,
-    e: Entry,
-    s: Strategy,
-    q: u32,
-    prices: [u32; 6],
-) -> usize
+fn leg_records(records: &mut Records, e: Entry, s: Strategy, q: u32, prices: [u32; 6])
     requires count_bound { s.count ≤ 6 }
-    requires room { Room space.old n (join_n (leg_record_at e s.legs q prices) s.count) }
-    ensures { Appended space.old space.new n result (join_n (leg_record_at e s.legs q prices) s.count) }
+    requires room { Room records.old (join_n (leg_record_at e s.legs q prices) s.count) }
+    ensures { Appended records.old records.new (join_n (leg_record_at e s.legs q prices) s.count) }
 {
-    let legs = s.legs;
-    let count = s.count as usize;
-    let mut m = n;
-    let mut i: usize = 0;
-    while i < count {
-        let r = leg_record(e, q, prices[i], legs[i]);
-        m = push(space, m, r);
-        i += 1;
+    for i in 0..s.count as usize {
+        records.push(leg_record(e, q, prices[i], s.legs[i]));
     }
-    m
 }
 
 // A complex party's records of a fill: its whole fill, then its leg fills.
 pub fn party_records(
-    space: &mut [i32],
-    n: usize,
+    records: &mut Records,
     e: Entry,
     s: Strategy,
     q: u32,
     level: u32,
     prices: [u32; 6],
-) -> usize
+)
     requires count_bound { s.count ≤ 6 }
-    requires room { Room space.old n (party_records e s q level prices) }
-    ensures { Appended space.old space.new n result (party_records e s q level prices) }
+    requires room { Room records.old (party_records e s q level prices) }
+    ensures { Appended records.old records.new (party_records e s q level prices) }
 {
-    let r = whole_record(e, q, level);
-    let m = push(space, n, r);
-    leg_records(space, m, e, s, q, prices)
+    records.push(whole_record(e, q, level));
+    leg_records(records, e, s, q, prices);
 }
 
 pub fn cut_entry(e: Entry, q: u32) -> Entry
     ensures { result ≡ cut_entry e q }
 {
-    let mut f = e;
-    f.units = less(e.units as u32, q) as u16;
-    f
+    Entry {
+        units: u32::from(e.units).saturating_sub(q) as u16,
+        ..e
+    }
 }
 
 // The records of both parties of a fill of whole against whole.
-fn fill_records(
-    space: &mut [i32],
-    n: usize,
-    e: Entry,
-    f: Entry,
-    s: Strategy,
-    q: u32,
-    level: u32,
-) -> usize
+fn fill_records(records: &mut Records, e: Entry, f: Entry, s: Strategy, q: u32, level: u32)
     requires count_bound { s.count ≤ 6 }
-    requires room { Room space.old n (party_records e s q level no_prices ++ party_records f s q level no_prices) }
-    ensures { Appended space.old space.new n result (party_records e s q level no_prices ++ party_records f s q level no_prices) }
+    requires room { Room records.old (party_records e s q level no_prices ++ party_records f s q level no_prices) }
+    ensures { Appended records.old records.new (party_records e s q level no_prices ++ party_records f s q level no_prices) }
 {
-    let prices: [u32; 6] = [0; 6];
-    let m = party_records(space, n, e, s, q, level, prices);
-    party_records(space, m, f, s, q, level, prices)
+    party_records(records, e, s, q, level, [0; 6]);
+    party_records(records, f, s, q, level, [0; 6]);
 }
 
 // Entries a (active) and h fill q units of each other at a net.
-pub fn whole_fill(
-    b: State,
-    a: usize,
-    h: usize,
-    level: u32,
-    q: u32,
-    space: &mut [i32],
-    n: usize,
-) -> After
-    requires a_lt_table_rows { (a < table_rows) × (h < table_rows) × Fit b }
-    requires room { Room space.old n (whole_fill b a h level q).records }
-    ensures { Done space.old space.new n result.count result.state (whole_fill b a h level q) }
+pub fn whole_fill(b: &mut State, a: usize, h: usize, level: u32, q: u32, records: &mut Records)
+    requires a_lt_table_rows { (a < table_rows) × (h < table_rows) × Fit b.old }
+    requires room { Room records.old (whole_fill b.old a h level q).records }
+    ensures { Done records.old records.new b.new (whole_fill b.old a h level q) }
 {
     if q == 0 {
-        return After { state: b, count: n };
+        return;
     }
-    let mut c = b;
-    let e = c.entries[a];
-    let f = c.entries[h];
-    let k = e.strategy as usize;
-    let s = c.strategies[k];
-    let m = fill_records(space, n, e, f, s, q, level);
-    c.entries[a] = cut_entry(e, q);
-    let g = c.entries[h];
-    c.entries[h] = cut_entry(g, q);
-    After { state: c, count: m }
-}
-
-// The entries after fills, and the next free place for records.
-#[derive(Clone, Copy)]
-pub struct AfterFills {
-    pub rows: [Entry; State::ROWS],
-    pub count: usize,
+    let e = b.entries[a];
+    let s = b.strategies[e.strategy as usize];
+    fill_records(records, e, b.entries[h], s, q, level);
+    b.entries[a] = cut_entry(e, q);
+    b.entries[h] = cut_entry(b.entries[h], q);
 }
 
 // Entry a, of strategy s, meets each slot for its quota.
 fn give(
-    es: [Entry; State::ROWS],
+    rows: &mut [Entry; State::ROWS],
     s: Strategy,
     a: usize,
     level: u32,
     qs: [u32; State::ROWS],
-    space: &mut [i32],
-    n: usize,
-) -> AfterFills
+    records: &mut Records,
+)
     requires a_lt_table_rows { a < table_rows }
-    requires room_in { RoomIn (HasRows es s a) (give a level qs) space.old n }
-    ensures { DoneIn (HasRows es s a) (give a level qs) space.old space.new n result.count (put_entries result.rows) }
+    requires room_in { RoomIn (HasRows rows.old s a) (give a level qs) records.old }
+    ensures { DoneIn (HasRows rows.old s a) (give a level qs) records.old records.new (put_entries rows.new) }
 {
-    let mut rows = es;
-    let mut m = n;
-    let mut i: usize = 0;
-    while i < State::ROWS {
-        let q = qs[i];
-        if q != 0 {
-            let e = rows[a];
-            let f = rows[i];
-            m = fill_records(space, m, e, f, s, q, level);
-            rows[a] = cut_entry(e, q);
-            let g = rows[i];
-            rows[i] = cut_entry(g, q);
+    for (i, q) in qs.iter().enumerate() {
+        if *q != 0 {
+            fill_records(records, rows[a], rows[i], s, *q, level);
+            rows[a] = cut_entry(rows[a], *q);
+            rows[i] = cut_entry(rows[i], *q);
         }
-        i += 1;
-    }
-    AfterFills {
-        rows: rows,
-        count: m,
     }
 }
 
 // The holders of group g (3: all) by number.
 pub fn give_in_turn(
-    es: [Entry; State::ROWS],
+    rows: &mut [Entry; State::ROWS],
     s: Strategy,
     a: usize,
     level: u32,
     g: u8,
-    space: &mut [i32],
-    n: usize,
-) -> AfterFills
+    records: &mut Records,
+)
     requires a_lt_table_rows { a < table_rows }
-    requires room_in { RoomIn (HasRows es s a) (give_group in_turn a level g) space.old n }
-    ensures { DoneIn (HasRows es s a) (give_group in_turn a level g) space.old space.new n result.count (put_entries result.rows) }
+    requires room_in { RoomIn (HasRows rows.old s a) (give_group in_turn a level g) records.old }
+    ensures { DoneIn (HasRows rows.old s a) (give_group in_turn a level g) records.old records.new (put_entries rows.new) }
 {
-    let e = es[a];
-    let xs = sizes(es, e, level, g);
+    let e = rows[a];
+    let xs = sizes(*rows, e, level, g);
     let qs = in_turn(e.units as u32, xs);
-    give(es, s, a, level, qs, space, n)
+    give(rows, s, a, level, qs, records);
 }
 
 // The holders of group g, shared where they hold more than what remains, the specialist's sweep at slot k; past the table
 // it has none there.
 fn give_group(
-    es: [Entry; State::ROWS],
+    rows: &mut [Entry; State::ROWS],
     s: Strategy,
     a: usize,
     level: u32,
     g: u8,
     k: usize,
-    space: &mut [i32],
-    n: usize,
-) -> AfterFills
+    records: &mut Records,
+)
     requires a_lt_table_rows { a < table_rows }
-    requires room_in { RoomIn (HasRows es s a) (give_group (share_beside k s.specialist.percentage) a level g) space.old n }
-    ensures { DoneIn (HasRows es s a) (give_group (share_beside k s.specialist.percentage) a level g) space.old space.new n result.count (put_entries result.rows) }
+    requires room_in { RoomIn (HasRows rows.old s a) (give_group (share_beside k s.specialist.percentage) a level g) records.old }
+    ensures { DoneIn (HasRows rows.old s a) (give_group (share_beside k s.specialist.percentage) a level g) records.old records.new (put_entries rows.new) }
 {
-    let e = es[a];
-    let xs = sizes(es, e, level, g);
+    let e = rows[a];
+    let xs = sizes(*rows, e, level, g);
     let qs = share_beside(k, s.specialist.percentage, e.units as u32, xs);
-    give(es, s, a, level, qs, space, n)
+    give(rows, s, a, level, qs, records);
 }
 
 // Customers by number; then sweeps and market makers, the specialist's sweep at slot k; then broker-dealers.
 fn give_groups(
-    es: [Entry; State::ROWS],
+    rows: &mut [Entry; State::ROWS],
     s: Strategy,
     a: usize,
     level: u32,
     k: usize,
-    space: &mut [i32],
-    n: usize,
-) -> AfterFills
+    records: &mut Records,
+)
     requires a_lt_table_rows { a < table_rows }
-    requires room_in { RoomIn (HasRows es s a) (give_shared (share_beside k s.specialist.percentage) a level) space.old n }
-    ensures { DoneIn (HasRows es s a) (give_shared (share_beside k s.specialist.percentage) a level) space.old space.new n result.count (put_entries result.rows) }
+    requires room_in { RoomIn (HasRows rows.old s a) (give_shared (share_beside k s.specialist.percentage) a level) records.old }
+    ensures { DoneIn (HasRows rows.old s a) (give_shared (share_beside k s.specialist.percentage) a level) records.old records.new (put_entries rows.new) }
 {
-    let x = give_in_turn(es, s, a, level, 0, space, n);
-    let fs = x.rows;
-    let y = give_group(fs, s, a, level, 1, k, space, x.count);
-    let gs = y.rows;
-    give_group(gs, s, a, level, 2, State::ROWS, space, y.count)
+    give_in_turn(rows, s, a, level, 0, records);
+    give_group(rows, s, a, level, 1, k, records);
+    give_group(rows, s, a, level, 2, State::ROWS, records);
 }
 
 // The groups in any other shared pass than a starter's, which knows no specialist.
 pub fn give_shared(
-    es: [Entry; State::ROWS],
+    rows: &mut [Entry; State::ROWS],
     s: Strategy,
     a: usize,
     level: u32,
-    space: &mut [i32],
-    n: usize,
-) -> AfterFills
+    records: &mut Records,
+)
     requires a_lt_table_rows { a < table_rows }
-    requires room_in { RoomIn (HasRows es s a) (give_shared share a level) space.old n }
-    ensures { DoneIn (HasRows es s a) (give_shared share a level) space.old space.new n result.count (put_entries result.rows) }
+    requires room_in { RoomIn (HasRows rows.old s a) (give_shared share a level) records.old }
+    ensures { DoneIn (HasRows rows.old s a) (give_shared share a level) records.old records.new (put_entries rows.new) }
 {
-    give_groups(es, s, a, level, State::ROWS, space, n)
+    give_groups(rows, s, a, level, State::ROWS, records);
 }
 
 // The groups in an auction's starter's pass.
 pub fn give_for_starter(
-    es: [Entry; State::ROWS],
+    rows: &mut [Entry; State::ROWS],
     s: Strategy,
     a: usize,
     level: u32,
-    space: &mut [i32],
-    n: usize,
-) -> AfterFills
+    records: &mut Records,
+)
     requires a_lt_table_rows { a < table_rows }
-    requires room_in { RoomIn (HasRows es s a) (give_for_starter a level) space.old n }
-    ensures { DoneIn (HasRows es s a) (give_for_starter a level) space.old space.new n result.count (put_entries result.rows) }
+    requires room_in { RoomIn (HasRows rows.old s a) (give_for_starter a level) records.old }
+    ensures { DoneIn (HasRows rows.old s a) (give_for_starter a level) records.old records.new (put_entries rows.new) }
 {
-    let e = es[a];
-    let k = specialist_slot(s.specialist.member, es, e, level);
-    give_groups(es, s, a, level, k, space, n)
+    let k = specialist_slot(s.specialist.member, *rows, rows[a], level);
+    give_groups(rows, s, a, level, k, records);
 }
 
 pub fn cancel_record(e: Entry) -> Record
@@ -300,19 +235,14 @@ pub fn cancel_record(e: Entry) -> Record
 }
 
 // All that is live of entry i.
-pub fn cancel_entry(b: State, i: usize, space: &mut [i32], n: usize) -> After
+pub fn cancel_entry(b: &mut State, i: usize, records: &mut Records)
     requires i_lt_table_rows { i < table_rows }
-    requires room { Room space.old n (cancel_entry i b).records }
-    ensures { Done space.old space.new n result.count result.state (cancel_entry i b) }
+    requires room { Room records.old (cancel_entry i b.old).records }
+    ensures { Done records.old records.new b.new (cancel_entry i b.old) }
 {
-    let mut c = b;
-    let e = c.entries[i];
-    let units = e.units as u32;
-    if units == 0 {
-        return After { state: c, count: n };
+    let e = b.entries[i];
+    if e.units != 0 {
+        records.push(cancel_record(e));
+        b.entries[i] = cut_entry(e, e.units as u32);
     }
-    let r = cancel_record(e);
-    let m = push(space, n, r);
-    c.entries[i] = cut_entry(e, units);
-    After { state: c, count: m }
 }

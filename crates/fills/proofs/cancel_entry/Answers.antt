@@ -4,13 +4,13 @@ use Rattle.rules.specs.State.{with_entries}
 use Rattle.rules.specs.Fills.{cut}
 use Rattle.fills.proofs.cancel_entry.Goals as goal
 
-pub returns-then-units-eq0 : goal.returns-then-units-eq0
-returns-then-units-eq0 c = done-of (cancel-none _ _ c.if-units-eq0.true) (done-still _ _ _)
-
-pub push-m-requires : goal.push-m-requires
+pub push-requires : goal.push-requires
 unfolding cancelled
-push-m-requires c = rw c.cancel_record-r.ensures (room_of (cancel-live _ _ c.if-units-eq0.false) c.requires.room)
+push-requires c = rw c.cancel_record.ensures (room_of (cancel-live _ _ c.if-e-ne0.true) c.requires.room)
 
-pub returns : goal.returns
+pub returns-then-e-ne0 : goal.returns-then-e-ne0
 unfolding cancelled cut with_entries
-returns c = let first = rw c.cancel_record-r.ensures at c.push-m.ensures in done-of (cancel-live _ _ c.if-units-eq0.false) (record { wrote = first; state = rw c.cut_entry.ensures })
+returns-then-e-ne0 c = let first = rw c.cancel_record.ensures at c.push.ensures in done-of (cancel-live _ _ c.if-e-ne0.true) (record { wrote = first; state = rw c.cut_entry.ensures })
+
+pub returns-else-e-ne0 : goal.returns-else-e-ne0
+returns-else-e-ne0 c = done-of (cancel-none _ _ c.if-e-ne0.false) (done-still _ _)
