@@ -1,19 +1,17 @@
+use native.Mathlib.Omega.{arith}
+use Rattle.std.proofs.lemmas.Grind.{common_steps}
 use Rattle.base.specs.Pick.{tests}
 use Rattle.rules.specs.Passes.{group_of}
 use Rattle.quotas.proofs.group_of.Goals as goal
 
-pub returns-then-f-eq4 : goal.returns-then-f-eq4
-unfolding group_of
-returns-then-f-eq4 c = search tests
-
 pub returns-then-f-eq3 : goal.returns-then-f-eq3
 unfolding group_of
-returns-then-f-eq3 c = search tests
+returns-then-f-eq3 c = grind (arith, common_steps, tests)
 
 pub returns-then-f-eq1 : goal.returns-then-f-eq1
 unfolding group_of
-returns-then-f-eq1 c = search tests
+returns-then-f-eq1 c = grind (arith, common_steps, tests)
 
-pub returns : goal.returns
+pub returns-else-f-eq1 : goal.returns-else-f-eq1
 unfolding group_of
-returns c = search tests
+returns-else-f-eq1 c = grind (arith, common_steps, tests)

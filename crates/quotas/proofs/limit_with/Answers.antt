@@ -1,11 +1,13 @@
-use Rattle.base.specs.Pick.{tests, told}
+use native.Mathlib.Omega.{arith}
+use Rattle.std.proofs.lemmas.Grind.{common_steps}
+use Rattle.base.specs.Pick.{tests}
 use Rattle.rules.specs.Passes.{limit_with}
 use Rattle.quotas.proofs.limit_with.Goals as goal
 
 pub returns-then-opposes : goal.returns-then-opposes
 unfolding limit_with
-returns-then-opposes c = rw (c.best_price.ensures, c.other-side.ensures) (search (tests, told c.opposes.ensures c.if-opposes.true))
+returns-then-opposes c = grind (arith, common_steps, tests)
 
-pub returns : goal.returns
+pub returns-else-opposes : goal.returns-else-opposes
 unfolding limit_with
-returns c = search (tests, told c.opposes.ensures c.if-opposes.false)
+returns-else-opposes c = grind (arith, common_steps, tests)

@@ -1,16 +1,13 @@
-use borrow.Author.Rules.{rules}
+use native.Mathlib.Omega.{arith}
+use Rattle.std.proofs.lemmas.Grind.{common_steps}
 use Rattle.base.specs.Pick.{tests}
 use Rattle.rules.specs.Passes.{within}
 use Rattle.quotas.proofs.within.Goals as goal
 
-pub returns-then-g-eq3 : goal.returns-then-g-eq3
+pub returns-in-None : goal.returns-in-None
 unfolding within
-returns-then-g-eq3 c = search tests
+returns-in-None c = grind (arith, common_steps, tests)
 
-pub group_of-requires : goal.group_of-requires
+pub returns-in-Some : goal.returns-in-Some
 unfolding within
-group_of-requires c = search rules
-
-pub returns : goal.returns
-unfolding within
-returns c = rw c.group_of.ensures (search tests)
+returns-in-Some c = grind (arith, common_steps, tests)
