@@ -51,6 +51,7 @@ pub fn portion(r: u32, total: u32, x: u32) -> u32
 }
 
 // One unit of the n left for a holder.
+#[tactic(auto, using(base::specs::Pick::tests), unfolding(rules::specs::Quotas::one_of))]
 fn one_of(n: u32, x: u32) -> u32
     ensures { result ≡ one_of n x }
 {
@@ -88,6 +89,7 @@ pub fn share(r: u32, xs: [u32; State::ROWS]) -> [u32; State::ROWS]
 }
 
 // Whether f stands opposite e: live, of its strategy, of the other side.
+#[tactic(auto, using(base::specs::Pick::tests), unfolding(rules::specs::Passes::opposes))]
 pub fn opposes(e: Entry, f: Entry) -> bool
     ensures { result ≡ opposes e f }
 {
@@ -95,6 +97,7 @@ pub fn opposes(e: Entry, f: Entry) -> bool
 }
 
 // The better of a best opposite limit (0: none yet) and that of f, where it stands opposite.
+#[tactic(auto, using(base::specs::Pick::tests), unfolding(rules::specs::Passes::limit_with))]
 fn limit_with(e: Entry, x: u32, f: Entry) -> u32
     ensures { result ≡ limit_with e x f }
 {
@@ -112,6 +115,7 @@ pub fn best_opposite(es: [Entry; State::ROWS], e: Entry) -> Option<u32>
     if x == 0 { None } else { Some(x) }
 }
 
+#[tactic(auto, using(base::specs::Pick::tests), unfolding(rules::specs::Passes::group_of))]
 fn group_of(f: Entry) -> Group
     ensures { group_number (Some result) ≡ group_of f }
 {
@@ -125,6 +129,7 @@ fn group_of(f: Entry) -> Group
 }
 
 // Whether f is of that group, or of any where none is given.
+#[tactic(auto, using(base::specs::Pick::tests), unfolding(rules::specs::Passes::within))]
 fn within(g: Option<Group>, f: Entry) -> bool
     ensures { result ≡ within (group_number g) f }
 {
@@ -135,6 +140,7 @@ fn within(g: Option<Group>, f: Entry) -> bool
 }
 
 // What f holds against e at a limit, as one of a group.
+#[tactic(auto, using(base::specs::Pick::tests), unfolding(rules::specs::Passes::holding))]
 fn holding(e: Entry, level: u32, g: Option<Group>, f: Entry) -> u32
     ensures { result ≡ holding e level (group_number g) f }
 {

@@ -73,6 +73,7 @@ pub fn share_beside(
 }
 
 // Whether f is a sweep of that member, opposite e at that limit.
+#[tactic(auto, using(base::specs::Pick::tests), unfolding(rules::specs::Passes::is_sweep_of))]
 fn is_sweep_of(member: u16, e: Entry, level: u32, f: Entry) -> bool
     ensures { result ≡ is_sweep_of member e level f }
 {
