@@ -2,7 +2,7 @@
 // divided over the second group beside that sweep.
 #![tactic(auto)]
 
-ghost use Rattle.std.specs.Prelude.{◌≡◌, ◌<◌, ◌≤◌, position, unwrap_or};
+ghost use Rattle.std.specs.Prelude.{◌≡◌, ◌<◌, ◌≤◌, unwrap_or};
 ghost use Rattle.base.specs.Chains.{found};
 ghost use Rattle.rules.specs.Sizes.{strategy_slots, table_rows};
 ghost use Rattle.rules.specs.Specialists.{on_specialist};
@@ -80,20 +80,12 @@ fn is_sweep_of(member: u16, e: Entry, level: u32, f: Entry) -> bool
     opposes(e, f) && f.level == level && f.life == 4 && f.member == member
 }
 
-// The slot of the sweep of that member, opposite e at that limit.
-fn sweep_slot(member: u16, es: [Entry; State::ROWS], e: Entry, level: u32) -> Option<usize>
-    ensures { result ≡ position (is_sweep_of member e level) es }
-{
-    es.iter().position(|f| is_sweep_of(member, e, level, *f))
-}
-
 // The slot of the specialist's sweep, if one is named and has one there.
 pub fn specialist_slot(member: u16, es: [Entry; State::ROWS], e: Entry, level: u32) -> Option<usize>
     ensures { result ≡ found table_rows (specialist_slot member es e level) }
 {
     if member == 0 {
-        None
-    } else {
-        sweep_slot(member, es, e, level)
+        return None;
     }
+    es.iter().position(|f| is_sweep_of(member, e, level, *f))
 }
