@@ -3,7 +3,7 @@ use Rattle.std.specs.Prelude.{◌≡◌, Bool, true, false, List, ℕ, ◌+◌, 
 use Rattle.std.specs.Option.{option_map, unwrap_or}
 use Rattle.std.proofs.Common.{refl, sym, ◌∙◌, ap, arith, ⊎_elim, cond, None, Some, ltb-true, ltb-false, lt-ltb, le-ltb, eq-eqb, ne_eqb, eq-or-lt_of_le}
 use Rattle.base.specs.Pick.{pick, pick_true, pick-false, pick-ap}
-use Rattle.base.specs.Chains.{found}
+use Rattle.base.specs.Chains.{found, found-some, found-past}
 use Rattle.base.specs.Walks.{walk, walk_first, walk-next, lt-or-le}
 use Rattle.rules.specs.declared.Entry.{Entry}
 use Rattle.rules.specs.declared.Bounds.{Bounds}
@@ -15,43 +15,11 @@ use Rattle.records.specs.Done.{Done, Visited, done-of}
 use Rattle.records.specs.declared.Records.{Records}
 use Rattle.matching.specs.Matching.{match-stops, ahead_of, goes_ahead, best_next, best_entry, meet, may_match_in, may_match_of}
 
--- a slot of the table is found
-pub found-some : {n k : ℕ} → k < n → found n k ≡ Some k
-found-some {n} {k} h = rw (lt-ltb k n h) refl
-
-pub found-past : {n k : ℕ} → n ≤ k → found n k ≡ None
-found-past {n} {k} h = rw (le-ltb k n h) refl
-
--- .. and what is found is one
-pub found-is : {n k i : ℕ} → Some i ≡ found n k → (i ≡ k) × (k < n)
-found-is {n} {k} {i} e = by (ltb k n) refl e
-  where
-    by : (t : Bool) → ltb k n ≡ t → Some i ≡ cond t (Some k) None → (i ≡ k) × (k < n)
-    by true l g = (cc, ltb-true k n l)
-    by false l g = absurd (let z : ◌≡◌ {A = ℕ} 0 1 = cc in omega arith)
-
-pub found-no : {n k : ℕ} → None ≡ found n k → n ≤ k
-found-no {n} {k} e = by (ltb k n) refl e
-  where
-    by : (t : Bool) → ltb k n ≡ t → None ≡ cond t (Some k) None → n ≤ k
-    by true l g = absurd (let z : ◌≡◌ {A = ℕ} 0 1 = cc in omega arith)
-    by false l g = ltb-false k n l
-
 not-at : (k : ℕ) → k < 32 → ¬ (k ≡ 32)
 not-at k l e = omega arith
 
-le_of_eq : {j k : ℕ} → j ≡ k → j ≤ k
-le_of_eq e = omega arith
-
--- nothing is found where no slot is
-pub found-none : {o : Option ℕ} {n k : ℕ} → o ≡ found n k → ((i : ℕ) → o ≡ Some i → ⊥) → n ≤ k
-found-none {n = n} {k = k} e none = ⊎_elim (λ l. absurd (none k (e ∙ found-some l))) (λ l. l) (lt-or-le k n)
-
--- a slot by what stands for a missing one
-pub found-or : {o : Option ℕ} {n k : ℕ} → k ≤ n → o ≡ found n k → (unwrap_or o n ≡ k) × (o ≡ found n (unwrap_or o n))
-found-or {o} {n} {k} h e =
-    let q : unwrap_or o n ≡ k = ap (λ (p : Option ℕ). unwrap_or p n) e ∙ ⊎_elim (λ z. rw (found-past {n = n} {k = k} (le_of_eq (sym z))) (sym z)) (λ l. rw (found-some {n = n} {k = k} l) refl) (eq-or-lt_of_le h) in
-    (q, e ∙ ap (found n) (sym q))
+least : {k : ℕ} → k ≡ 32 → 32 ≤ k
+least e = omega arith
 
 -- the search of the best entry, which has looked at the first i slots: the best so far, and its slot
 pub record BestSoFar (es : List Entry) (k side i : ℕ) (slot : Option ℕ) (best : Option Entry) : Type 0 where
@@ -79,7 +47,7 @@ module _ {es : List Entry} {k side i : ℕ} {slot : Option ℕ} {best : Option E
   unfolding goes_ahead ahead_of
   ahead-is e =
       ⊎_elim
-      (λ z. rw (v.best-is, found-past {n = 32} {k = v.at} (le_of_eq (sym z)), eq-eqb v.at 32 z) (side-alone (live_in k e) (eqb e.side side) _))
+      (λ z. rw (v.best-is, found-past {n = 32} {k = v.at} (least z), eq-eqb v.at 32 z) (side-alone (live_in k e) (eqb e.side side) _))
       (λ l. rw (v.best-is, found-some l, ne_eqb v.at 32 (not-at v.at l)) (side-better (live_in k e) (eqb e.side side) _))
       (eq-or-lt_of_le v.most)
 

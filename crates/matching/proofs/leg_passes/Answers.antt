@@ -1,6 +1,6 @@
 use Rattle.std.proofs.Common.{arith, refl}
 use Rattle.matching.specs.Places.{passing-first, passing-fit, passing-room, passing-fits, passing-less, passing-next, passing-all, next-most}
-use Rattle.matching.specs.Slots.{found-is, found-none, found-or}
+use Rattle.base.specs.Chains.{found-is, found-none, found-or}
 use Rattle.matching.proofs.leg_passes.Goals as goal
 
 pub loop-next-init : goal.loop-next-init

@@ -5,7 +5,8 @@ use Rattle.rules.specs.National.{bounds_at}
 use Rattle.records.specs.Done.{visit-none, visit-moves, visit-room, visit-all}
 use Rattle.ranges.specs.Fit.{fit-legs}
 use Rattle.matching.specs.Matching.{same-bounds, fit-matches, match_none, match-some}
-use Rattle.matching.specs.Slots.{found-is, found-none, may-found, may-no-buy, may-no-sell, matching-stops}
+use Rattle.base.specs.Chains.{found-is, found-none}
+use Rattle.matching.specs.Slots.{may-found, may-no-buy, may-no-sell, matching-stops}
 use Rattle.matching.proofs.match_all.Goals as goal
 
 pub bounds-w-requires : goal.bounds-w-requires

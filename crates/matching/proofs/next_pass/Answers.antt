@@ -4,7 +4,7 @@ use Rattle.base.specs.Chains.{found}
 use Rattle.ranges.specs.Fit.{fit-entry, fit-legs}
 use Rattle.matching.specs.Places.{look-not, look-before, look-above, look-idle, look-here, look-all, acts-on}
 use Rattle.matching.specs.Searches.{searched-none}
-use Rattle.matching.specs.Slots.{found-some}
+use Rattle.base.specs.Chains.{found-some}
 use Rattle.matching.proofs.next_pass.Goals as goal
 use Rattle.matching.proofs.next_pass.Goals.{then-day_order+then-from-at+then-at-unwrap_or+then-acts_in, then-day_order+then-from-at+then-at-unwrap_or+else-acts_in, then-day_order+else-from-at, else-from-at-via-then-from-at+else-at-unwrap_or, else-from-at-via-else-from-at, else-day_order}
 
