@@ -1,7 +1,10 @@
 -- The rules of auctions by what the code tests, and their records.
-use Rattle.std.specs.Prelude.{◌≡◌, Bool, true, false, List, ℕ, ◌≤◌, eqb, length, get_or, set}
+use Rattle.std.specs.Prelude.{◌≡◌, Bool, true, false, List, ℕ, nat_lt, eqb, length, get_or, set, Option, position}
 use Rattle.std.proofs.Math.Path.{refl}
-use Rattle.std.proofs.Common.{sym, ◌∙◌, arith}
+use Rattle.std.proofs.Common.{sym, ◌∙◌, arith, ltb-false, Some, None}
+use Rattle.std.proofs.lemmas.Bool.{cond_both}
+use Rattle.std.specs.Option.{option_map_or}
+use Rattle.base.specs.Chains.{found, position-slots}
 use Rattle.std.proofs.Math.ListN.{get_or-eq_default}
 use Rattle.base.specs.Pick.{pick, pick_true, pick-false, tests}
 use Rattle.base.specs.Walks.{first_n}
@@ -16,13 +19,17 @@ use Rattle.rules.specs.Moves.{still}
 use Rattle.rules.specs.Sides.{other}
 use Rattle.rules.specs.Fills.{cancel_entry}
 use Rattle.tables.specs.Only.{only_entries}
-use Rattle.rules.specs.Auctions.{with_auction, put_auction, is_number, starter_slot, answer, lapses, cancel_lapsed}
+use Rattle.rules.specs.Auctions.{live_in, with_auction, put_auction, is_number, starter_slot, answer, lapses, cancel_lapsed}
 
 abbrev pub begun_record : Entry → Record
 begun_record e = record { kind = AuctionBegun; number = e.number; place = e.strategy; side = e.side; quantity = e.units; level = e.level }
 
 abbrev pub ended_record : ℕ → ℕ → Record
 ended_record n k = record { kind = AuctionEnded; number = n; place = k; side = 0; quantity = 0; level = zero_level }
+
+-- an entry is live, of strategy k and of number n
+unfoldable pub numbered : ℕ → ℕ → Entry → Bool
+numbered k n e = pick (live_in k e) (eqb e.number n) false
 
 -- the slot of the starter of strategy k, by its number
 abbrev pub starter_in : List Entry → ℕ → ℕ → ℕ
@@ -34,8 +41,17 @@ answers_in es k n side = eqb (get_or es (starter_in es k n) no_entry).side (othe
 
 -- laws
 
-pub side-past : (es : List Entry) (i : ℕ) → length es ≡ 32 → 32 ≤ i → 0 ≡ (get_or es i no_entry).side
-side-past es i n h = rw (get_or-eq_default es no_entry {n = i} (omega arith))
+-- the starter's slot, by the search for it
+pub starter_found : (k n : ℕ) (es : List Entry) {i : Option ℕ} → length es ≡ 32 → i ≡ position (numbered k n) es → i ≡ found 32 (starter_in es k n)
+unfolding numbered
+starter_found k n es l p = p ∙ position-slots no_entry (numbered k n) es ∙ rw l
+
+-- the side of the entry at a slot, 0 past the last
+found-side : (es : List Entry) (i : ℕ) → length es ≡ 32 → option_map_or (λ j. (get_or es j no_entry).side) (found 32 i) 0 ≡ (get_or es i no_entry).side
+found-side es i n =
+    cond_both (nat_lt i 32) (Some i) None (λ o. option_map_or (λ j. (get_or es j no_entry).side) o 0 ≡ (get_or es i no_entry).side)
+    (λ l. refl)
+    (λ m. rw (get_or-eq_default es no_entry {n = i} (omega (arith, ltb-false i 32 m, n))))
 
 -- the state with another strategy stored at slot k
 abbrev pub auctioned : State → ℕ → Strategy → State
@@ -64,9 +80,10 @@ unfolding starter_slot
 starter-is k b = refl
 
 -- the answer by what the code has found
-pub answers_by : (es : List Entry) (k n side : ℕ) {i x y : ℕ} → i ≡ starter_in es k n → x ≡ (get_or es i no_entry).side → y ≡ other side → eqb x y ≡ answers_in es k n side
+pub answers_by : (es : List Entry) (k n side : ℕ) {i : Option ℕ} {x y : ℕ} → length es ≡ 32 → i ≡ found 32 (starter_in es k n)
+    → x ≡ option_map_or (λ j. (get_or es j no_entry).side) i 0 → y ≡ other side → eqb x y ≡ answers_in es k n side
 unfolding answers_in
-answers_by es k n side p q o = rw (q, p, o)
+answers_by es k n side l p q o = rw (q, p, o, found-side es (starter_in es k n) l)
 
 module _ (k side : ℕ) (b : State) where
   -- the rule by the same test

@@ -1,5 +1,5 @@
 -- The ranges of running auctions, beside those of the rows. Every move keeps both.
-use Rattle.std.specs.Prelude.{Bool, List, ℕ, ◌≤◌, ℤ}
+use Rattle.std.specs.Prelude.{Bool, ℕ, ◌≤◌}
 use Rattle.std.proofs.Common.{arith}
 use Rattle.base.specs.Pick.{pick_all}
 use Rattle.base.specs.All.{all-at, all_map}

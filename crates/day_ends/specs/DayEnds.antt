@@ -1,30 +1,39 @@
 -- The rules of the day's end by what the code tests, and what they keep.
-use Rattle.std.specs.Prelude.{◌≡◌, Bool, true, false, not, List, eqb, ℤ}
+use Rattle.std.specs.Prelude.{◌≡◌, Bool, true, false, not, List, [], ◌∷◌, ◌++◌, eqb, length, get_or, map, Option}
+use Rattle.std.specs.List.{fold, filter, reduce}
 use Rattle.std.proofs.Math.Path.{refl, ap}
-use Rattle.std.proofs.Common.{sym, ◌∙◌, arith, eqb-true, eq-eqb, ne_eqb}
-use Prim.Native.Nat.{ℕ, zero, suc, ◌+◌, ◌-◌, ◌≤◌, ◌<◌, min}
-use Rattle.base.specs.Walks.{walk, walk-next}
+use Rattle.std.proofs.Common.{sym, ◌∙◌, arith, eq-eqb, cond, None, Some}
+use Rattle.std.proofs.lemmas.Bool.{cond_both, eqb-false, not-true}
+use Rattle.std.proofs.lemmas.Option.{none-some, same_Some}
+use Rattle.std.proofs.lemmas.List.Sums.{fold-append}
+use Prim.Native.Nat.{ℕ, zero, suc, ◌+◌, ◌-◌, ◌<◌, min}
+use Rattle.base.specs.Walks.{walk}
+use Rattle.base.specs.Chains.{unless_zero, fold-walk}
+use Rattle.base.specs.All.{All, all_nil, all_cons, all_append}
+use Rattle.rules.specs.declared.Entry.{Entry}
+use Rattle.rules.specs.declared.LegOrder.{LegOrder}
 use Rattle.rules.specs.declared.State.{State}
-use Rattle.rules.specs.State.{fresh, entry_at, order_at, strategy_at}
+use Rattle.rules.specs.State.{no_entry, no_order, fresh}
 use Rattle.rules.specs.Moves.{Moved, still, each}
-use Rattle.rules.specs.Auctions.{close}
-use Rattle.rules.specs.Events.{live, live_order, cancel_number, close_running, lower_number, lower_entry, lower_order, lowest_live, cancel_lowest, restart, on_day_end}
+use Rattle.rules.specs.Auctions.{running, close}
+use Rattle.rules.specs.Events.{live, live_order, cancel_number, close_running, lower_number, lowest_live, cancel_lowest, restart, on_day_end}
 use Rattle.rules.specs.Valid.{Sound}
 use Rattle.rules.proofs.Shrinks.{auction-shrinks}
-use Rattle.rules.proofs.DayEnd.{number-shrinks}
+use Rattle.rules.proofs.DayEnd.{number-shrinks, numbered-sound, lowest-none}
 use Rattle.rules.proofs.Entering.{sound-auctions, sound-shrinks, auctions-same}
 use Rattle.rules.proofs.Settled.{each_keeps}
 use Rattle.rules.proofs.Arrivals.{put-auctions}
 use Rattle.rules.proofs.Cancels.{number-strategies}
-use Rattle.records.specs.Done.{Done, done-still, done-of, done-then}
+use Rattle.records.specs.Done.{Done, Visited, done-still, done-of, done-then}
 use Rattle.rules.proofs.Turns.{idle}
-use Rattle.base.specs.Pick.{pick, pick_true, pick-false, pick_all, pick-by, tests}
+use Rattle.base.specs.Pick.{pick, pick_true, pick-false, pick_all, tests}
 use Rattle.records.specs.declared.Records.{Records}
 
--- the lower of some numbers does not depend on their order
-lower-none : (n : ℕ) → lower_number n 0 ≡ n
-unfolding lower_number
-lower-none n = pick-by (λ (x : ℕ). x ≡ n) (eqb n 0) (λ z. sym (eqb-true n 0 z)) (λ z. pick_true _ _ _ (eq-eqb 0 0 refl))
+-- the numbers that are live: those of entries, then those of leg orders
+abbrev pub live_numbers : State → List ℕ
+live_numbers b = map (λ (e : Entry). e.number) (filter (λ e. not (eqb e.units 0)) b.entries) ++ map (λ (o : LegOrder). o.number) (filter (λ o. not (eqb o.contracts 0)) b.orders)
+
+-- laws
 
 lower-zero : (m : ℕ) → lower_number 0 m ≡ m
 unfolding lower_number
@@ -37,56 +46,75 @@ lower-min n m h l =
     let q : ¬ (m ≡ 0) = omega arith in
     search tests
 
-pub lower-first : (n m : ℕ) → ¬ (n ≡ 0) → n ≤ m → n ≡ lower_number n m
-lower-first n m p h = omega (arith, lower-min n m (omega arith) (omega arith))
+-- the rows that pass a test, and their numbers
+module _ {A : Type 0} (d : A) (p : A → Bool) (f : A → ℕ) where
+  lower-kept : (n : ℕ) (xs : List A) → fold (λ m x. pick (p x) (lower_number m (f x)) m) n xs ≡ fold lower_number n (map f (filter p xs))
+  unfolding pick
+  lower-kept n [] = refl
+  lower-kept n (x ∷ xs) = by (p x) (λ m. lower-kept m xs)
+    where
+      by : (t : Bool) → ((m : ℕ) → fold (λ k y. pick (p y) (lower_number k (f y)) k) m xs ≡ fold lower_number m (map f (filter p xs)))
+          → fold (λ m y. pick (p y) (lower_number m (f y)) m) (pick t (lower_number n (f x)) n) xs ≡ fold lower_number n (map f (cond t (x ∷ filter p xs) (filter p xs)))
+      by true h = h (lower_number n (f x))
+      by false h = h n
 
-pub lower-second : (n m : ℕ) → ¬ (n ≡ 0) → ¬ (m ≡ 0) → m < n → m ≡ lower_number n m
-lower-second n m p q h = omega (arith, lower-min n m (omega arith) (omega arith))
+  lower-walk : (n : ℕ) (xs : List A) → length xs ≡ 32 → walk (λ i m. pick (p (get_or xs i d)) (lower_number m (f (get_or xs i d))) m) n 32 ≡ fold lower_number n (map f (filter p xs))
+  lower-walk n xs l = rw (sym l) (sym (fold-walk d (λ m x. pick (p x) (lower_number m (f x)) m) n xs) ∙ lower-kept n xs)
 
-lower-comm : (n m : ℕ) → lower_number n m ≡ lower_number m n
-lower-comm zero m = lower-zero m ∙ sym (lower-none m)
-lower-comm (suc n) zero = lower-none (suc n) ∙ sym (lower-zero (suc n))
-lower-comm (suc n) (suc m) = rw (lower-min (suc n) (suc m) (omega arith) (omega arith), lower-min (suc m) (suc n) (omega arith) (omega arith)) (omega arith)
+  given-kept : (xs : List A) → ((i : ℕ) → p (get_or xs i d) ≡ true → 0 < f (get_or xs i d)) → All (λ n. 0 < n) (map f (filter p xs))
+  given-kept [] h = all_nil
+  given-kept (x ∷ xs) h =
+      let rest = given-kept xs (λ i. h (suc i)) in
+      cond_both (p x) (x ∷ filter p xs) (filter p xs) (λ l. All (λ n. 0 < n) (map f l)) (λ e. all_cons (h 0 e) rest) (λ e. rest)
 
-lower-swap : (n x y : ℕ) → lower_number (lower_number n x) y ≡ lower_number (lower_number n y) x
-lower-swap zero x y = rw (lower-zero x, lower-zero y) (lower-comm x y)
-lower-swap (suc n) zero y = rw (lower-none (suc n), lower-none (lower_number (suc n) y))
-lower-swap (suc n) (suc x) zero = rw (lower-none (suc n), lower-none (lower_number (suc n) (suc x)))
-lower-swap (suc n) (suc x) (suc y) =
-    rw (lower-min (suc n) (suc x) (omega arith) (omega arith), lower-min (suc n) (suc y) (omega arith) (omega arith))
-    (lower-min (min (suc n) (suc x)) (suc y) (omega arith) (omega arith) ∙ (omega arith) ∙ sym (lower-min (min (suc n) (suc y)) (suc x) (omega arith) (omega arith)))
+-- the lower of some numbers that are given is the least
+lower-least : (n : ℕ) (ns : List ℕ) → 0 < n → All (λ m. 0 < m) ns → (fold lower_number n ns ≡ fold min n ns) × (0 < fold min n ns)
+lower-least n [] h all_nil = (refl, h)
+lower-least n (m ∷ ns) h (all_cons p a) = rw (lower-min n m h p) (lower-least (min n m) ns (omega arith) a)
 
-live-swap : (t u : Bool) (n x y : ℕ) → pick t (lower_number (pick u (lower_number n x) n) y) (pick u (lower_number n x) n) ≡ pick u (lower_number (pick t (lower_number n y) n) x) (pick t (lower_number n y) n)
-unfolding pick
-live-swap true true n x y = lower-swap n x y
-live-swap true false n x y = refl
-live-swap false true n x y = refl
-live-swap false false n x y = refl
+unless-some : (n : ℕ) → 0 < n → Some n ≡ unless_zero n
+unless-some zero h = absurd (omega arith)
+unless-some (suc n) h = refl
 
--- two walks of which the steps may be exchanged are one walk with both steps
-module _ {A : Type 0} (f g : ℕ → A → A) (swap : (i j : ℕ) (a : A) → g i (f j a) ≡ f j (g i a)) where
-  walk-past : (j : ℕ) (a : A) (k : ℕ) → walk g (f j a) k ≡ f j (walk g a k)
-  unfolding walk
-  walk-past j a zero = refl
-  walk-past j a (suc k) = ap (g k) (walk-past j a k) ∙ swap k j (walk g a k)
+least-given : (ns : List ℕ) → All (λ n. 0 < n) ns → reduce min ns ≡ unless_zero (fold lower_number 0 ns)
+least-given [] all_nil = refl
+least-given (n ∷ ns) (all_cons p a) =
+    let q = lower-least n ns p a in
+    rw (lower-zero n, q.0) (unless-some (fold min n ns) q.1)
 
-  walk-both : (a : A) (k : ℕ) → walk (λ (i : ℕ) (x : A). g i (f i x)) a k ≡ walk g (walk f a k) k
-  unfolding walk
-  walk-both a zero = refl
-  walk-both a (suc k) = ap (λ (x : A). g k (f k x)) (walk-both a k) ∙ ap (g k) (sym (walk-past k (walk f a k) k))
+-- what the code finds is the rule's lowest number
+module _ (b : State) (s : Sound b) where
+  some-units : (u : ℕ) → not (eqb u 0) ≡ true → 0 < u
+  some-units u e = let z = eqb-false u 0 (not-true _ e) in omega arith
 
--- the lowest live number by one walk over both tables
-abbrev pub lower_both : State → ℕ → ℕ → ℕ
-lower_both b i n = lower_order b i (lower_entry b i n)
+  lowest-fold : lowest_live b ≡ fold lower_number 0 (live_numbers b)
+  unfolding lowest_live live live_order
+  lowest-fold =
+      rw (lower-walk no_entry (λ e. not (eqb e.units 0)) (λ e. e.number) 0 b.entries s.entry_rows, fold-append)
+      (lower-walk no_order (λ o. not (eqb o.contracts 0)) (λ o. o.number) _ b.orders s.order_rows)
 
-pub lower-next : (b : State) (i : ℕ) {n x y : ℕ} → n ≡ walk (lower_both b) 0 i → x ≡ pick (not (eqb (entry_at b i).units 0)) (lower_number n (entry_at b i).number) n
-    → y ≡ pick (not (eqb (order_at b i).contracts 0)) (lower_number x (order_at b i).number) x → y ≡ walk (lower_both b) 0 (i + 1)
-unfolding live live_order
-lower-next b i p q r = walk-next (lower_both b) 0 i p (r ∙ ap (lower_order b i) q)
+  lowest-found : {r : Option ℕ} → r ≡ reduce min (live_numbers b) → r ≡ unless_zero (lowest_live b)
+  lowest-found e =
+      let given = all_append
+      (given-kept no_entry (λ e. not (eqb e.units 0)) (λ e. e.number) b.entries (λ i l. (s.live i (some-units _ l)).given.0))
+      (given-kept no_order (λ o. not (eqb o.contracts 0)) (λ o. o.number) b.orders (λ i l. (s.live_order i (some-units _ l)).given.0)) in
+      e ∙ least-given _ given ∙ ap unless_zero (sym lowest-fold)
 
-pub lowest-is : (b : State) {i n : ℕ} → i ≡ 32 → n ≡ walk (lower_both b) 0 i → n ≡ lowest_live b
-unfolding lowest_live
-lowest-is b h p = (rw h at p) ∙ walk-both (lower_entry b) (lower_order b) (λ i j n. live-swap _ _ n _ _) 0 32
+  -- a number is live, or none
+  pub low-is : (i : ℕ) {r : Option ℕ} {n : ℕ} → r ≡ reduce min (live_numbers b) → r ≡ Some n → cancel_lowest i b ≡ cancel_number n b
+  unfolding cancel_lowest
+  low-is i e f = ap (λ n. cancel_number n b) (by (lowest_live b) (sym (lowest-found e) ∙ f))
+    where
+      by : (m : ℕ) {n : ℕ} → unless_zero m ≡ Some n → m ≡ n
+      by zero e = absurd (none-some _ e)
+      by (suc m) e = same_Some _ _ e
+
+  pub low-none : {r : Option ℕ} → r ≡ reduce min (live_numbers b) → r ≡ None → (i : ℕ) → cancel_lowest i b ≡ still b
+  low-none e f = lowest-none (numbered-sound s) (by (lowest_live b) (sym (lowest-found e) ∙ f))
+    where
+      by : (m : ℕ) → unless_zero m ≡ None → m ≡ 0
+      by zero e = refl
+      by (suc m) e = absurd (none-some _ (sym e))
 
 -- after a turn that finds nothing live no turn cancels
 pub lowest-stops : (i : ℕ) (b₀ : State) {r₀ r₁ : Records} {b : State} → i < 64 → Done r₀ r₁ b (each cancel_lowest i b₀) → ((j : ℕ) → cancel_lowest j b ≡ still b)
@@ -95,19 +123,15 @@ lowest-stops i b₀ h d q =
     let u : 64 ≡ 64 - i + i = omega arith in
     done-of (ap (λ (j : ℕ). each cancel_lowest j b₀) u ∙ idle cancel_lowest b₀ i (rw d.state at q) (64 - i)) d
 
--- the auction of strategy k, by the row that the code reads
+-- the auction of strategy k, by whether it runs
 module _ (k : ℕ) (b : State) where
-  pub close-not : (strategy_at b k).starter ≡ 0 → close_running k b ≡ still b
+  pub close-not : running b k ≡ false → close_running k b ≡ still b
   unfolding close_running
-  close-not e = rw (eq-eqb _ _ e) (pick-false _ _ _ refl)
+  close-not e = pick-false _ _ _ e
 
-  pub close-yes : ¬ ((strategy_at b k).starter ≡ 0) → close_running k b ≡ close k b
+  pub close-yes : running b k ≡ true → close_running k b ≡ close k b
   unfolding close_running
-  close-yes e = rw (ne_eqb _ _ e) (pick_true _ _ _ refl)
-
-pub low-is : (i : ℕ) (b : State) {n : ℕ} → n ≡ lowest_live b → cancel_lowest i b ≡ cancel_number n b
-unfolding cancel_lowest
-low-is i b p = rw p
+  close-yes e = pick_true _ _ _ e
 
 -- a fresh book writes nothing
 restarted : (timer : ℕ) {f : State} → f ≡ fresh timer → (r₀ : Records) (b : State) → Done r₀ r₀ f (restart timer b)
@@ -121,7 +145,7 @@ unfolding on_day_end
 day-end timer b {d = d} {r₂ = r₂} x y e = done-then _ _ x (done-then _ _ y (restarted timer e r₂ d))
 
 -- cancels and closed auctions leave a sound state
-pub lowest-sound : (i : ℕ) (b : State) → Sound b → Sound (cancel_lowest i b).state
+lowest-sound : (i : ℕ) (b : State) → Sound b → Sound (cancel_lowest i b).state
 unfolding cancel_lowest
 lowest-sound i b s =
     let n : ℕ = lowest_live b in
@@ -136,3 +160,7 @@ running-sound k b s =
 pub sound-each : (f : ℕ → State → Moved) → ((i : ℕ) (b : State) → Sound b → Sound (f i b).state) → (i : ℕ) (b : State) {c : State} {r₀ r₁ : Records}
     → Sound b → Done r₀ r₁ c (each f i b) → Sound c
 sound-each f h i b s d = rw d.state (each_keeps Sound f i (λ j _ c. h j c) b s)
+
+-- the turns that have cancelled so far
+pub lowered-sound : {i : ℕ} {b c : State} {r₀ r₁ : Records} → Sound b → Visited cancel_lowest 64 b r₀ r₁ c i → Sound c
+lowered-sound s v = sound-each cancel_lowest lowest-sound _ _ s v.done

@@ -1,10 +1,10 @@
 use Rattle.rules.specs.Auctions.{close}
 use Rattle.auctions.proofs.close.Goals as goal
 
-pub push-m-requires : goal.push-m-requires
+pub push-requires : goal.push-requires
 unfolding close
-push-m-requires c = rw c.ended_record-r.ensures c.requires.room
+push-requires c = rw c.ended_record.ensures c.requires.room
 
 pub returns : goal.returns
 unfolding close
-returns c = record { wrote = rw c.ended_record-r.ensures at c.push-m.ensures; state = c.put_auction-c.ensures }
+returns c = record { wrote = rw c.ended_record.ensures at c.push.ensures; state = c.put_auction.ensures }

@@ -1,28 +1,22 @@
-use Rattle.day_ends.specs.DayEnds.{lowest-sound, sound-each, low-is, lowest-stops}
+use Rattle.day_ends.specs.DayEnds.{lowered-sound, low-is, low-none, lowest-stops}
 use Rattle.records.specs.Done.{visit-none, visit-moves, visit-room, visit-all}
-use Rattle.rules.proofs.DayEnd.{numbered-sound, lowest-none}
-use Rattle.rules.specs.Events.{cancel_lowest}
-use mathlib.Core.Path.{sym, ◌∙◌}
 use native.Mathlib.Omega.{arith}
 use Rattle.day_ends.proofs.cancel_all.Goals as goal
 
-pub loop-i-init : goal.loop-i-init
-loop-i-init c = visit-none _ _ _ _ _
+pub loop-init : goal.loop-init
+loop-init c = visit-none _ _ _ _
 
-pub returns-then-low-eq0 : goal.returns-then-low-eq0
-returns-then-low-eq0 c = lowest-stops _ _ c.loop-i-test.true c.loop-i.invariant.done (lowest-none (numbered-sound (sound-each cancel_lowest lowest-sound _ _ c.requires.sound c.loop-i.invariant.done)) (sym c.lowest_live-low.ensures ∙ c.if-low-eq0.true))
+pub cancel_number-requires-clause-sound : goal.cancel_number-requires-clause-sound
+cancel_number-requires-clause-sound c = lowered-sound c.requires.sound c.loop.invariant
 
-pub cancel_number-t-requires : goal.cancel_number-t-requires
-cancel_number-t-requires c = record { sound = sound-each cancel_lowest lowest-sound _ _ c.requires.sound c.loop-i.invariant.done; room = visit-room c.loop-i.invariant c.loop-i-test.true (low-is _ _ c.lowest_live-low.ensures) c.requires.room }
+pub cancel_number-requires-clause-room : goal.cancel_number-requires-clause-room
+cancel_number-requires-clause-room c = visit-room c.loop.invariant (omega arith) (low-is _ (lowered-sound c.requires.sound c.loop.invariant) _ c.lowest_live.ensures c.in-Some.is) c.requires.room
 
-pub overflow_add-i : goal.overflow_add-i
-overflow_add-i c = omega arith
+pub returns-in-None : goal.returns-in-None
+returns-in-None c = lowest-stops _ _ (omega arith) c.loop.invariant.done (low-none _ (lowered-sound c.requires.sound c.loop.invariant) c.lowest_live.ensures c.in-None.is)
 
-pub loop-i-smaller : goal.loop-i-smaller
-loop-i-smaller c = omega arith
-
-pub loop-i-preserved : goal.loop-i-preserved
-loop-i-preserved c = visit-moves c.loop-i.invariant c.loop-i-test.true (low-is _ _ c.lowest_live-low.ensures) c.cancel_number-t.ensures
+pub loop-preserved : goal.loop-preserved
+loop-preserved c = visit-moves c.loop.invariant (omega arith) (low-is _ (lowered-sound c.requires.sound c.loop.invariant) _ c.lowest_live.ensures c.in-Some.is) c.cancel_number.ensures
 
 pub returns : goal.returns
-returns c = visit-all c.loop-i.invariant c.loop-i-test.false
+returns c = visit-all c.loop.invariant (omega arith)
