@@ -1,5 +1,5 @@
 -- The stored nets after a fill by the legs: leg by leg, the price that it met goes to what is left of it.
-use Rattle.std.specs.Prelude.{◌≡◌, refl, Bool, true, false, List, eqb}
+use Rattle.std.specs.Prelude.{◌≡◌, refl, Bool, true, false, List, eqb, Option, Some}
 use Rattle.std.proofs.Math.Path.{sym}
 use Rattle.std.proofs.Common.{◌∙◌, ap, ⊎_elim, add-one, arith}
 use Prim.Native.Nat.{ℕ, zero, suc, ◌+◌, ◌≤◌, ◌<◌}
@@ -99,14 +99,17 @@ module _ (t : Strategy) {ns : List LegNets} {ss : List Strategy} {os : List LegO
         rw (add-one k) (q.by (with_left f os side t.legs k) (left-most f os side t.legs a m.most k) (g.by f m n) fresh (λ z. absurd (omega (arith, m.there k h))));
   }
 
--- a known net has a price on every leg
-known-there : (os : List LegOrder) (side : ℕ) (t : Strategy) → ¬ (net_of t (prices os side t.legs) ≡ 0) → t.count ≤ 6 → (i : ℕ) → i < t.count → 0 < price_at os side t.legs i
-unfolding net_of known prices
-known-there os side t n most i h =
-    let ps : List ℕ = prices os side t.legs in
-    pick-by (λ (x : ℕ). ¬ (x ≡ 0) → 0 < price_at os side t.legs i) (all_n (priced_at (table (price_at os side t.legs) 6)) t.count)
-    (λ k _. rw (table-slot (price_at os side t.legs) 0 6 i (omega arith)) at (ltb-true 0 (slot (table (price_at os side t.legs) 6) i) (all-holds (priced_at (table (price_at os side t.legs) 6)) t.count i k h)))
-    (λ k z. absurd (z refl)) n
+-- what is met on the legs has a price on each
+legs-priced : (os : List LegOrder) (side : ℕ) (t : Strategy) {p : LegBests} → Some p ≡ leg_bests os side t → known (prices os side t.legs) t.count ≡ true
+unfolding leg_bests
+legs-priced os side t {p} =
+    pick-by (λ (b : Option LegBests). Some p ≡ b → known (prices os side t.legs) t.count ≡ true) (known (prices os side t.legs) t.count) (λ k _. k)
+    (λ _ h. absurd (let z : ◌≡◌ {A = ℕ} 0 1 = cc in omega arith))
+
+known-there : (os : List LegOrder) (side : ℕ) (t : Strategy) → known (prices os side t.legs) t.count ≡ true → t.count ≤ 6 → (i : ℕ) → i < t.count → 0 < price_at os side t.legs i
+unfolding known prices
+known-there os side t k most i h =
+    rw (table-slot (price_at os side t.legs) 0 6 i (omega arith)) at (ltb-true 0 (slot (table (price_at os side t.legs) 6) i) (all-holds (priced_at (table (price_at os side t.legs) 6)) t.count i k h))
 
 -- ALL LEGS: what is left is what the fill leaves
 module _ (os : List LegOrder) (side q : ℕ) (t : Strategy) (ps : List ℕ) where
@@ -135,24 +138,24 @@ module _ (os : List LegOrder) (side q : ℕ) (t : Strategy) (ps : List ℕ) wher
       (λ z. rest (λ p. eqb-false x l.series z p.0))
 
 -- the prices that were met, as the code has found them
-pub met_at : (os : List LegOrder) (side : ℕ) (t : Strategy) {p : LegBests} → All FitOrder os → t.count ≤ 6 → p ≡ leg_bests os side t → ¬ (p.net ≡ 0) → MetAt (price_of os) side t.legs t.count p.prices
+pub met_at : (os : List LegOrder) (side : ℕ) (t : Strategy) {p : LegBests} → All FitOrder os → t.count ≤ 6 → Some p ≡ leg_bests os side t → MetAt (price_of os) side t.legs t.count p.prices
 unfolding leg_price
-met_at os side t {p} a most found some =
-    let q : p ≡ record { prices = stored 6 (price_at os side t.legs) t.count; units = units_of os side t (prices os side t.legs) 9999; net = net_of t (prices os side t.legs) } = legs-known os side t found some in
+met_at os side t {p} a most found =
+    let q : p ≡ record { prices = stored 6 (price_at os side t.legs) t.count; units = units_of os side t (prices os side t.legs) 9999; net = net_of t (prices os side t.legs) } = legs-known os side t found in
     let at : (i : ℕ) → i < t.count → slot p.prices i ≡ price_at os side t.legs i =
     λ i h. ap (λ (b : LegBests). slot b.prices i) q ∙ stored_at 6 (price_at os side t.legs) t.count i h in
     record {
       most = price-most os a;
       met = λ i h. sym (at i h);
-      there = λ i h. rw (at i h) (known-there os side t (λ z. some (ap (λ (b : LegBests). b.net) q ∙ z)) most i h);
+      there = λ i h. rw (at i h) (known-there os side t (legs-priced os side t found) most i h);
     }
 
 -- after the fill the nets are those of the leg orders left
-pub nets-left : (e : Entry) (os : List LegOrder) (t : Strategy) (ss : List Strategy) {p : LegBests} {ns ms : List LegNets} → All FitOrder os → t.count ≤ 6 → p ≡ leg_bests os e.side t → ¬ (p.net ≡ 0)
+pub nets-left : (e : Entry) (os : List LegOrder) (t : Strategy) (ss : List Strategy) {p : LegBests} {ns ms : List LegNets} → All FitOrder os → t.count ≤ 6 → Some p ≡ leg_bests os e.side t
     → ns ≡ nets_of os ss → {rows : List LegOrder} → rows ≡ orders_by_legs e os t → LegsLeft ns ss rows e.side t.legs t.count p.prices t.count ms → ms ≡ nets_of rows ss
 unfolding orders_by_legs
-nets-left e os t ss {p} a most found some n {rows} r g =
+nets-left e os t ss {p} a most found n {rows} r g =
     let ps : List ℕ = prices os e.side t.legs in
     let q : ℕ = units_by_legs e os t in
-    g.by (price_of os) (met_at os e.side t a most found some) (n ∙ nets-by os ss)
+    g.by (price_of os) (met_at os e.side t a most found) (n ∙ nets-by os ss)
     ∙ all-nets-ext ss (λ x d. rw r (left-all os e.side q t ps t.count (omega arith) x d (λ i j l. absurd (omega arith)))) ∙ sym (nets-by rows ss)

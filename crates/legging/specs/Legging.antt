@@ -1,5 +1,5 @@
 -- A fill by legs, of an entry, the leg orders and a strategy; what its parts leave; and the fill by what the code has found.
-use Rattle.std.specs.Prelude.{◌≡◌, refl, get_or}
+use Rattle.std.specs.Prelude.{◌≡◌, refl, Some, get_or}
 use Rattle.std.proofs.Math.Path.{sym, ap}
 use Rattle.std.proofs.Common.{◌∙◌, mul-le-mul, arith}
 use mathlib.Core.List.{List, [], ◌∷◌, ◌++◌}
@@ -89,8 +89,7 @@ module _ (e : Entry) (os : List LegOrder) (s : Strategy) (q : ℕ) (ps qs : List
       (λ i h. ap (λ (t : LegTake). join_n (order_rows os (leg_quotas os t) t.price) 32) (take_same i h))
 
 -- the fill by what the code has found on the legs
-module _ (e : Entry) (os : List LegOrder) (s : Strategy) {p : LegBests} {q : ℕ} (few : e.units ≤ 9999) (most : s.count ≤ 6) (found : p ≡ leg_bests os e.side s)
-    (some : ¬ (p.net ≡ 0)) (units : q ≡ min p.units e.units) where
+module _ (e : Entry) (os : List LegOrder) (s : Strategy) {p : LegBests} {q : ℕ} (few : e.units ≤ 9999) (most : s.count ≤ 6) (found : Some p ≡ leg_bests os e.side s) (units : q ≡ min p.units e.units) where
   abbrev ps : List ℕ
   ps = prices os e.side s.legs
 
@@ -98,7 +97,7 @@ module _ (e : Entry) (os : List LegOrder) (s : Strategy) {p : LegBests} {q : ℕ
   met = record { prices = stored 6 (price_at os e.side s.legs) s.count; units = units_of os e.side s ps 9999; net = net_of s ps }
 
   is-met : p ≡ met
-  is-met = legs-known os e.side s found some
+  is-met = legs-known os e.side s found
 
   same : (i : ℕ) → i < s.count → slot ps i ≡ slot p.prices i
   unfolding prices

@@ -1,7 +1,7 @@
 // Fills of whole against legs.
 #![tactic(auto)]
 
-ghost use Rattle.std.specs.Prelude.{◌≡◌, ◌+◌, ◌*◌, ◌-◌, ◌<◌, ◌≤◌};
+ghost use Rattle.std.specs.Prelude.{Some, ◌≡◌, ◌+◌, ◌*◌, ◌-◌, ◌<◌, ◌≤◌};
 ghost use Rattle.base.specs.Walks.{join_n};
 ghost use Rattle.rules.specs.Sizes.{table_rows};
 ghost use Rattle.rules.specs.Fills.{leg_quotas, order_rows, order_records_at, takes_at, leg_take};
@@ -74,7 +74,7 @@ pub fn leg_fill(
     s: Strategy,
     records: &mut Records,
 ) -> u32
-    requires fit_legs { FitLegs s × (e.units ≤ 9999) × (p ≡ leg_bests rows.old e.side s) × ¬ (p.net ≡ 0) }
+    requires fit_legs { FitLegs s × (e.units ≤ 9999) × (Some p ≡ leg_bests rows.old e.side s) }
     requires room { Room records.old (records_by_legs e rows.old s) }
     ensures { FilledByLegs records.old records.new result rows.new e rows.old s }
 {
@@ -99,6 +99,6 @@ pub fn nets_left(
     for i in 0..t.count as usize {
         let l = t.legs[i];
         let on = other(leg_side(side, l));
-        *ns = refreshed(*ns, ss, os, l.series, on, ps[i]);
+        *ns = refreshed(*ns, ss, os, l.series, on, Some(ps[i]));
     }
 }

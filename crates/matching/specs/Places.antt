@@ -31,7 +31,7 @@ use Rattle.rules.proofs.Turns.{then-still}
 use Rattle.records.specs.Space.{Room}
 use Rattle.records.specs.Done.{Done, done-of, room_of, Visited, visit-none, visit-moves, visit-room, visit-all}
 use Rattle.ranges.specs.Fit.{Fit, fit-entry, fit-done}
-use Rattle.nets.specs.Legs.{net_where, net_ready}
+use Rattle.nets.specs.Legs.{net_ready}
 use Rattle.stored_nets.specs.Stored.{net_for}
 use Rattle.stored_nets.specs.Laws.{net-stored}
 use Rattle.passes.specs.Passes.{stops_at, legs_met, legs-still, legs-turn}
@@ -45,7 +45,7 @@ acts_in e t os opened s = both (passes_legs t s opened) (not (stops_at (turn_at 
 
 -- .. by the nets n of the strategy
 unfoldable pub acts_on : Entry → Strategy → LegNets → List LegOrder → ℕ → ℕ → Bool
-acts_on e t n os opened s = both (passes_legs t s opened) (not (stops_at (turn_at e 0 (net_where (legs_met e 0 (net_for n e.side) os t)))))
+acts_on e t n os opened s = both (passes_legs t s opened) (not (stops_at (turn_at e 0 (ready_level (legs_met e 0 (net_for n e.side) os t)))))
 
 -- the live ones of these entries are of strategies with legs
 pub record LiveLegs (ss : List Strategy) (es : List Entry) : Type 0 where

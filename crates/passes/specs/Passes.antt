@@ -1,5 +1,5 @@
 -- The turns of a pass: they shrink the state and keep its bounds, and none moves after one that stops.
-use Rattle.std.specs.Prelude.{◌≡◌, Bool, true, false, not, ◌⊎◌, List, ℕ, ◌+◌, ◌-◌, ◌≤◌, ◌<◌, eqb}
+use Rattle.std.specs.Prelude.{◌≡◌, Option, None, Some, IsSome, unwrap_or, Bool, true, false, not, ◌⊎◌, List, ℕ, ◌+◌, ◌-◌, ◌≤◌, ◌<◌, eqb}
 use Rattle.std.proofs.Math.Path.{refl, sym, ap}
 use Rattle.std.proofs.Common.{◌∙◌, inl, inr, eqb-true, eq-eqb}
 use native.Mathlib.Omega.{arith}
@@ -35,7 +35,7 @@ use Rattle.records.specs.Done.{Visited, RoomIn, DoneIn, done-of, visit-none, vis
 use Rattle.ranges.specs.Fit.{Fit, fit-entry, fit-shrinks, fit-done}
 use Rattle.fills.specs.Gives.{HasRows, put_entries}
 use Rattle.nets.specs.declared.LegBests.{LegBests}
-use Rattle.nets.specs.Legs.{leg_bests, no_leg_bests, net_where, net_ready, net-where}
+use Rattle.nets.specs.Legs.{leg_bests, net_where, net_ready, net-where}
 use Rattle.stored_nets.specs.Stored.{net_for}
 use Rattle.stored_nets.specs.Laws.{net-stored}
 use Rattle.legging.specs.Legging.{records_by_legs, FilledByLegs}
@@ -64,8 +64,12 @@ net_over legs os side s = pick legs (net_of s (prices os side s.legs)) 0
 
 -- what entry e meets on the legs, whose net is that: nothing where the net does not go before the best opposite limit x, or does not meet its own
 -- limit, so that whether the legs are ready plays no part
-unfoldable pub legs_met : Entry → ℕ → ℕ → List LegOrder → Strategy → LegBests
-legs_met e x net os s = pick (legs_first e.side net x) (pick (meets e.side e.level net) (leg_bests os e.side s) no_leg_bests) no_leg_bests
+unfoldable pub legs_met : Entry → ℕ → ℕ → List LegOrder → Strategy → Option LegBests
+legs_met e x net os s = pick (legs_first e.side net x) (pick (meets e.side e.level net) (leg_bests os e.side s) None) None
+
+-- the ready net of what was met on the legs, 0 where there is none
+abbrev pub ready_level : Option LegBests → ℕ
+ready_level p = unwrap_or (net_where p) 0
 
 -- what entry e does at the best opposite limit x and that ready leg net, within those bounds
 unfoldable pub turn_in : Bounds → Entry → ℕ → ℕ → Turn
@@ -77,10 +81,10 @@ pub record Turning (way : Allocation) (legs : Bool) (a k : ℕ) (b₀ : State) (
   pub strategies : b.strategies ≡ b₀.strategies
 
 -- what the choice of turn t by entry a of strategy s says of what was met on the legs, p
-pub record Chosen (way : Allocation) (legs : Bool) (a : ℕ) (b : State) (s : Strategy) (t : Turn) (p : LegBests) : Type 0 where
+pub record Chosen (way : Allocation) (legs : Bool) (a : ℕ) (b : State) (s : Strategy) (t : Turn) (p : Option LegBests) : Type 0 where
   pub turn : turn_of way legs a b ≡ t
   pub found : t ≡ ByLegs → p ≡ leg_bests b.orders (entry_at b a).side s
-  pub some : t ≡ ByLegs → ¬ (p.net ≡ 0)
+  pub some : t ≡ ByLegs → IsSome p
 
 -- laws
 
@@ -161,9 +165,13 @@ ready-or true os side s = by (eqb (units_of os side s (prices os side s.legs) 1)
     by false = inr refl
 ready-or false os side s = inl refl
 
-none-where : net_where no_leg_bests ≡ 0
+is-some : (p : Option LegBests) → ¬ (p ≡ None) → IsSome p
+is-some None h = absurd (h refl)
+is-some (Some b) h = refl
+
+none-where : ready_level None ≡ 0
 unfolding net_where
-none-where = pick_true _ _ _ refl
+none-where = refl
 
 -- a known net is of legs that may be used
 over-some : (legs : Bool) (os : List LegOrder) (side : ℕ) (s : Strategy) (x : ℕ) → legs_first side (net_over legs os side s) x ≡ true → legs ≡ true
@@ -176,8 +184,8 @@ module _ (legs : Bool) (e : Entry) (x : ℕ) (os : List LegOrder) (s : Strategy)
   stored = net_over legs os e.side s
 
   -- found or not, the turn is the same
-  met-cases : (P : LegBests → Type 0) → (legs_first e.side stored x ≡ true → meets e.side e.level stored ≡ true → P (leg_bests os e.side s))
-      → (turn_at e x (net_in legs os e.side s) ≡ limit_turn e x → P no_leg_bests) → P (legs_met e x stored os s)
+  met-cases : (P : Option LegBests → Type 0) → (legs_first e.side stored x ≡ true → meets e.side e.level stored ≡ true → P (leg_bests os e.side s))
+      → (turn_at e x (net_in legs os e.side s) ≡ limit_turn e x → P None) → P (legs_met e x stored os s)
   unfolding legs_met
   met-cases P found not_found_lem =
       let q = unready e x stored (net_in legs os e.side s) (ready-or legs os e.side s) in
@@ -185,26 +193,26 @@ module _ (legs : Bool) (e : Entry) (x : ℕ) (os : List LegOrder) (s : Strategy)
       (λ f. pick-by P (meets e.side e.level stored) (λ m. found f m) (λ m. not_found_lem (q (inr m))))
       (λ f. not_found_lem (q (inl f)))
 
-  ready-met : legs_first e.side stored x ≡ true → net_where (leg_bests os e.side s) ≡ net_in legs os e.side s
+  ready-met : legs_first e.side stored x ≡ true → ready_level (leg_bests os e.side s) ≡ net_in legs os e.side s
   unfolding net_in
-  ready-met f = net-where os e.side s refl ∙ sym (pick_true _ _ _ (over-some legs os e.side s x f))
+  ready-met f = net-where os e.side s ∙ sym (pick_true _ _ _ (over-some legs os e.side s x f))
 
-  limit-none : turn_at e x (net_where no_leg_bests) ≡ limit_turn e x
+  limit-none : turn_at e x (ready_level None) ≡ limit_turn e x
   limit-none = rw none-where (not_first e x 0 (first-none e.side x))
 
-  pub turn-met : turn_at e x (net_where (legs_met e x stored os s)) ≡ turn_at e x (net_in legs os e.side s)
-  turn-met = met-cases (λ (p : LegBests). turn_at e x (net_where p) ≡ turn_at e x (net_in legs os e.side s)) (λ f m. ap (turn_at e x) (ready-met f)) (λ h. limit-none ∙ sym h)
+  pub turn-met : turn_at e x (ready_level (legs_met e x stored os s)) ≡ turn_at e x (net_in legs os e.side s)
+  turn-met = met-cases (λ (p : Option LegBests). turn_at e x (ready_level p) ≡ turn_at e x (net_in legs os e.side s)) (λ f m. ap (turn_at e x) (ready-met f)) (λ h. limit-none ∙ sym h)
 
-  turn-met-in : (w : Bounds) → turn_in w e x (net_where (legs_met e x stored os s)) ≡ turn_in w e x (net_in legs os e.side s)
+  turn-met-in : (w : Bounds) → turn_in w e x (ready_level (legs_met e x stored os s)) ≡ turn_in w e x (net_in legs os e.side s)
   unfolding turn_in
   turn-met-in w =
-      met-cases (λ (p : LegBests). allowed w e.side (net_where p) (turn_at e x (net_where p)) ≡ allowed w e.side (net_in legs os e.side s) (turn_at e x (net_in legs os e.side s)))
+      met-cases (λ (p : Option LegBests). allowed w e.side (ready_level p) (turn_at e x (ready_level p)) ≡ allowed w e.side (net_in legs os e.side s) (turn_at e x (net_in legs os e.side s)))
       (λ f m. ap (λ (n : ℕ). allowed w e.side n (turn_at e x n)) (ready-met f))
-      (λ h. ap (allowed w e.side (net_where no_leg_bests)) limit-none ∙ limit-allowed w e.side _ _ e x ∙ ap (allowed w e.side (net_in legs os e.side s)) (sym h))
+      (λ h. ap (allowed w e.side (ready_level None)) limit-none ∙ limit-allowed w e.side _ _ e x ∙ ap (allowed w e.side (net_in legs os e.side s)) (sym h))
 
   -- where the net of what is met is not 0, it is what stands on the legs
-  met_some : 0 < net_where (legs_met e x stored os s) → legs_met e x stored os s ≡ leg_bests os e.side s
-  met_some = met-cases (λ (p : LegBests). 0 < net_where p → p ≡ leg_bests os e.side s) (λ f m l. refl) (λ h l. absurd (let z = none-where in omega arith))
+  met_some : 0 < ready_level (legs_met e x stored os s) → legs_met e x stored os s ≡ leg_bests os e.side s
+  met_some = met-cases (λ (p : Option LegBests). 0 < ready_level p → p ≡ leg_bests os e.side s) (λ f m l. refl) (λ h l. absurd (let z = none-where in omega arith))
 
 -- an entry without units
 pub turn-empty : (w : Bounds) (e : Entry) (x net : ℕ) → e.units ≡ 0 → Stop ≡ turn_in w e x net
@@ -325,9 +333,9 @@ module _ (way : Allocation) (legs : Bool) (a : ℕ) {k i : ℕ} {b₀ b : State}
       (net-stored b.nets b.orders b.strategies (entry_at b₀ a).strategy (entry_at b a).side (rw same at t.strategy) t.side some f.nets.are
       ∙ ap (λ (s : Strategy). net_of s (prices b.orders (entry_at b a).side s.legs)) there)
 
-  module _ (x : ℕ) {w : Bounds} {t : Turn} {net r : ℕ} {p : LegBests} (bound : w ≡ bounds_at b₀ (entry_at b₀ a).strategy)
+  module _ (x : ℕ) {w : Bounds} {t : Turn} {net r : ℕ} {p : Option LegBests} (bound : w ≡ bounds_at b₀ (entry_at b₀ a).strategy)
       (stored : net ≡ pick legs (net_for (get_or b.nets (entry_at b₀ a).strategy no_nets) (entry_at b a).side) 0) (opposes : x ≡ opposite_in way b.entries (entry_at b a))
-      (met : p ≡ legs_met (entry_at b a) x net b.orders own) (ready : r ≡ net_where p) (chosen : t ≡ turn_in w (entry_at b a) x r) where
+      (met : p ≡ legs_met (entry_at b a) x net b.orders own) (ready : r ≡ ready_level p) (chosen : t ≡ turn_in w (entry_at b a) x r) where
     met-now : ¬ ((entry_at b a).units ≡ 0) → p ≡ legs_met (entry_at b a) x (net_over legs b.orders (entry_at b a).side own) b.orders own
     met-now z = met ∙ ap (λ (n : ℕ). legs_met (entry_at b a) x n b.orders own) (net-now stored z)
 
@@ -338,20 +346,19 @@ module _ (way : Allocation) (legs : Bool) (a : ℕ) {k i : ℕ} {b₀ b : State}
         pick-by (λ (y : Bool). turn_of way legs a b ≡ t) (eqb (entry_at b a).units 0) {a = true} {b = false}
         (λ z. let none = eqb-true _ _ z in sym (turn-none way legs a b none) ∙ turn-empty w (entry_at b a) x r none ∙ sym chosen)
         (λ z. let some = eqb-false _ _ z in
-        sym (chosen ∙ ap (turn_in w (entry_at b a) x) (ready ∙ ap net_where (met-now some)) ∙ turn-met-in legs (entry_at b a) x b.orders own w
+        sym (chosen ∙ ap (turn_in w (entry_at b a) x) (ready ∙ ap ready_level (met-now some)) ∙ turn-met-in legs (entry_at b a) x b.orders own w
         ∙ ap (λ (y : ℕ). turn_in w (entry_at b a) y (net_in legs b.orders (entry_at b a).side own)) opposes ∙ turn_in_lem way legs a b (bound ∙ sym s) (sym same-own)))
 
     -- where it is one by the legs, these were found, and have a net
-    turning-ready : t ≡ ByLegs → 0 < net_where p
+    turning-ready : t ≡ ByLegs → 0 < ready_level p
     turning-ready e =
         rw (sym ready) ((turn-sentence (entry_at b a) x r).by_legs (allowed-is w (entry_at b a).side r (turn_at (entry_at b a) x r) (sym chosen_is ∙ e))).0
       where
         chosen_is : t ≡ allowed w (entry_at b a).side r (turn_at (entry_at b a) x r)
         chosen_is = unfold turn_in in chosen
 
-    turning-some : t ≡ ByLegs → ¬ (p.net ≡ 0)
-    unfolding net_where
-    turning-some e z = let h = turning-ready e in pick_all (λ (y : ℕ). ¬ (0 < y)) (eqb p.units 0) (λ l. omega arith) (λ l. omega arith) h
+    turning-some : t ≡ ByLegs → IsSome p
+    turning-some e = let h = turning-ready e in is-some p (λ z. absurd (omega (arith, h, ap ready_level z, none-where)))
 
     turning-found : t ≡ ByLegs → p ≡ leg_bests b.orders (entry_at b a).side own
     unfolding stops_at
@@ -387,13 +394,13 @@ module _ (way : Allocation) (legs : Bool) (a : ℕ) {k i : ℕ} {b₀ b : State}
       record { visited = visit-moves g.visited l (turn-limit way legs a b _ e) (d.done b turning-rows); strategies = g.strategies }
 
 -- whether a turn stops, by what the calls have found
-pub stops-by : (e : Entry) (net : ℕ) (os : List LegOrder) (s : Strategy) (x : ℕ) {r : ℕ} {t : Turn} {p : LegBests} {y : Bool} → y ≡ stops_at t → t ≡ turn_at e x r → r ≡ net_where p → p ≡ legs_met e x net os s
-    → y ≡ stops_at (turn_at e x (net_where (legs_met e x net os s)))
-stops-by e net os s x a b c d = a ∙ ap stops_at (b ∙ ap (turn_at e x) (c ∙ ap net_where d))
+pub stops-by : (e : Entry) (net : ℕ) (os : List LegOrder) (s : Strategy) (x : ℕ) {r : ℕ} {t : Turn} {p : Option LegBests} {y : Bool} → y ≡ stops_at t → t ≡ turn_at e x r → r ≡ ready_level p → p ≡ legs_met e x net os s
+    → y ≡ stops_at (turn_at e x (ready_level (legs_met e x net os s)))
+stops-by e net os s x a b c d = a ∙ ap stops_at (b ∙ ap (turn_at e x) (c ∙ ap ready_level d))
 
 pub stops-in : (way : Allocation) (es : List Entry) (e : Entry) (net : ℕ) (os : List LegOrder) (s : Strategy) {x : ℕ} {y : Bool} → x ≡ opposite_in way es e
-    → y ≡ stops_at (turn_at e x (net_where (legs_met e x net os s))) → y ≡ stops_at (turn_at e (opposite_in way es e) (net_where (legs_met e (opposite_in way es e) net os s)))
-stops-in way es e net os s f a = a ∙ ap (λ (z : ℕ). stops_at (turn_at e z (net_where (legs_met e z net os s)))) f
+    → y ≡ stops_at (turn_at e x (ready_level (legs_met e x net os s))) → y ≡ stops_at (turn_at e (opposite_in way es e) (ready_level (legs_met e (opposite_in way es e) net os s)))
+stops-in way es e net os s f a = a ∙ ap (λ (z : ℕ). stops_at (turn_at e z (ready_level (legs_met e z net os s)))) f
 
 stops-allowed : (w : Bounds) (side net : ℕ) (t : Turn) → stops_at t ≡ true → stops_at (allowed w side net t) ≡ true
 unfolding stops_at allowed
@@ -413,7 +420,7 @@ still-by way legs a b p q r u h =
 -- .. by the stored net
 pub pass-still : (way : Allocation) (legs : Bool) (a : ℕ) (b : State) {e : Entry} {es : List Entry} {os : List LegOrder} {s : Strategy} {net : ℕ}
     → e ≡ entry_at b a → es ≡ b.entries → os ≡ b.orders → s ≡ strategy_of b (entry_at b a) → net ≡ net_over legs os e.side s
-    → stops_at (turn_at e (opposite_in way es e) (net_where (legs_met e (opposite_in way es e) net os s))) ≡ true → pass way legs a b ≡ still b
+    → stops_at (turn_at e (opposite_in way es e) (ready_level (legs_met e (opposite_in way es e) net os s))) ≡ true → pass way legs a b ≡ still b
 pass-still way legs a b {e} {es} {os} {s} p q r u v h = still-by way legs a b p q r u (rw (v, turn-met legs e (opposite_in way es e) os s) at h)
 
 -- .. of a pass by legs only
@@ -423,6 +430,6 @@ unfolding opposite_in net_in pick
 legs-still a b net e h = still-by LegsOnly true a b refl refl refl refl (rw e at h)
 
 -- the turn of a pass by legs only, by the stored net
-pub legs-turn : (e : Entry) (os : List LegOrder) (s : Strategy) {net : ℕ} → net ≡ net_of s (prices os e.side s.legs) → turn_at e 0 (net_where (legs_met e 0 net os s)) ≡ turn_at e 0 (net_ready os e.side s)
+pub legs-turn : (e : Entry) (os : List LegOrder) (s : Strategy) {net : ℕ} → net ≡ net_of s (prices os e.side s.legs) → turn_at e 0 (ready_level (legs_met e 0 net os s)) ≡ turn_at e 0 (net_ready os e.side s)
 unfolding net_over net_in pick
 legs-turn e os s n = rw n (turn-met true e 0 os s)

@@ -2,7 +2,7 @@
 // national prices and the execution range allow.
 #![tactic(auto)]
 
-ghost use Rattle.std.specs.Prelude.{◌≡◌, ◌+◌, ◌<◌, eqb};
+ghost use Rattle.std.specs.Prelude.{unwrap_or, ◌≡◌, ◌+◌, ◌<◌, eqb};
 ghost use Rattle.base.specs.All.{All};
 ghost use Rattle.rules.specs.Sizes.{table_rows};
 ghost use Rattle.rules.specs.Valid.{FitOrder, Priced};
@@ -12,6 +12,7 @@ ghost use Rattle.records.specs.Done.{Done, RoomIn, DoneIn};
 ghost use Rattle.ranges.specs.Fit.{FitLegs, Fit};
 ghost use Rattle.fills.specs.Gives.{HasRows, put_entries};
 ghost use Rattle.base.specs.Pick.{pick};
+ghost use Rattle.base.specs.Chains.{unless_zero};
 ghost use Rattle.nets.specs.Legs.{net_where};
 ghost use Rattle.stored_nets.specs.Stored.{net_for};
 ghost use Rattle.passes.specs.Passes.{stops_at, opposite_in, legs_met, turn_in};
@@ -19,39 +20,42 @@ ghost use Rattle.passes.specs.Passes.{stops_at, opposite_in, legs_met, turn_in};
 use fills::{cut_entry, give_for_starter, give_in_turn, give_shared};
 use legging::{leg_fill, nets_left};
 use national::{bounds, may_meet, may_take};
-use nets::{LegBests, NO_LEG_BESTS, leg_bests, ready_net};
+use nets::{LegBests, leg_bests, ready_net};
 use quotas::best_opposite;
 use records::Records;
 use rules::{Allocation, Bounds, Entry, LegNets, LegOrder, State, Strategy, Turn};
 use sides::{better, meets};
 use stored_nets::net_for;
 
-// Whether the legs go before the best opposite limit: they have a net, and it is strictly better or no limit stands.
-fn legs_first(side: u8, net: u32, limit: u32) -> bool
-    ensures { result ≡ legs_first side net limit }
+// Whether the legs go before the best opposite limit: they have a net, and it is strictly better or no limit stands. The rule is
+// stated on levels, where 0 is none.
+#[tactic(auto, using(base::specs::Pick::tests), unfolding(rules::specs::Passes::legs_first))]
+fn legs_first(side: u8, net: Option<u32>, limit: Option<u32>) -> bool
+    ensures { result ≡ legs_first side (unwrap_or net 0) (unwrap_or limit 0) }
 {
-    if net == 0 {
+    let n = net.unwrap_or(0);
+    let x = limit.unwrap_or(0);
+    if n == 0 {
         return false;
     }
-    if limit == 0 {
-        return true;
-    }
-    better(side, net, limit)
+    x == 0 || better(side, n, x)
 }
 
-// What an entry does at the best opposite limit x and the ready leg net (0: none).
-fn turn_at(e: Entry, x: u32, net: u32) -> Turn
-    ensures { result ≡ turn_at e x net }
+// What an entry does at the best opposite limit and the ready leg net, levels of which 0 is none.
+#[tactic(auto, using(base::specs::Pick::tests), unfolding(rules::specs::Passes::turn_at))]
+fn turn_at(e: Entry, limit: Option<u32>, net: Option<u32>) -> Turn
+    ensures { result ≡ turn_at e (unwrap_or limit 0) (unwrap_or net 0) }
 {
     if e.units == 0 {
         return Turn::Stop;
     }
-    if legs_first(e.side, net, x) {
-        if meets(e.side, e.level, net) {
+    if legs_first(e.side, net, limit) {
+        if meets(e.side, e.level, net.unwrap_or(0)) {
             return Turn::ByLegs;
         }
         return Turn::Stop;
     }
+    let x = limit.unwrap_or(0);
     if x == 0 {
         return Turn::Stop;
     }
@@ -62,45 +66,45 @@ fn turn_at(e: Entry, x: u32, net: u32) -> Turn
 }
 
 // The best limit that a pass looks at, opposite e.
-fn opposite(way: Allocation, es: [Entry; State::ROWS], e: Entry) -> u32
-    ensures { result ≡ opposite_in way es e }
+fn opposite(way: Allocation, es: [Entry; State::ROWS], e: Entry) -> Option<u32>
+    ensures { result ≡ unless_zero (opposite_in way es e) }
 {
     match way {
-        Allocation::LegsOnly => 0,
+        Allocation::LegsOnly => None,
         Allocation::Shared => best_opposite(es, e),
         Allocation::ForStarter => best_opposite(es, e),
         Allocation::Numbered => best_opposite(es, e),
     }
 }
 
-// What entry e meets on the legs of strategy s, whose net is that (0: unknown, or not to be used): found where the net goes
-// before the best opposite limit x and meets its own limit; else nothing, and no leg order is looked at.
+// What entry e meets on the legs of strategy s, whose net is that: found where the net goes before the best opposite limit and meets its
+// own limit; else nothing, and no leg order is looked at.
+#[tactic(auto, using(base::specs::Pick::tests), unfolding(crate::specs::Passes::legs_met))]
 pub fn legs_met(
     e: Entry,
-    x: u32,
-    net: u32,
+    limit: Option<u32>,
+    net: Option<u32>,
     os: [LegOrder; State::LEG_ORDERS],
     s: Strategy,
-) -> LegBests
+) -> Option<LegBests>
     requires { All FitOrder os × All Priced os × FitLegs s }
-    ensures { result ≡ legs_met e x net os s }
+    ensures { result ≡ legs_met e (unwrap_or limit 0) (unwrap_or net 0) os s }
 {
-    if legs_first(e.side, net, x) {
-        if meets(e.side, e.level, net) {
-            return leg_bests(os, e.side, s);
-        }
+    if legs_first(e.side, net, limit) && meets(e.side, e.level, net.unwrap_or(0)) {
+        return leg_bests(os, e.side, s);
     }
-    NO_LEG_BESTS
+    None
 }
 
 // A turn of an entry of that side, at that ready leg net, unless the bounds forbid one of its parties the fill: then it stops.
-fn allowed(w: Bounds, side: u8, net: u32, t: Turn) -> Turn
-    ensures { result ≡ allowed w side net t }
+#[tactic(auto, using(base::specs::Pick::tests), unfolding(rules::specs::Passes::allowed))]
+fn allowed(w: Bounds, side: u8, net: Option<u32>, t: Turn) -> Turn
+    ensures { result ≡ allowed w side (unwrap_or net 0) t }
 {
     match t {
         Turn::Stop => Turn::Stop,
         Turn::ByLegs => {
-            if may_take(w, side, net) {
+            if may_take(w, side, net.unwrap_or(0)) {
                 return Turn::ByLegs;
             }
             Turn::Stop
@@ -114,12 +118,11 @@ fn allowed(w: Bounds, side: u8, net: u32, t: Turn) -> Turn
     }
 }
 
-// What entry e, with those bounds, does next at the best opposite limit x and that ready leg net (0: none).
-fn turn_of(w: Bounds, e: Entry, x: u32, net: u32) -> Turn
-    ensures { result ≡ turn_in w e x net }
+// What entry e, with those bounds, does next at the best opposite limit and that ready leg net.
+fn turn_of(w: Bounds, e: Entry, limit: Option<u32>, net: Option<u32>) -> Turn
+    ensures { result ≡ turn_in w e (unwrap_or limit 0) (unwrap_or net 0) }
 {
-    let t = turn_at(e, x, net);
-    allowed(w, e.side, net, t)
+    allowed(w, e.side, net, turn_at(e, limit, net))
 }
 
 // The holders of a limit are met by entry a, of strategy s.
@@ -139,7 +142,7 @@ fn meet_limit(
         Allocation::LegsOnly => {}
         Allocation::Shared => give_shared(rows, s, a, level, records),
         Allocation::ForStarter => give_for_starter(rows, s, a, level, records),
-        Allocation::Numbered => give_in_turn(rows, s, a, level, 3, records),
+        Allocation::Numbered => give_in_turn(rows, s, a, level, None, records),
     }
 }
 
@@ -153,28 +156,28 @@ fn stops(t: Turn) -> bool
     }
 }
 
-// Whether a pass by legs only of entry e does nothing at the leg net of its strategy (0: unknown), whatever its bounds.
-pub fn legs_idle(e: Entry, net: u32, os: [LegOrder; State::LEG_ORDERS], s: Strategy) -> bool
+// Whether a pass by legs only of entry e does nothing at the leg net of its strategy, if it is known, whatever its bounds.
+pub fn legs_idle(e: Entry, net: Option<u32>, os: [LegOrder; State::LEG_ORDERS], s: Strategy) -> bool
     requires { All FitOrder os × All Priced os × FitLegs s }
-    ensures { result ≡ stops_at (turn_at e 0 (net_where (legs_met e 0 net os s))) }
+    ensures { result ≡ stops_at (turn_at e 0 (unwrap_or (net_where (legs_met e 0 (unwrap_or net 0) os s)) 0)) }
 {
-    let p = legs_met(e, 0, net, os, s);
+    let p = legs_met(e, None, net, os, s);
     let r = ready_net(p);
-    let t = turn_at(e, 0, r);
+    let t = turn_at(e, None, r);
     stops(t)
 }
 
-// Whether a pass of entry e does nothing among these entries at the leg net of its strategy (0: unknown), whatever its bounds.
+// Whether a pass of entry e does nothing among these entries at the leg net of its strategy, if it is known, whatever its bounds.
 pub fn idle(
     way: Allocation,
     e: Entry,
     es: [Entry; State::ROWS],
-    net: u32,
+    net: Option<u32>,
     os: [LegOrder; State::LEG_ORDERS],
     s: Strategy,
 ) -> bool
     requires { All FitOrder os × All Priced os × FitLegs s }
-    ensures { result ≡ stops_at (turn_at e (opposite_in way es e) (net_where (legs_met e (opposite_in way es e) net os s))) }
+    ensures { result ≡ stops_at (turn_at e (opposite_in way es e) (unwrap_or (net_where (legs_met e (opposite_in way es e) (unwrap_or net 0) os s)) 0)) }
 {
     let x = opposite(way, es, e);
     let p = legs_met(e, x, net, os, s);
@@ -183,14 +186,11 @@ pub fn idle(
     stops(t)
 }
 
-// The leg net that an entry of that side meets, 0 where the legs may not be used.
-fn net_over(legs: bool, n: LegNets, side: u8) -> u32
-    ensures { result ≡ pick legs (net_for n side) 0 }
+// The leg net that an entry of that side meets, if the legs may be used and it is known.
+fn net_over(legs: bool, n: LegNets, side: u8) -> Option<u32>
+    ensures { result ≡ unless_zero (pick legs (net_for n side) 0) }
 {
-    if legs {
-        return net_for(n, side);
-    }
-    0
+    if legs { net_for(n, side) } else { None }
 }
 
 // A pass of entry a: turn after turn, each chosen anew, until one stops or nothing of the entry is left. There are no more than it has units.
@@ -211,11 +211,12 @@ pub fn pass(way: Allocation, legs: bool, b: &mut State, a: usize, records: &mut 
         }
         let net = net_over(legs, b.nets[k], f.side);
         let x = opposite(way, b.entries, f);
-        let p = legs_met(f, x, net, b.orders, s);
-        let r = ready_net(p);
+        let met = legs_met(f, x, net, b.orders, s);
+        let r = ready_net(met);
         match turn_of(w, f, x, r) {
             Turn::Stop => return,
             Turn::ByLegs => {
+                let p = met.unwrap();
                 let units = leg_fill(f, p, &mut b.orders, s, records);
                 nets_left(&mut b.nets, b.strategies, b.orders, f.side, s, p.prices);
                 b.entries[a] = cut_entry(f, units);

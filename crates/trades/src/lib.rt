@@ -2,6 +2,7 @@
 #![tactic(auto)]
 
 ghost use Rattle.std.specs.Prelude.{◌≡◌, ◌+◌, ◌<◌};
+ghost use Rattle.base.specs.Chains.{found};
 ghost use Rattle.rules.specs.Sizes.{table_rows, zero_level};
 ghost use Rattle.rules.specs.Fills.{order_record, order_row, cut_order, cancel_leg_record};
 ghost use Rattle.rules.specs.Events.{trade_all};
@@ -66,16 +67,16 @@ fn leg_trade(rows: &mut [LegOrder; State::LEG_ORDERS], a: usize, h: usize, q: u3
     rows[h] = cut_order(rows[h], q);
 }
 
-// The slot that the leg order at slot a trades with next, 32 where there is none.
-pub fn next_trade(os: [LegOrder; State::LEG_ORDERS], a: usize) -> usize
-    ensures { result ≡ next_trade a (only_orders os) }
+// The slot that the leg order at slot a trades with next.
+pub fn next_trade(os: [LegOrder; State::LEG_ORDERS], a: usize) -> Option<usize>
+    ensures { result ≡ found table_rows (next_trade a (only_orders os)) }
 {
     if State::LEG_ORDERS <= a {
-        return State::LEG_ORDERS;
+        return None;
     }
     let o = os[a];
     if o.contracts == 0 {
-        return State::LEG_ORDERS;
+        return None;
     }
     best_order(os, o)
 }
@@ -86,10 +87,9 @@ pub fn trade_all(rows: &mut [LegOrder; State::LEG_ORDERS], a: usize, records: &m
     ensures { DoneIn (HasOrders rows.old) (trade_all a) records.old records.new (put_orders rows.new) }
 {
     for _ in 0..State::LEG_ORDERS {
-        let h = next_trade(*rows, a);
-        if h == State::LEG_ORDERS {
+        let Some(h) = next_trade(*rows, a) else {
             return;
-        }
+        };
         let o = rows[a];
         let p = rows[h];
         let q = o.contracts.min(p.contracts);

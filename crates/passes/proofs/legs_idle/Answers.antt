@@ -1,5 +1,7 @@
+use Rattle.std.proofs.Common.{ap, ℕ}
+use Rattle.std.specs.Prelude.{Option, unwrap_or}
 use Rattle.passes.specs.Passes.{stops-by}
 use Rattle.passes.proofs.legs_idle.Goals as goal
 
 pub returns : goal.returns
-returns c = stops-by _ _ _ _ _ c.stops.ensures c.turn_at-t.ensures c.ready_net-r.ensures c.legs_met-p.ensures
+returns c = stops-by _ _ _ _ _ c.stops.ensures c.turn_at-t.ensures (ap (λ (n : Option ℕ). unwrap_or n 0) c.ready_net-r.ensures) c.legs_met-p.ensures
