@@ -34,7 +34,8 @@ use Rattle.ranges.specs.Fit.{Fit, fit-entry, fit-done}
 use Rattle.nets.specs.Legs.{net_ready}
 use Rattle.stored_nets.specs.Stored.{net_for}
 use Rattle.stored_nets.specs.Laws.{net-stored}
-use Rattle.passes.specs.Passes.{stops_at, legs_met, legs-still, legs-turn}
+use Rattle.nets.specs.Bests.{unless-zero-or}
+use Rattle.passes.specs.Passes.{stops_at, ready_level, legs_met, legs-still, legs-turn}
 use Rattle.matching.specs.Searches.{Searched, searched-past, searched-here, searched-all}
 use Rattle.matching.specs.Matching.{passes_legs, legs-not, legs-yes, in-yes, in-not}
 use Rattle.records.specs.declared.Records.{Records}
@@ -78,6 +79,9 @@ unfoldable pub place_pass : ℕ → ℕ → State → Moved
 place_pass s p b = pick (passes_legs (strategy_at b (p / 32)) s b.opened) (leg_pass (p / 32) (p % 32) b) (still b)
 
 -- laws
+
+-- a level that may be missing, as the rules write it
+pub ruleset levels = (unless-zero-or)
 
 -- with a second test that fails not both hold
 no_second : (t : Bool) {u : Bool} → u ≡ false → both t u ≡ false

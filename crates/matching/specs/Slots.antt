@@ -1,10 +1,10 @@
 -- The best entry of a side, as a slot that may be missing, and the match of the best buy with the best sell.
 use Rattle.std.specs.Prelude.{◌≡◌, Bool, true, false, List, ℕ, ◌+◌, ◌≤◌, ◌<◌, eqb, ltb, get_or, Option}
-use Rattle.std.specs.Option.{option_map, unwrap_or}
-use Rattle.std.proofs.Common.{refl, sym, ◌∙◌, ap, arith, ⊎_elim, cond, None, Some, ltb-true, ltb-false, lt-ltb, le-ltb, eq-eqb, ne_eqb, eq-or-lt_of_le}
+use Rattle.std.specs.Option.{option_map}
+use Rattle.std.proofs.Common.{refl, sym, ◌∙◌, ap, arith, ⊎_elim, None, Some, lt-ltb, le-ltb, eq-eqb, ne_eqb, eq-or-lt_of_le}
 use Rattle.base.specs.Pick.{pick, pick_true, pick-false, pick-ap}
 use Rattle.base.specs.Chains.{found, found-some, found-past}
-use Rattle.base.specs.Walks.{walk, walk_first, walk-next, lt-or-le}
+use Rattle.base.specs.Walks.{walk, walk_first, walk-next}
 use Rattle.rules.specs.declared.Entry.{Entry}
 use Rattle.rules.specs.declared.Bounds.{Bounds}
 use Rattle.rules.specs.declared.State.{State}

@@ -50,7 +50,7 @@ fn day_order(k: usize, e: Entry) -> bool
 }
 
 // Whether strategy t gets passes by legs only, and the pass of its entry e would do something but for its bounds.
-#[tactic(auto, using(base::specs::Pick::tests), unfolding(crate::specs::Places::acts_on))]
+#[tactic(auto, using(base::specs::Pick::tests, crate::specs::Places::levels), unfolding(crate::specs::Places::acts_on))]
 fn acts_in(
     e: Entry,
     t: Strategy,
