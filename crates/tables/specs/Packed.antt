@@ -1,4 +1,4 @@
--- A table of 32 rows: a loop that counts the live ones, and one that puts them in front.
+-- A table of 32 rows: a loop that counts the live ones and puts them in front.
 use Rattle.std.specs.Prelude.{◌≡◌, Bool, true, false, List, ℕ, ◌+◌, ◌≤◌, ◌<◌, length, get_or, set, take, replicate}
 use Rattle.std.proofs.Math.Path.{refl, sym}
 use Rattle.std.proofs.Common.{◌∙◌, arith, length-append}
