@@ -1,10 +1,10 @@
 -- National prices in range; the national net by the legs that the code has walked; who may fill, by what the code tests.
-use Rattle.std.specs.Prelude.{◌≡◌, Bool, true, false, List, ℕ, zero, suc, ◌≤◌, ◌<◌, eqb, get_or}
+use Rattle.std.specs.Prelude.{◌≡◌, Bool, true, false, List, ℕ, ◌≤◌, ◌<◌, eqb, get_or}
 use Rattle.std.proofs.Math.Path.{refl, sym}
 use Rattle.std.proofs.Common.{◌∙◌, arith, eq-eqb, ne_eqb, le-ltb}
 use Rattle.base.specs.Pick.{pick, pick_all}
 use Rattle.base.specs.All.{All}
-use Rattle.base.specs.Walks.{all_n, slot, stored, stored_at, sum_same, all-stop, table-slot}
+use Rattle.base.specs.Walks.{slot, stored, stored_at, sum_same, all-stop, table-slot}
 use Rattle.rules.specs.declared.Leg.{Leg}
 use Rattle.rules.specs.declared.Strategy.{Strategy}
 use Rattle.rules.specs.declared.Quote.{Quote}
@@ -16,7 +16,7 @@ use Rattle.rules.specs.National.{national_price, national_at, national_prices, n
 use Rattle.rules.specs.Valid.{FitQuote}
 use Rattle.ranges.specs.Most.{AtMost, stored-most}
 use Rattle.ranges.specs.Fit.{fit-quote}
-use Rattle.nets.specs.Nets.{net-unknown}
+use Rattle.nets.specs.Nets.{all_same, net-unknown}
 
 -- THE RANGES
 
@@ -34,11 +34,6 @@ unfolding national_price
 price-is qs side l e = e
 
 -- A NET LOOKS AT THE PRICES OF THE LEGS IN USE ONLY
-
-all_same : (f g : ℕ → Bool) (k : ℕ) → ((i : ℕ) → i < k → f i ≡ g i) → all_n f k ≡ all_n g k
-unfolding all_n
-all_same f g zero h = refl
-all_same f g (suc k) h = cc (all_same f g k (λ i l. h i (omega arith)), h k (omega arith))
 
 net-same : (s : Strategy) (ps qs : List ℕ) → ((i : ℕ) → i < s.count → slot ps i ≡ slot qs i) → net_of s ps ≡ net_of s qs
 unfolding net_of known weighed

@@ -1,9 +1,10 @@
 // National prices and the execution range: the national nets of a strategy, and what they let its fills be.
 #![tactic(auto)]
 
-ghost use Rattle.std.specs.Prelude.{◌≡◌, ◌<◌, eqb};
+ghost use Rattle.std.specs.Prelude.{◌≡◌, ◌<◌, eqb, unwrap_or};
 ghost use Rattle.base.specs.Pick.{pick};
 ghost use Rattle.base.specs.All.{All};
+ghost use Rattle.base.specs.Chains.{unless_zero};
 ghost use Rattle.rules.specs.Sizes.{series_count};
 ghost use Rattle.rules.specs.Sides.{leg_side};
 ghost use Rattle.rules.specs.National.{national_net, bounds_of, may_buy, may_sell, may_take, may_meet, on_national, on_range};
@@ -15,50 +16,40 @@ use rules::{Bounds, Leg, Quote, State, Strategy};
 use sides::leg_side;
 
 // The national price that a complex party of that side meets on a leg whose series has these: the offer where it buys, the
-// bid where it sells.
-fn national_price(q: Quote, side: u8, l: Leg) -> u32
-    ensures { result ≡ pick (eqb (leg_side side l) 0) q.offer q.bid }
+// bid where it sells. None where it is missing, which the national prices keep as 0, as the events of kind 9 bring it.
+fn national_price(q: Quote, side: u8, l: Leg) -> Option<u32>
+    ensures { result ≡ unless_zero (pick (eqb (leg_side side l) 0) q.offer q.bid) }
 {
-    let on = leg_side(side, l);
-    if on == 0 {
-        return q.offer;
-    }
-    q.bid
+    let price = if leg_side(side, l) == 0 {
+        q.offer
+    } else {
+        q.bid
+    };
+    (price != 0).then_some(price)
 }
 
-// The national offer net for a buy, the bid net for a sell, as a level; 0 from the first leg whose price is missing.
-fn national_net(qs: [Quote; State::SERIES], side: u8, s: Strategy) -> u32
+// The national offer net for a buy, the bid net for a sell, as a level; none from the first leg whose price is missing.
+fn national_net(qs: [Quote; State::SERIES], side: u8, s: Strategy) -> Option<u32>
     requires { All FitQuote qs × FitLegs s }
-    ensures { result ≡ national_net qs side s }
+    ensures { unwrap_or result 0 ≡ national_net qs side s }
 {
-    let count = s.count as usize;
-    let legs = s.legs;
     let mut ps: [u32; 6] = [0; 6];
-    let mut i: usize = 0;
-    while i < count {
-        let l = legs[i];
-        let at = l.series as usize;
-        let p = national_price(qs[at], side, l);
-        if p == 0 {
-            return 0;
-        }
-        ps[i] = p;
-        i += 1;
+    for i in 0..s.count as usize {
+        let l = s.legs[i];
+        ps[i] = national_price(qs[l.series as usize], side, l)?;
     }
-    net_of(s, ps)
+    Some(net_of(s, ps))
 }
 
-// What bounds the fills of a strategy under these prices and this range.
+// What bounds the fills of a strategy under these prices and this range. The rules' bounds have 0 for a net that is missing.
 pub fn bounds(qs: [Quote; State::SERIES], range: u32, s: Strategy) -> Bounds
     requires { All FitQuote qs × FitLegs s }
     ensures { result ≡ bounds_of qs range s }
 {
-    let offer = national_net(qs, 0, s);
-    let bid = national_net(qs, 1, s);
     Bounds {
-        offer: offer,
-        bid: bid,
-        range: range,
+        offer: national_net(qs, 0, s).unwrap_or(0),
+        bid: national_net(qs, 1, s).unwrap_or(0),
+        range,
     }
 }
 
@@ -66,20 +57,14 @@ pub fn bounds(qs: [Quote; State::SERIES], range: u32, s: Strategy) -> Bounds
 fn may_buy(w: Bounds, level: u32) -> bool
     ensures { result ≡ may_buy w level }
 {
-    if w.offer == 0 {
-        return true;
-    }
-    level as u64 <= w.offer as u64 + w.range as u64
+    w.offer == 0 || level as u64 <= w.offer as u64 + w.range as u64
 }
 
 // Whether one that sells may: at least the national bid net less the range.
 fn may_sell(w: Bounds, level: u32) -> bool
     ensures { result ≡ may_sell w level }
 {
-    if w.bid == 0 {
-        return true;
-    }
-    w.bid as u64 <= level as u64 + w.range as u64
+    w.bid == 0 || w.bid as u64 <= level as u64 + w.range as u64
 }
 
 // Whether an entry of that side may fill by its legs at that net.
@@ -87,19 +72,17 @@ pub fn may_take(w: Bounds, side: u8, net: u32) -> bool
     ensures { result ≡ may_take w side net }
 {
     if side == 0 {
-        return may_buy(w, net);
+        may_buy(w, net)
+    } else {
+        may_sell(w, net)
     }
-    may_sell(w, net)
 }
 
 // Whether whole may fill against whole at that level: both parties may.
 pub fn may_meet(w: Bounds, level: u32) -> bool
     ensures { result ≡ may_meet w level }
 {
-    if may_buy(w, level) {
-        return may_sell(w, level);
-    }
-    false
+    may_buy(w, level) && may_sell(w, level)
 }
 
 // Both national prices of a series are set; a 0 takes the old one away.
@@ -107,9 +90,8 @@ pub fn set_prices(b: State, s: u8, q: Quote) -> State
     requires { s < series_count }
     ensures { result ≡ on_national s q b }
 {
-    let at = s as usize;
     let mut c = b;
-    c.national[at] = q;
+    c.national[s as usize] = q;
     c
 }
 
@@ -117,7 +99,5 @@ pub fn set_prices(b: State, s: u8, q: Quote) -> State
 pub fn set_range(b: State, range: u32) -> State
     ensures { result ≡ on_range range b }
 {
-    let mut c = b;
-    c.range = range;
-    c
+    State { range, ..b }
 }

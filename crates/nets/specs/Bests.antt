@@ -56,6 +56,14 @@ pub unless-by : (n : ℕ) → then_some (not (eqb n 0)) n ≡ unless_zero n
 unless-by zero = refl
 unless-by (suc n) = rw (ne_eqb (suc n) 0 (λ z. omega arith)) refl
 
+pub unless-none : (n : ℕ) → None ≡ unless_zero n → n ≡ 0
+unless-none zero h = refl
+unless-none (suc n) h = absurd (cc)
+
+pub unless-some : (n : ℕ) {x : ℕ} → Some x ≡ unless_zero n → (x ≡ n) × ¬ (n ≡ 0)
+unless-some zero h = absurd (cc)
+unless-some (suc n) h = (cc, λ z. omega arith)
+
 -- a price that may be missing, by its number
 pub unless-zero-or : (n : ℕ) → unwrap_or (unless_zero n) 0 ≡ n
 unless-zero-or zero = refl

@@ -3,4 +3,4 @@ use Rattle.national.proofs.bounds.Goals as goal
 
 pub returns : goal.returns
 unfolding bounds_of
-returns c = rw (c.national_net-bid.ensures, c.national_net-offer.ensures)
+returns c = rw (c.unwrap_or.ensures, c.unwrap_or-2.ensures, c.national_net.ensures, c.national_net-2.ensures)

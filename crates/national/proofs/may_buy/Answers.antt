@@ -1,11 +1,12 @@
+use Rattle.std.proofs.Common.{sym, ◌∙◌, eq-eqb}
+use Rattle.base.specs.Pick.{pick_true, tests}
 use Rattle.rules.specs.National.{may_buy}
-use Rattle.base.specs.Pick.{tests}
 use Rattle.national.proofs.may_buy.Goals as goal
 
 pub returns-then-w-eq0 : goal.returns-then-w-eq0
 unfolding may_buy
-returns-then-w-eq0 c = search tests
+returns-then-w-eq0 c = let e = eq-eqb _ _ c.if-w-eq0.true in e ∙ sym (pick_true _ _ _ e)
 
-pub returns : goal.returns
+pub returns-else-w-eq0 : goal.returns-else-w-eq0
 unfolding may_buy
-returns c = search tests
+returns-else-w-eq0 c = search tests

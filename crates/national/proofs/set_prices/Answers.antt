@@ -1,6 +1,6 @@
+use Rattle.std.proofs.Common.{refl}
 use Rattle.rules.specs.State.{with_national}
 use Rattle.rules.specs.National.{on_national}
-use mathlib.Core.Path.{refl}
 use Rattle.national.proofs.set_prices.Goals as goal
 
 pub returns : goal.returns

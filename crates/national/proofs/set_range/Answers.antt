@@ -1,6 +1,6 @@
+use Rattle.std.proofs.Common.{refl}
 use Rattle.rules.specs.State.{with_range}
 use Rattle.rules.specs.National.{on_range}
-use mathlib.Core.Path.{refl}
 use Rattle.national.proofs.set_range.Goals as goal
 
 pub returns : goal.returns
