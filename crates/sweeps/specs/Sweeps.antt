@@ -1,17 +1,16 @@
 -- The rules of a sweep by what the code tests, and the ranges that they keep.
-use Rattle.std.specs.Prelude.{◌≡◌, true, false, ℕ, ◌≤◌, ◌<◌, length}
+use Rattle.std.specs.Prelude.{◌≡◌, true, false, ℕ, ◌≤◌, length}
 use Rattle.std.proofs.Math.Path.{ap}
-use Rattle.std.proofs.Common.{arith, eq-eqb}
+use Rattle.std.proofs.Common.{arith}
 use Rattle.std.proofs.Math.ListN.{get_or-eq_default}
-use Rattle.base.specs.Pick.{pick_yes, tests}
-use Rattle.base.specs.Walks.{first_holds, clash}
+use Rattle.base.specs.Pick.{tests}
 use Rattle.rules.specs.declared.Entry.{Entry}
 use Rattle.rules.specs.declared.State.{State}
 use Rattle.rules.specs.State.{no_entry, entry_at}
 use Rattle.rules.specs.Moves.{still}
 use Rattle.rules.specs.Fills.{cancel_entry}
 use Rattle.rules.specs.Auctions.{answer}
-use Rattle.rules.specs.Events.{live, enter, same_sweep, same_sweep_at, old_sweep, enter_sweep}
+use Rattle.rules.specs.Events.{live, enter, old_sweep, enter_sweep}
 use Rattle.rules.specs.Valid.{FitEntry}
 use Rattle.tables.specs.Only.{only_entries}
 
@@ -44,12 +43,3 @@ module _ (e : Entry) (b : State) where
 pub old-is : (e : Entry) (b : State) {i : ℕ} → i ≡ old_sweep (only_entries b.entries) e → cancel_entry (old_sweep b e) b ≡ cancel_entry i b
 unfolding old_sweep
 old-is e b p = rw p
-
--- a sweep that is replaced is live
-same_live : (e f : Entry) → same_sweep e f ≡ true → ¬ (f.units ≡ 0)
-unfolding same_sweep live
-same_live e f h z = clash (pick_yes _ h).0 (rw (eq-eqb _ _ z))
-
-pub old-live : (e : Entry) (b : State) {i : ℕ} → i ≡ old_sweep (only_entries b.entries) e → i < 32 → ¬ ((entry_at b i).units ≡ 0)
-unfolding old_sweep
-old-live e b {i} p l = let s : same_sweep_at b e i ≡ true = rw p (first_holds (same_sweep_at b e) 32 (rw (← p) l)) in same_live e (entry_at b i) s
