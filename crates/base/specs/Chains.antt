@@ -1,10 +1,11 @@
 -- What an iterator's chain over a list gives, as a walk over the list's slots: a fold, a sum, a map, a search. And a slot that may
 -- be missing, as an option.
-use Rattle.std.specs.Prelude.{◌≡◌, Bool, true, false, ◌&&◌, ◌||◌, List, [], ◌∷◌, ◌++◌, ℕ, zero, suc, ◌+◌, length, get_or, map, not, nat_lt, Option}
+use Rattle.std.specs.Prelude.{◌≡◌, Bool, true, false, ◌&&◌, ◌||◌, List, [], ◌∷◌, ◌++◌, ℕ, zero, suc, ◌+◌, ◌≤◌, ◌<◌, length, get_or, map, not, nat_lt, ltb, Option}
+use Rattle.std.specs.Option.{unwrap_or}
 use Rattle.std.specs.List.{fold, sum_by, list_any, list_all, position, position_or_len, prefix_len}
-use Rattle.std.proofs.Common.{refl, sym, ◌∙◌, ap, arith, cond, None, Some}
+use Rattle.std.proofs.Common.{refl, sym, ◌∙◌, ap, arith, ⊎_elim, cond, None, Some, ltb-true, ltb-false, lt-ltb, le-ltb, eq-or-lt_of_le}
 use Rattle.base.specs.Pick.{pick}
-use Rattle.base.specs.Walks.{walk, sum_n, table, all_n, any_n, first_n, first_step}
+use Rattle.base.specs.Walks.{walk, sum_n, table, all_n, any_n, first_n, first_step, lt-or-le}
 
 -- the slot k of n, none where k is past the last
 abbrev pub found : ℕ → ℕ → Option ℕ
@@ -98,3 +99,40 @@ module _ {A : Type 0} (d : A) where
   -- `xs.iter().position(p)`
   pub position-slots : (p : A → Bool) (xs : List A) → position p xs ≡ found (length xs) (first_n (λ (i : ℕ). p (get_or xs i d)) (length xs))
   position-slots p xs = ap (found (length xs)) (first-slots p xs)
+
+-- slots that may be missing
+
+-- a slot of the n is found
+pub found-some : {n k : ℕ} → k < n → found n k ≡ Some k
+found-some {n} {k} h = rw (lt-ltb k n h) refl
+
+pub found-past : {n k : ℕ} → n ≤ k → found n k ≡ None
+found-past {n} {k} h = rw (le-ltb k n h) refl
+
+-- .. and what is found is one
+pub found-is : {n k i : ℕ} → Some i ≡ found n k → (i ≡ k) × (k < n)
+found-is {n} {k} {i} e = by (ltb k n) refl e
+  where
+    by : (t : Bool) → ltb k n ≡ t → Some i ≡ cond t (Some k) None → (i ≡ k) × (k < n)
+    by true l g = (cc, ltb-true k n l)
+    by false l g = absurd (let z : ◌≡◌ {A = ℕ} 0 1 = cc in omega arith)
+
+pub found-no : {n k : ℕ} → None ≡ found n k → n ≤ k
+found-no {n} {k} e = by (ltb k n) refl e
+  where
+    by : (t : Bool) → ltb k n ≡ t → None ≡ cond t (Some k) None → n ≤ k
+    by true l g = absurd (let z : ◌≡◌ {A = ℕ} 0 1 = cc in omega arith)
+    by false l g = ltb-false k n l
+
+le_of_eq : {j k : ℕ} → j ≡ k → j ≤ k
+le_of_eq e = omega arith
+
+-- nothing is found where no slot is
+pub found-none : {o : Option ℕ} {n k : ℕ} → o ≡ found n k → ((i : ℕ) → o ≡ Some i → ⊥) → n ≤ k
+found-none {n = n} {k = k} e none = ⊎_elim (λ l. absurd (none k (e ∙ found-some l))) (λ l. l) (lt-or-le k n)
+
+-- a slot by what stands for a missing one
+pub found-or : {o : Option ℕ} {n k : ℕ} → k ≤ n → o ≡ found n k → (unwrap_or o n ≡ k) × (o ≡ found n (unwrap_or o n))
+found-or {o} {n} {k} h e =
+    let q : unwrap_or o n ≡ k = ap (λ (p : Option ℕ). unwrap_or p n) e ∙ ⊎_elim (λ z. rw (found-past {n = n} {k = k} (le_of_eq (sym z))) (sym z)) (λ l. rw (found-some {n = n} {k = k} l) refl) (eq-or-lt_of_le h) in
+    (q, e ∙ ap (found n) (sym q))

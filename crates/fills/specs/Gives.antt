@@ -1,9 +1,11 @@
 -- The ways that holders are met, of the entries and the strategy of the active one.
-use Rattle.std.specs.Prelude.{◌≡◌, List, ◌++◌, ℕ, zero, suc, ◌+◌, ◌≤◌, ◌<◌, get_or, set}
+use Rattle.std.specs.Prelude.{◌≡◌, List, ◌++◌, ℕ, zero, suc, ◌+◌, ◌≤◌, ◌<◌, get_or, set, Option, unwrap_or}
 use Rattle.std.proofs.Math.Path.{refl}
 use Rattle.std.proofs.Common.{sym, ap, ◌∙◌, arith}
 use Rattle.base.specs.All.{All}
-use Rattle.base.specs.Walks.{slot}
+use Rattle.base.specs.Walks.{slot, first-le}
+use Rattle.base.specs.Chains.{found, found-or}
+use Rattle.base.specs.Pick.{pick_all}
 use Rattle.rules.specs.declared.Entry.{Entry}
 use Rattle.rules.specs.declared.Strategy.{Strategy}
 use Rattle.rules.specs.declared.State.{State}
@@ -12,7 +14,7 @@ use Rattle.rules.specs.Moves.{Moved, still, and_then, each}
 use Rattle.rules.specs.Quotas.{Division, share, share_beside}
 use Rattle.rules.specs.Fills.{party_records, no_prices, cut_entry, cut}
 use Rattle.rules.specs.Valid.{FitEntry}
-use Rattle.rules.specs.Passes.{sizes, specialist_slot, beside_specialist, give_at, give, give_group, give_shared, give_for_starter}
+use Rattle.rules.specs.Passes.{sizes, specialist_slot, beside_specialist, give_at, give, give_group, give_shared, give_for_starter, sweep_at}
 use Rattle.rules.proofs.Gives.{whole-none}
 use Rattle.rules.proofs.Portions.{beside_none}
 use Rattle.rules.proofs.Shrinks.{Shrinks, shrinks-refl, whole-shrinks, then-shrinks}
@@ -115,11 +117,16 @@ pub shared-is : {es : List Entry} {s : Strategy} (a level p : ℕ) (b : State) �
 unfolding give_shared give_group and_then
 shared-is a level p b h = rw (beside_none 32 p _ _ (omega arith))
 
+-- the slot of the specialist's sweep is one of the table, or past it
+slot-most : (member : ℕ) (es : List Entry) (e : Entry) (level : ℕ) → specialist_slot member es e level ≤ 32
+unfolding specialist_slot
+slot-most member es e level = pick_all (λ (k : ℕ). k ≤ 32) _ (omega arith) (first-le (sweep_at member es e level) 32)
+
 -- a starter's groups, by the slot that the code has found
-pub for-starter-is : {es : List Entry} {s : Strategy} (a level : ℕ) {k : ℕ} → k ≡ specialist_slot s.specialist.member es (get_or es a no_entry) level → (b : State) → HasRows es s a b
-    → give_for_starter a level b ≡ give_shared (share_beside k s.specialist.percentage) a level b
+pub for-starter-is : {es : List Entry} {s : Strategy} (a level : ℕ) {k : Option ℕ} → k ≡ found 32 (specialist_slot s.specialist.member es (get_or es a no_entry) level) → (b : State) → HasRows es s a b
+    → give_for_starter a level b ≡ give_shared (share_beside (unwrap_or k 32) s.specialist.percentage) a level b
 unfolding give_for_starter beside_specialist
-for-starter-is a level e b h = rw (e, h.strategy, h.entries)
+for-starter-is a level e b h = rw ((found-or (slot-most _ _ _ level) e).0, h.strategy, h.entries)
 
 -- a group, by the quotas that the code has found
 pub group-is : {es : List Entry} {s : Strategy} (divide : Division) (a level g : ℕ) {qs : List ℕ} → qs ≡ divide (get_or es a no_entry).units (sizes es (get_or es a no_entry) level g) → (b : State) → HasRows es s a b → give_group divide a level g b ≡ give a level qs b

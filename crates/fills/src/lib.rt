@@ -1,18 +1,19 @@
 // Fills of whole against whole, the ways that the holders of one limit are met, and cancels.
 #![tactic(auto)]
 
-ghost use Rattle.std.specs.Prelude.{◌≡◌, ◌++◌, ◌+◌, ◌*◌, ◌-◌, ◌<◌, ◌≤◌};
+ghost use Rattle.std.specs.Prelude.{Some, unwrap_or, ◌≡◌, ◌++◌, ◌+◌, ◌*◌, ◌-◌, ◌<◌, ◌≤◌};
 ghost use Rattle.base.specs.Walks.{join_n};
 ghost use Rattle.rules.specs.Sizes.{table_rows, zero_level};
 ghost use Rattle.rules.specs.Fills.{whole_record, leg_record, leg_record_at, party_records, no_prices, cut_entry, whole_fill, cancel_record, cancel_entry};
 ghost use Rattle.rules.specs.Passes.{give, give_group, give_shared, give_for_starter};
 ghost use Rattle.rules.specs.Quotas.{in_turn, share, share_beside};
+ghost use Rattle.quotas.specs.Groups.{group_number};
 ghost use Rattle.records.specs.Space.{Appended, Room};
 ghost use Rattle.records.specs.Done.{Done, RoomIn, DoneIn};
 ghost use Rattle.ranges.specs.Fit.{Fit};
 ghost use Rattle.fills.specs.Gives.{HasRows, put_entries};
 
-use quotas::{in_turn, sizes};
+use quotas::{Group, in_turn, sizes};
 use records::Records;
 use rules::{Entry, Kind, Leg, Record, State, Strategy, ZERO_LEVEL};
 use sides::leg_side;
@@ -132,18 +133,18 @@ fn give(
     }
 }
 
-// The holders of group g (3: all) by number.
+// The holders of group g, or all, by number.
 pub fn give_in_turn(
     rows: &mut [Entry; State::ROWS],
     s: Strategy,
     a: usize,
     level: u32,
-    g: u8,
+    g: Option<Group>,
     records: &mut Records,
 )
     requires a_lt_table_rows { a < table_rows }
-    requires room_in { RoomIn (HasRows rows.old s a) (give_group in_turn a level g) records.old }
-    ensures { DoneIn (HasRows rows.old s a) (give_group in_turn a level g) records.old records.new (put_entries rows.new) }
+    requires room_in { RoomIn (HasRows rows.old s a) (give_group in_turn a level (group_number g)) records.old }
+    ensures { DoneIn (HasRows rows.old s a) (give_group in_turn a level (group_number g)) records.old records.new (put_entries rows.new) }
 {
     let e = rows[a];
     let xs = sizes(*rows, e, level, g);
@@ -151,23 +152,22 @@ pub fn give_in_turn(
     give(rows, s, a, level, qs, records);
 }
 
-// The holders of group g, shared where they hold more than what remains, the specialist's sweep at slot k; past the table
-// it has none there.
+// The holders of group g, shared where they hold more than what remains, the specialist's sweep at slot k, if it has one there.
 fn give_group(
     rows: &mut [Entry; State::ROWS],
     s: Strategy,
     a: usize,
     level: u32,
-    g: u8,
-    k: usize,
+    g: Group,
+    k: Option<usize>,
     records: &mut Records,
 )
     requires a_lt_table_rows { a < table_rows }
-    requires room_in { RoomIn (HasRows rows.old s a) (give_group (share_beside k s.specialist.percentage) a level g) records.old }
-    ensures { DoneIn (HasRows rows.old s a) (give_group (share_beside k s.specialist.percentage) a level g) records.old records.new (put_entries rows.new) }
+    requires room_in { RoomIn (HasRows rows.old s a) (give_group (share_beside (unwrap_or k table_rows) s.specialist.percentage) a level (group_number (Some g))) records.old }
+    ensures { DoneIn (HasRows rows.old s a) (give_group (share_beside (unwrap_or k table_rows) s.specialist.percentage) a level (group_number (Some g))) records.old records.new (put_entries rows.new) }
 {
     let e = rows[a];
-    let xs = sizes(*rows, e, level, g);
+    let xs = sizes(*rows, e, level, Some(g));
     let qs = share_beside(k, s.specialist.percentage, e.units as u32, xs);
     give(rows, s, a, level, qs, records);
 }
@@ -178,16 +178,16 @@ fn give_groups(
     s: Strategy,
     a: usize,
     level: u32,
-    k: usize,
+    k: Option<usize>,
     records: &mut Records,
 )
     requires a_lt_table_rows { a < table_rows }
-    requires room_in { RoomIn (HasRows rows.old s a) (give_shared (share_beside k s.specialist.percentage) a level) records.old }
-    ensures { DoneIn (HasRows rows.old s a) (give_shared (share_beside k s.specialist.percentage) a level) records.old records.new (put_entries rows.new) }
+    requires room_in { RoomIn (HasRows rows.old s a) (give_shared (share_beside (unwrap_or k table_rows) s.specialist.percentage) a level) records.old }
+    ensures { DoneIn (HasRows rows.old s a) (give_shared (share_beside (unwrap_or k table_rows) s.specialist.percentage) a level) records.old records.new (put_entries rows.new) }
 {
-    give_in_turn(rows, s, a, level, 0, records);
-    give_group(rows, s, a, level, 1, k, records);
-    give_group(rows, s, a, level, 2, State::ROWS, records);
+    give_in_turn(rows, s, a, level, Some(Group::Customers), records);
+    give_group(rows, s, a, level, Group::MakersAndSweeps, k, records);
+    give_group(rows, s, a, level, Group::BrokerDealers, None, records);
 }
 
 // The groups in any other shared pass than a starter's, which knows no specialist.
@@ -202,7 +202,7 @@ pub fn give_shared(
     requires room_in { RoomIn (HasRows rows.old s a) (give_shared share a level) records.old }
     ensures { DoneIn (HasRows rows.old s a) (give_shared share a level) records.old records.new (put_entries rows.new) }
 {
-    give_groups(rows, s, a, level, State::ROWS, records);
+    give_groups(rows, s, a, level, None, records);
 }
 
 // The groups in an auction's starter's pass.

@@ -1,5 +1,5 @@
 -- A fill by legs, of an entry, the leg orders and a strategy; what its parts leave; and the fill by what the code has found.
-use Rattle.std.specs.Prelude.{◌≡◌, refl, ℤ, get_or}
+use Rattle.std.specs.Prelude.{◌≡◌, refl, get_or}
 use Rattle.std.proofs.Math.Path.{sym, ap}
 use Rattle.std.proofs.Common.{◌∙◌, mul-le-mul, arith}
 use mathlib.Core.List.{List, [], ◌∷◌, ◌++◌}
@@ -18,7 +18,6 @@ use Rattle.records.specs.Space.{Appended, Room, wrote-first, wrote-next}
 use Rattle.records.specs.Done.{Done, done-of, room_of}
 use Rattle.nets.specs.declared.LegBests.{LegBests}
 use Rattle.nets.specs.Legs.{leg_bests, legs-known, units-cut}
-use Rattle.legging.specs.declared.AfterLegs.{AfterLegs}
 use Rattle.records.specs.declared.Records.{Records}
 
 -- one leg: its records are written, and its quotas taken from the rows
@@ -45,11 +44,11 @@ records_by_legs e os s =
     let ps : List ℕ = prices os e.side s.legs in
     party_records e s (units_by_legs e os s) (net_of s ps) ps ++ join_n (order_records_at os (takes_at e.side (units_by_legs e os s) s.legs ps)) s.count
 
--- .. such a fill done: the records written, the units and the leg orders handed back
-pub record FilledByLegs (r₀ r₁ : Records) (t : AfterLegs) (e : Entry) (os : List LegOrder) (s : Strategy) : Type 0 where
-  pub wrote : Appended r₀ r₁.count (records_by_legs e os s)
-  pub units : t.units ≡ units_by_legs e os s
-  pub rows : t.rows ≡ orders_by_legs e os s
+-- .. such a fill done: the records written, its units, and the leg orders left
+pub record FilledByLegs (r₀ r₁ : Records) (units : ℕ) (left : List LegOrder) (e : Entry) (os : List LegOrder) (s : Strategy) : Type 0 where
+  pub wrote : Appended r₀ r₁ (records_by_legs e os s)
+  pub filled : units ≡ units_by_legs e os s
+  pub rows : left ≡ orders_by_legs e os s
 
 -- laws
 
@@ -134,6 +133,6 @@ by-legs a b = refl
 pub legs-room : (a : ℕ) (b : State) {r₀ : Records} → Room r₀ (leg_fill a b).records → Room r₀ (records_by_legs (entry_at b a) b.orders (strategy_of b (entry_at b a)))
 legs-room a b r = room_of (by-legs a b) r
 
-pub legs-done : (a : ℕ) (b : State) {r₀ r₁ : Records} {t : AfterLegs} → FilledByLegs r₀ r₁ (entry_at b a) b.orders (strategy_of b (entry_at b a))
-    → Done r₀ r₁.count (with_orders (cut b a t.units) t.rows) (leg_fill a b)
-legs-done a b f = done-of (by-legs a b) (record { wrote = f.wrote; state = rw (f.units, f.rows) })
+pub legs-done : (a : ℕ) (b : State) {r₀ r₁ : Records} {units : ℕ} {left : List LegOrder} → FilledByLegs r₀ r₁ units left (entry_at b a) b.orders (strategy_of b (entry_at b a))
+    → Done r₀ r₁ (with_orders (cut b a units) left) (leg_fill a b)
+legs-done a b f = done-of (by-legs a b) (record { wrote = f.wrote; state = rw (f.filled, f.rows) })

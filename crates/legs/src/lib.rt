@@ -1,64 +1,20 @@
-// The table of leg orders: insertion, and the best opposite order.
+// The table of leg orders: the slot of the next one, and the best opposite order.
 #![tactic(auto)]
 
-ghost use Rattle.std.specs.Prelude.{◌≡◌, length};
-ghost use Rattle.rules.specs.State.{no_order};
-ghost use Rattle.rules.specs.Events.{live_order, keep, behind, free_order_slot, meets_order, best_order};
+ghost use Rattle.std.specs.Prelude.{◌≡◌};
+ghost use Rattle.base.specs.Chains.{found};
+ghost use Rattle.rules.specs.Sizes.{table_rows};
+ghost use Rattle.rules.specs.Events.{free_order_slot, meets_order, best_order};
 ghost use Rattle.tables.specs.Only.{only_orders};
 ghost use Rattle.legs.specs.Search.{ahead_of};
 
 use nets::stands;
 use rules::{LegOrder, State};
 use sides::{better, meets, other};
-use tables::NO_ORDER;
-
-// Whether an order has contracts.
-fn live(o: LegOrder) -> bool
-    ensures { result ≡ live_order o }
-{
-    if o.contracts == 0 {
-        return false;
-    }
-    true
-}
-
-// The live orders in front, in their order, and one more behind them, if a slot is free.
-pub fn insert(os: [LegOrder; State::LEG_ORDERS], o: LegOrder) -> [LegOrder; State::LEG_ORDERS]
-    ensures { result ≡ behind live_order no_order o os }
-{
-    let mut rows = [NO_ORDER; State::LEG_ORDERS];
-    let mut n: usize = 0;
-    let mut i: usize = 0;
-    while i < State::LEG_ORDERS {
-        let x = os[i];
-        if live(x) {
-            rows[n] = x;
-            n += 1;
-        }
-        i += 1;
-    }
-    if n < State::LEG_ORDERS {
-        rows[n] = o;
-    }
-    rows
-}
-
-// The number of live orders.
-fn count(os: [LegOrder; State::LEG_ORDERS]) -> usize
-    ensures { result ≡ length (keep live_order os) }
-{
-    let mut n: usize = 0;
-    let mut i: usize = 0;
-    while i < State::LEG_ORDERS {
-        if live(os[i]) {
-            n += 1;
-        }
-        i += 1;
-    }
-    n
-}
+use tables::count;
 
 // The slot that the next leg order takes.
+#[tactic(auto, unfolding(rules::specs::Events::free_order_slot))]
 pub fn free_order_slot(os: [LegOrder; State::LEG_ORDERS]) -> usize
     ensures { result ≡ free_order_slot (only_orders os) }
 {
@@ -66,43 +22,30 @@ pub fn free_order_slot(os: [LegOrder; State::LEG_ORDERS]) -> usize
 }
 
 // Whether an order is one that o trades with.
+#[tactic(auto, using(base::specs::Pick::tests), unfolding(rules::specs::Events::meets_order))]
 fn meets_order(o: LegOrder, p: LegOrder) -> bool
     ensures { result ≡ meets_order o p }
 {
-    let on = other(o.side);
-    if stands(o.series, on, p) {
-        return meets(o.side, o.price, p.price);
-    }
-    false
+    stands(o.series, other(o.side), p) && meets(o.side, o.price, p.price)
 }
 
-// Whether p comes before the best order so far: its slot (32: none) and its price.
-fn ahead_order(o: LegOrder, p: LegOrder, best: usize, price: u32) -> bool
-    ensures { result ≡ ahead_of o p best price }
+// Whether p comes before the best order so far, if there is one.
+#[tactic(auto, using(base::specs::Pick::tests), unfolding(crate::specs::Search::ahead_of))]
+fn ahead_order(o: LegOrder, p: LegOrder, best: Option<LegOrder>) -> bool
+    ensures { result ≡ ahead_of o p best }
 {
-    if meets_order(o, p) {
-        if best == State::LEG_ORDERS {
-            return true;
-        }
-        return better(o.side, p.price, price);
-    }
-    false
+    meets_order(o, p) && best.is_none_or(|q| better(o.side, p.price, q.price))
 }
 
-// The slot of the order that o trades with first: best price, then number; 32 where there is none.
-pub fn best_order(os: [LegOrder; State::LEG_ORDERS], o: LegOrder) -> usize
-    ensures { result ≡ best_order (only_orders os) o }
+// The slot of the order that o trades with first, if there is one: best price, then number.
+pub fn best_order(os: [LegOrder; State::LEG_ORDERS], o: LegOrder) -> Option<usize>
+    ensures { result ≡ found table_rows (best_order (only_orders os) o) }
 {
-    let mut best: usize = State::LEG_ORDERS;
-    let mut price: u32 = 0;
-    let mut i: usize = 0;
-    while i < State::LEG_ORDERS {
-        let p = os[i];
-        if ahead_order(o, p, best, price) {
-            best = i;
-            price = p.price;
+    let mut best: Option<usize> = None;
+    for (i, p) in os.iter().enumerate() {
+        if ahead_order(o, *p, best.map(|k| os[k])) {
+            best = Some(i);
         }
-        i += 1;
     }
     best
 }

@@ -1,3 +1,4 @@
 pub mod Matching
 pub mod Searches
 pub mod Places
+pub mod Slots

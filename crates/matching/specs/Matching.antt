@@ -1,7 +1,7 @@
 -- The rules of the match and of the passes by legs only, by what the code tests, and the ranges that they keep.
-use Rattle.std.specs.Prelude.{◌≡◌, Bool, not, List, ℕ, ◌+◌, ◌-◌, ◌≤◌, ◌<◌, min, eqb, leb, ℤ, length, get_or}
+use Rattle.std.specs.Prelude.{◌≡◌, Bool, not, List, Option, ℕ, ◌+◌, ◌-◌, ◌≤◌, ◌<◌, min, eqb, leb, length, get_or}
 use Rattle.std.proofs.Math.Path.{refl}
-use Rattle.std.proofs.Common.{sym, ◌∙◌, ap, arith}
+use Rattle.std.proofs.Common.{sym, ◌∙◌, ap, arith, None, Some}
 use Rattle.std.proofs.Math.Bool.{true, false}
 use borrow.Author.Tests.{ltb-true, lt-ltb, le-ltb}
 use Rattle.std.proofs.Math.Dec.{ltb}
@@ -49,6 +49,15 @@ best_next es k side i best = pick (ahead_of k side (get_or es i no_entry) best (
 -- the best slot by the entries
 unfoldable pub best_entry : List Entry → ℕ → ℕ → ℕ
 best_entry es k side = walk (best_next es k side) 32 32
+
+-- the same of the entry that is the best so far, if there is one
+unfoldable pub goes_ahead : ℕ → ℕ → Entry → Option Entry → Bool
+goes_ahead k side e None = pick (live_in k e) (eqb e.side side) false
+goes_ahead k side e (Some f) = pick (live_in k e) (pick (eqb e.side side) (better (other side) e.level f.level) false) false
+
+-- whether a buy and a sell meet, and both may fill at the lower number's limit
+unfoldable pub may_match_of : Bounds → Entry → Entry → Bool
+may_match_of w e f = pick (leb f.level e.level) (may_meet w (pick (ltb e.number f.number) e.level f.level)) false
 
 -- whether two entries meet
 unfoldable pub meet : List Entry → ℕ → ℕ → Bool

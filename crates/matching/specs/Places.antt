@@ -1,6 +1,6 @@
 -- The passes by legs only as one walk over places, 32 to a strategy, and the search for the next place at which one would do something but for its
 -- bounds.
-use Rattle.std.specs.Prelude.{◌≡◌, Bool, true, false, not, List, leb, ℤ, get_or}
+use Rattle.std.specs.Prelude.{◌≡◌, Bool, true, false, not, List, leb, get_or}
 use Rattle.std.proofs.Math.Path.{refl, sym, ap}
 use Rattle.std.proofs.Common.{◌∙◌, append_assoc, zero-add, suc-add, leb-true, le-leb}
 use Rattle.std.proofs.Math.Logic.{⊎_elim}
@@ -155,7 +155,7 @@ module _ (b : State) (s n : ℕ) {at : ℕ} (e : at ≡ next_at b s n) where
   abbrev from : ℕ → Bool
   from = acts_from b.strategies b.entries b.orders b.opened s n
 
-  next-most : at ≤ 512
+  pub next-most : at ≤ 512
   unfolding next_pass
   next-most = rw e (first-le from 512)
 

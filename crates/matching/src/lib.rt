@@ -3,21 +3,21 @@
 
 ghost use Rattle.std.specs.Prelude.{◌≡◌, ◌+◌, ◌-◌, ◌<◌};
 ghost use Rattle.base.specs.All.{All};
+ghost use Rattle.base.specs.Chains.{found};
 ghost use Rattle.rules.specs.Sizes.{strategy_slots, table_rows};
 ghost use Rattle.rules.specs.Moves.{each};
 ghost use Rattle.rules.specs.Auctions.{day_order, leg_passes, match_all, match_in};
-ghost use Rattle.rules.specs.Valid.{FitEntry, FitOrder, Priced};
+ghost use Rattle.rules.specs.Valid.{FitOrder, Priced};
 ghost use Rattle.records.specs.Space.{Room};
 ghost use Rattle.records.specs.Done.{Done};
 ghost use Rattle.ranges.specs.Fit.{FitLegs, Fit};
-ghost use Rattle.rules.specs.Nets.{nets_of};
-ghost use Rattle.matching.specs.Matching.{open_with, passes_legs, ahead_of, best_entry, meet, may_match_in, matched};
-ghost use Rattle.matching.specs.Places.{acts_on, next_pass, LiveLegs};
+ghost use Rattle.matching.specs.Matching.{open_with, passes_legs, goes_ahead, best_entry, may_match_of, matched};
+ghost use Rattle.matching.specs.Places.{acts_on, next_pass};
 
 use fills::whole_fill;
 use national::{bounds, may_meet};
 use passes::{legs_idle, pass};
-use records::{After, least};
+use records::Records;
 use rules::{Allocation, Bounds, Entry, LegNets, LegOrder, State, Strategy};
 use sides::{better, other};
 use states::{holds, live_in, none_shut};
@@ -27,35 +27,30 @@ use stored_nets::net_for;
 pub const PLACES: usize = State::STRATEGIES * State::ROWS;
 
 // Whether a strategy holds series s and no leg of it is shut.
+#[tactic(auto, using(base::specs::Pick::tests), unfolding(crate::specs::Matching::open_with))]
 fn open_with(t: Strategy, s: u8, opened: u32) -> bool
     ensures { result ≡ open_with t s opened }
 {
-    if holds(t, s) {
-        return none_shut(t, opened);
-    }
-    false
+    holds(t, s) && none_shut(t, opened)
 }
 
 // Whether a strategy holds series s, is all open and has no auction.
+#[tactic(auto, using(base::specs::Pick::tests), unfolding(crate::specs::Matching::passes_legs))]
 fn passes_legs(t: Strategy, s: u8, opened: u32) -> bool
     ensures { result ≡ passes_legs t s opened }
 {
-    if open_with(t, s, opened) {
-        return t.starter == 0;
-    }
-    false
+    open_with(t, s, opened) && t.starter == 0
 }
 
+#[tactic(auto, using(base::specs::Pick::tests), unfolding(rules::specs::Auctions::day_order))]
 fn day_order(k: usize, e: Entry) -> bool
     ensures { result ≡ day_order k e }
 {
-    if live_in(k, e) {
-        return e.life == 0;
-    }
-    false
+    live_in(k, e) && e.life == 0
 }
 
 // Whether strategy t gets passes by legs only, and the pass of its entry e would do something but for its bounds.
+#[tactic(auto, using(base::specs::Pick::tests), unfolding(crate::specs::Places::acts_on))]
 fn acts_in(
     e: Entry,
     t: Strategy,
@@ -67,212 +62,140 @@ fn acts_in(
     requires { All FitOrder os × All Priced os × FitLegs t }
     ensures { result ≡ acts_on e t n os opened s }
 {
-    if passes_legs(t, s, opened) {
-        let net = net_for(n, e.side);
-        return !legs_idle(e, net, os, t);
-    }
-    false
+    passes_legs(t, s, opened) && !legs_idle(e, net_for(n, e.side), os, t)
 }
 
-// The first place, from one on, of a day order whose pass by legs only would do something but for its bounds; 512 where there
-// is none.
-pub fn next_pass(
-    ss: [Strategy; State::STRATEGIES],
-    es: [Entry; State::ROWS],
-    os: [LegOrder; State::LEG_ORDERS],
-    ns: [LegNets; State::STRATEGIES],
-    opened: u32,
-    s: u8,
-    from: usize,
-) -> usize
-    requires { All FitLegs ss × All FitEntry es × All FitOrder os × All Priced os × LiveLegs ss es × (ns ≡ nets_of os ss) }
-    ensures { result ≡ next_pass ss es os opened s from }
+// The first place, from one on, of a day order whose pass by legs only would do something but for its bounds.
+pub fn next_pass(b: &State, s: u8, from: usize) -> Option<usize>
+    requires { Fit b.now }
+    ensures { result ≡ found 512 (next_pass b.now.strategies b.now.entries b.now.orders b.now.opened s from) }
 {
-    let mut best: usize = PLACES;
-    let mut i: usize = 0;
-    while i < State::ROWS {
-        let e = es[i];
+    let mut best: Option<usize> = None;
+    for (i, e) in b.entries.iter().enumerate() {
         let k = e.strategy as usize;
-        if day_order(k, e) {
+        if day_order(k, *e) {
             let at = k * State::ROWS + i;
-            if from <= at {
-                if at < best {
-                    let t = ss[k];
-                    if acts_in(e, t, ns[k], os, opened, s) {
-                        best = at;
-                    }
+            if from <= at && at < best.unwrap_or(PLACES) {
+                if acts_in(*e, b.strategies[k], b.nets[k], b.orders, b.opened, s) {
+                    best = Some(at);
                 }
             }
         }
-        i += 1;
     }
     best
 }
 
-// The passes by legs only of a series, by strategy, then number. The first that may do something is at place `from`.
-pub fn leg_passes(b: State, s: u8, from: usize, space: &mut [i32], n: usize) -> After
-    requires fit { Fit b × (from ≡ next_pass b.strategies b.entries b.orders b.opened s 0) }
-    requires room { Room space.old n (leg_passes s b).records }
-    ensures { Done space.old space.new n result.count result.state (leg_passes s b) }
+// The passes by legs only of a series, by strategy, then number. The first that may do something is at place `first`.
+pub fn leg_passes(b: &mut State, s: u8, first: Option<usize>, records: &mut Records)
+    requires fit { Fit b.old × (first ≡ found 512 (next_pass b.old.strategies b.old.entries b.old.orders b.old.opened s 0)) }
+    requires room { Room records.old (leg_passes s b.old).records }
+    ensures { Done records.old records.new b.new (leg_passes s b.old) }
 {
-    let mut c = b;
-    let mut m = n;
-    let mut at = from;
-    while at < PLACES {
-        let t = pass(Allocation::LegsOnly, true, c, at % State::ROWS, space, m);
-        c = t.state;
-        m = t.count;
-        let ss = c.strategies;
-        let es = c.entries;
-        let os = c.orders;
-        let ns = c.nets;
-        at = next_pass(ss, es, os, ns, c.opened, s, at + 1);
+    let mut next = first;
+    while let Some(at) = next {
+        pass(Allocation::LegsOnly, true, b, at % State::ROWS, records);
+        next = next_pass(b, s, at + 1);
     }
-    After { state: c, count: m }
 }
 
 // The same, from whichever may do something first.
-pub fn all_leg_passes(b: State, s: u8, space: &mut [i32], n: usize) -> After
-    requires fit { Fit b }
-    requires room { Room space.old n (leg_passes s b).records }
-    ensures { Done space.old space.new n result.count result.state (leg_passes s b) }
+pub fn all_leg_passes(b: &mut State, s: u8, records: &mut Records)
+    requires fit { Fit b.old }
+    requires room { Room records.old (leg_passes s b.old).records }
+    ensures { Done records.old records.new b.new (leg_passes s b.old) }
 {
-    let ss = b.strategies;
-    let es = b.entries;
-    let os = b.orders;
-    let ns = b.nets;
-    let from = next_pass(ss, es, os, ns, b.opened, s, 0);
-    leg_passes(b, s, from, space, n)
+    let first = next_pass(b, s, 0);
+    leg_passes(b, s, first, records);
 }
 
-// Whether an entry is of that strategy and side, and goes before the best so far, which is at that slot (32: none yet) and level.
-fn ahead(k: usize, side: u8, e: Entry, best: usize, level: u32) -> bool
-    ensures { result ≡ ahead_of k side e best level }
+// Whether an entry is of that strategy and side, and goes before the best so far, if there is one.
+#[tactic(auto, using(base::specs::Pick::tests), unfolding(crate::specs::Matching::goes_ahead))]
+fn ahead(k: usize, side: u8, e: Entry, best: Option<Entry>) -> bool
+    ensures { result ≡ goes_ahead k side e best }
 {
-    if live_in(k, e) {
-        if e.side == side {
-            if best == State::ROWS {
-                return true;
-            }
-            let on = other(side);
-            return better(on, e.level, level);
-        }
-        return false;
+    if live_in(k, e) && e.side == side {
+        return match best {
+            Some(f) => better(other(side), e.level, f.level),
+            None => true,
+        };
     }
     false
 }
 
-// The slot of the best entry of a side, by price, then number; 32 where there is none.
-fn best_slot(es: [Entry; State::ROWS], k: usize, side: u8) -> usize
-    ensures { result ≡ best_entry es k side }
+// The slot of the best entry of a side, by price, then number.
+fn best_slot(es: [Entry; State::ROWS], k: usize, side: u8) -> Option<usize>
+    ensures { result ≡ found table_rows (best_entry es k side) }
 {
-    let mut best: usize = State::ROWS;
-    let mut level: u32 = 0;
-    let mut i: usize = 0;
-    while i < State::ROWS {
-        let e = es[i];
-        if ahead(k, side, e, best, level) {
-            best = i;
-            level = e.level;
+    let mut slot: Option<usize> = None;
+    let mut best: Option<Entry> = None;
+    for (i, e) in es.iter().enumerate() {
+        if ahead(k, side, *e, best) {
+            slot = Some(i);
+            best = Some(*e);
         }
-        i += 1;
     }
-    best
+    slot
 }
 
-// Whether the best buy and the best sell meet.
-fn crossed(es: [Entry; State::ROWS], x: usize, y: usize) -> bool
-    ensures { result ≡ meet es x y }
+// Whether a buy and a sell meet, and both may fill at the lower number's limit.
+#[tactic(auto, using(base::specs::Pick::tests), unfolding(crate::specs::Matching::may_match_of))]
+fn may_match(w: Bounds, e: Entry, f: Entry) -> bool
+    ensures { result ≡ may_match_of w e f }
 {
-    if x < State::ROWS {
-        if y < State::ROWS {
-            let e = es[x];
-            let f = es[y];
-            return f.level <= e.level;
-        }
-        return false;
-    }
-    false
+    let level = if e.number < f.number {
+        e.level
+    } else {
+        f.level
+    };
+    f.level <= e.level && may_meet(w, level)
 }
 
-// Whether the best buy and the best sell meet, and both may fill at the lower number's limit.
-fn may_match(w: Bounds, es: [Entry; State::ROWS], x: usize, y: usize) -> bool
-    ensures { result ≡ may_match_in w es x y }
-{
-    if crossed(es, x, y) {
-        let e = es[x];
-        let f = es[y];
-        if e.number < f.number {
-            return may_meet(w, e.level);
-        }
-        return may_meet(w, f.level);
-    }
-    false
-}
-
-// The best buy with the best sell, at the lower number's limit, its order active.
-fn match_once(b: State, x: usize, y: usize, space: &mut [i32], n: usize) -> After
-    requires x_lt_table_rows { (x < table_rows) × (y < table_rows) × Fit b }
-    requires room { Room space.old n (matched b x y).records }
-    ensures { Done space.old space.new n result.count result.state (matched b x y) }
+// The buy at slot x with the sell at slot y, at the lower number's limit, its order active.
+fn match_once(b: &mut State, x: usize, y: usize, records: &mut Records)
+    requires x_lt_table_rows { (x < table_rows) × (y < table_rows) × Fit b.old }
+    requires room { Room records.old (matched b.old x y).records }
+    ensures { Done records.old records.new b.new (matched b.old x y) }
 {
     let e = b.entries[x];
     let f = b.entries[y];
-    let bought = e.units as u32;
-    let sold = f.units as u32;
+    let q = (e.units as u32).min(f.units as u32);
     if e.number < f.number {
-        let q = least(bought, sold);
-        return whole_fill(b, x, y, e.level, q, space, n);
+        whole_fill(b, x, y, e.level, q, records);
+    } else {
+        whole_fill(b, y, x, f.level, q, records);
     }
-    let p = least(sold, bought);
-    whole_fill(b, y, x, f.level, p, space, n)
 }
 
-// While they meet and may. No match changes what bounds them.
-fn match_all(b: State, k: usize, space: &mut [i32], n: usize) -> After
-    requires k_lt_strategy_slots { (k < strategy_slots) × Fit b }
-    requires room { Room space.old n (match_all k b).records }
-    ensures { Done space.old space.new n result.count result.state (match_all k b) }
+// While the best buy and the best sell meet and may. No match changes what bounds them.
+fn match_all(b: &mut State, k: usize, records: &mut Records)
+    requires k_lt_strategy_slots { (k < strategy_slots) × Fit b.old }
+    requires room { Room records.old (match_all k b.old).records }
+    ensures { Done records.old records.new b.new (match_all k b.old) }
 {
-    let mut c = b;
-    let s = c.strategies[k];
-    let qs = c.national;
-    let w = bounds(qs, c.range, s);
-    let mut m = n;
-    let mut i: usize = 0;
-    while i < State::ROWS {
-        let es = c.entries;
-        let x = best_slot(es, k, 0);
-        let y = best_slot(es, k, 1);
-        if may_match(w, es, x, y) {
-            let t = match_once(c, x, y, space, m);
-            c = t.state;
-            m = t.count;
-            i += 1;
-        } else {
-            i = State::ROWS;
+    let w = bounds(b.national, b.range, b.strategies[k]);
+    for _ in 0..State::ROWS {
+        let Some(x) = best_slot(b.entries, k, 0) else {
+            return;
+        };
+        let Some(y) = best_slot(b.entries, k, 1) else {
+            return;
+        };
+        if !may_match(w, b.entries[x], b.entries[y]) {
+            return;
         }
+        match_once(b, x, y, records);
     }
-    After { state: c, count: m }
 }
 
 // The resting orders of each all-open strategy that holds a series, by strategy.
-pub fn match_series(b: State, s: u8, space: &mut [i32], n: usize) -> After
-    requires fit { Fit b }
-    requires room { Room space.old n (each (match_in s) strategy_slots b).records }
-    ensures { Done space.old space.new n result.count result.state (each (match_in s) strategy_slots b) }
+pub fn match_series(b: &mut State, s: u8, records: &mut Records)
+    requires fit { Fit b.old }
+    requires room { Room records.old (each (match_in s) strategy_slots b.old).records }
+    ensures { Done records.old records.new b.new (each (match_in s) strategy_slots b.old) }
 {
-    let mut c = b;
-    let mut m = n;
-    let mut k: usize = 0;
-    while k < State::STRATEGIES {
-        let h = c.strategies[k];
-        if open_with(h, s, c.opened) {
-            let t = match_all(c, k, space, m);
-            c = t.state;
-            m = t.count;
+    for k in 0..State::STRATEGIES {
+        if open_with(b.strategies[k], s, b.opened) {
+            match_all(b, k, records);
         }
-        k += 1;
     }
-    After { state: c, count: m }
 }

@@ -1,10 +1,14 @@
 -- The running pair and the running price by what the code tests, and their ranges.
-use Rattle.std.specs.Prelude.{◌≡◌, List, ℕ, zero, suc, ◌+◌, ◌*◌, ◌≤◌, eqb, get_or}
+use Rattle.std.specs.Prelude.{◌≡◌, List, ℕ, zero, suc, ◌+◌, ◌*◌, ◌≤◌, eqb, get_or, length, Option, unwrap_or}
+use Rattle.std.specs.Bool.{then_some}
+use Rattle.std.specs.List.{fold}
 use Rattle.std.proofs.Math.Path.{refl, sym, ap}
-use Rattle.std.proofs.Common.{◌∙◌, add-one, arith}
-use Rattle.std.proofs.Math.Bool.{true, false, true≢false}
-use Rattle.base.specs.Pick.{pick_all, pick-by, pick_true, pick-false, tests}
+use Rattle.std.proofs.Common.{◌∙◌, add-one, arith, None, Some, eqb-true, ne_eqb}
+use Rattle.std.proofs.lemmas.Bool.{eqb-false}
+use Rattle.std.proofs.Math.Bool.{Bool, true, false, not, true≢false}
+use Rattle.base.specs.Pick.{pick, pick_all, pick-by, pick_true, pick-false, tests}
 use Rattle.base.specs.All.{All}
+use Rattle.base.specs.Chains.{unless_zero, fold-walk}
 use Rattle.base.specs.Walks.{walk}
 use Rattle.rules.specs.declared.LegOrder.{LegOrder}
 use Rattle.rules.specs.declared.Best.{Best}
@@ -23,11 +27,39 @@ pub record FitBest (b : Best) : Type 0 where
 pub fit-no-best : FitBest no_best
 fit-no-best = record { price = omega arith; contracts = omega arith }
 
--- the best price after k slots
-unfoldable pub price_after : List LegOrder → ℕ → ℕ → ℕ → ℕ
-price_after os s side k = walk (price_step os s side) 0 k
+-- the best of a series and side, none where no leg order stands there
+unfoldable pub if_priced : Best → Option Best
+if_priced b = pick (eqb b.price 0) None (Some b)
 
 -- laws
+
+-- A BEST THAT MAY BE MISSING
+
+pub priced-none : (b : Best) → None ≡ if_priced b → b.price ≡ 0
+unfolding if_priced
+priced-none b h = pick-by (λ (x : Option Best). None ≡ x → b.price ≡ 0) _ (λ e _. eqb-true _ _ e) (λ e z. cc) h
+
+pub priced-some : (b : Best) {x : Best} → Some x ≡ if_priced b → (x ≡ b) × ¬ (b.price ≡ 0)
+unfolding if_priced
+priced-some b {x} h = pick-by (λ (y : Option Best). Some x ≡ y → (x ≡ b) × ¬ (b.price ≡ 0)) _ (λ e z. absurd (cc)) (λ e z. (cc, eqb-false _ _ e)) h
+
+-- .. by what the code tests
+pub priced-by : (b : Best) → then_some (not (eqb b.price 0)) b ≡ if_priced b
+unfolding if_priced pick
+priced-by b = by (eqb b.price 0)
+  where
+    by : (t : Bool) → then_some (not t) b ≡ pick t None (Some b)
+    by true = refl
+    by false = refl
+
+pub unless-by : (n : ℕ) → then_some (not (eqb n 0)) n ≡ unless_zero n
+unless-by zero = refl
+unless-by (suc n) = rw (ne_eqb (suc n) 0 (λ z. omega arith)) refl
+
+-- a price that may be missing, by its number
+pub unless-zero-or : (n : ℕ) → unwrap_or (unless_zero n) 0 ≡ n
+unless-zero-or zero = refl
+unless-zero-or (suc n) = refl
 
 -- ONE PAIR
 
@@ -111,14 +143,6 @@ module _ (s side : ℕ) (p : ℕ) (o : LegOrder) where
   price-none e = sym (pick-false _ _ _ e)
 
 module _ (os : List LegOrder) (s side : ℕ) where
-  pub price-first : 0 ≡ price_after os s side 0
-  unfolding price_after walk
-  price-first = refl
-
-  pub price-next : (i : ℕ) {p q : ℕ} → p ≡ price_after os s side i → q ≡ price_with s side p (get_or os i no_order) → q ≡ price_after os s side (i + 1)
-  unfolding price_after walk
-  price-next i e g = rw (add-one i) (g ∙ ap (λ (x : ℕ). price_with s side x (get_or os i no_order)) e)
-
-  pub price-last : {i p : ℕ} → i ≡ 32 → p ≡ price_after os s side i → p ≡ price_of os s side
-  unfolding price_after price_of
-  price-last h e = e ∙ ap (walk (price_step os s side) 0) h
+  pub price-folded : length os ≡ 32 → fold (λ (p : ℕ) (o : LegOrder). price_with s side p o) 0 os ≡ price_of os s side
+  unfolding price_of
+  price-folded h = fold-walk no_order (λ (p : ℕ) (o : LegOrder). price_with s side p o) 0 os ∙ ap (walk (price_step os s side) 0) h

@@ -1,7 +1,8 @@
 -- What a complex party meets on the legs of a strategy: the best of each leg, their sums, the units that they give.
-use Rattle.std.specs.Prelude.{◌≡◌, Bool, false, eqb, get_or, replicate}
+use Rattle.std.specs.Prelude.{◌≡◌, false, eqb, get_or, Option, unwrap_or}
+use Rattle.std.specs.Option.{option_map_or}
 use Rattle.std.proofs.Math.Path.{refl, sym, ap}
-use Rattle.std.proofs.Common.{◌∙◌, ⊎_elim, add-one, arith, eq-eqb, ne_eqb, lt-ltb, le-ltb}
+use Rattle.std.proofs.Common.{◌∙◌, ⊎_elim, add-one, arith, eq-eqb, ne_eqb, lt-ltb, le-ltb, None, Some}
 use Rattle.std.proofs.Math.Bool.{true}
 use mathlib.Core.List.{List}
 use Prim.Native.Nat.{ℕ, zero, suc, ◌+◌, ◌*◌, ◌-◌, ◌/◌, ◌≤◌, ◌<◌, min}
@@ -14,13 +15,13 @@ use Rattle.rules.specs.declared.LegOrder.{LegOrder}
 use Rattle.rules.specs.declared.Best.{Best}
 use Rattle.rules.specs.State.{no_leg}
 use Rattle.rules.specs.Sides.{other, leg_side}
-use Rattle.rules.specs.Nets.{best_of, best_after, leg_price, price_at, prices, priced_at, known, weight, weighed, net_of, leg_units, units_step, units_of}
-use Rattle.rules.specs.Valid.{FitLeg, Priced}
+use Rattle.rules.specs.Nets.{best_of, leg_price, price_at, prices, priced_at, known, weight, weighed, net_of, leg_units, units_step, units_of}
+use Rattle.rules.specs.Valid.{FitLeg}
 use Rattle.ranges.specs.Fit.{fit-leg}
 use Rattle.nets.specs.declared.LegBests.{LegBests}
 use Rattle.nets.specs.declared.LegSums.{LegSums}
 use Rattle.nets.specs.Nets.{weight-most, net-unknown, net-known}
-use Rattle.nets.specs.Bests.{FitBest, best-last}
+use Rattle.nets.specs.Bests.{FitBest}
 
 -- THE LEGS, of which the one at place i meets best f i
 
@@ -47,18 +48,16 @@ sums_of f legs k = walk (sums_step f legs) no_sums k
 abbrev pub leg_best : List LegOrder → ℕ → List Leg → ℕ → Best
 leg_best os side legs i = best_of os (get_or legs i no_leg).series (other (leg_side side (get_or legs i no_leg)))
 
-abbrev pub no_leg_bests : LegBests
-no_leg_bests = record { prices = replicate 6 0; units = 0; net = 0 }
-
 -- what it meets on all of them, by the rules: the prices of the legs in use, the units, at most 9,999, and the net; nothing where a price is missing
-unfoldable pub leg_bests : List LegOrder → ℕ → Strategy → LegBests
+unfoldable pub leg_bests : List LegOrder → ℕ → Strategy → Option LegBests
 leg_bests os side s =
     let ps : List ℕ = prices os side s.legs in
-    pick (known ps s.count) (record { prices = stored 6 (price_at os side s.legs) s.count; units = units_of os side s ps 9999; net = net_of s ps }) no_leg_bests
+    pick (known ps s.count) (Some (record { prices = stored 6 (price_at os side s.legs) s.count; units = units_of os side s ps 9999; net = net_of s ps })) None
 
--- its net where the legs give one unit, else 0
-unfoldable pub net_where : LegBests → ℕ
-net_where b = pick (eqb b.units 0) 0 b.net
+-- its net where the legs give one unit
+unfoldable pub net_where : Option LegBests → Option ℕ
+net_where None = None
+net_where (Some b) = pick (eqb b.units 0) None (Some b.net)
 
 -- .. by the rules
 unfoldable pub net_ready : List LegOrder → ℕ → Strategy → ℕ
@@ -156,10 +155,13 @@ module _ (f : ℕ → Best) (s : Strategy) (most : s.count ≤ 6) where
 
 -- BY THE LEG ORDERS
 
--- the best of a leg that the walk over the orders found
-pub leg-found : (os : List LegOrder) (side : ℕ) (l : Leg) {taken on j : ℕ} {b : Best} → All Priced os → taken ≡ leg_side side l → on ≡ other taken → j ≡ 32 → b ≡ best_after os l.series on j
-    → b ≡ best_of os l.series (other (leg_side side l))
-leg-found os side l p t o h e = rw (o, t) at (best-last os l.series _ p h e)
+-- the best that is met on a leg, by the sides that the code computed
+pub leg-met : (os : List LegOrder) (side : ℕ) (legs : List Leg) (i : ℕ) {taken on : ℕ} → taken ≡ leg_side side (get_or legs i no_leg) → on ≡ other taken → best_of os (get_or legs i no_leg).series on ≡ leg_best os side legs i
+leg-met os side legs i t o = rw (o, t) refl
+
+pub leg-price : (os : List LegOrder) (side : ℕ) (legs : List Leg) (i : ℕ) {b : Best} → b ≡ leg_best os side legs i → b.price ≡ price_at os side legs i
+unfolding leg_price best_of
+leg-price os side legs i e = ap (λ (x : Best). x.price) e
 
 module _ (os : List LegOrder) (side : ℕ) where
   prices-are : (legs : List Leg) → prices_by (leg_best os side legs) ≡ prices os side legs
@@ -183,7 +185,7 @@ module _ (os : List LegOrder) (side : ℕ) where
 
     -- all legs in use have been walked
     pub legs-found : {qs : List ℕ} {n : LegSums} → qs ≡ stored 6 (price_at os side s.legs) s.count → Netting (leg_best os side s.legs) s.legs s.count n
-        → record { prices = qs; units = n.units; net = 10_000_000 + n.buys - n.sells } ≡ leg_bests os side s
+        → Some (record { prices = qs; units = n.units; net = 10_000_000 + n.buys - n.sells }) ≡ leg_bests os side s
     unfolding leg_bests units_of
     legs-found {qs} {n} e g =
         let k : known ps s.count ≡ true = rw (sym (prices-are s.legs)) g.priced in
@@ -191,31 +193,32 @@ module _ (os : List LegOrder) (side : ℕ) where
         let v : 10_000_000 + n.buys - n.sells ≡ net_of s ps = net-found (leg_best os side s.legs) s most g ∙ ap (net_of s) (prices-are s.legs) in
         rw (e, u, v) (sym (pick_true _ _ _ k))
 
-    pub legs-missing : {i : ℕ} {b : Best} → i < s.count → b ≡ leg_best os side s.legs i → b.price ≡ 0 → no_leg_bests ≡ leg_bests os side s
+    pub legs-missing : {i : ℕ} {b : Best} → i < s.count → b ≡ leg_best os side s.legs i → b.price ≡ 0 → None ≡ leg_bests os side s
     unfolding leg_bests
     legs-missing h e z = sym (pick-false _ _ _ (rw (sym (prices-are s.legs)) (known-not (leg_best os side s.legs) s most h e z)))
 
-  pub net-where : (s : Strategy) {p : LegBests} → p ≡ leg_bests os side s → net_where p ≡ net_ready os side s
+  pub net-where : (s : Strategy) → unwrap_or (net_where (leg_bests os side s)) 0 ≡ net_ready os side s
   unfolding net_where leg_bests net_ready
-  net-where s e =
+  net-where s =
       let ps : List ℕ = prices os side s.legs in
-      rw e
-      (pick-by (λ (b : LegBests). pick (eqb b.units 0) 0 b.net ≡ net_ready os side s) (known ps s.count)
-      (λ k. ap (λ (t : Bool). pick t 0 (net_of s ps)) (ready-some os side s ps))
-      (λ k. pick_true (eqb 0 0) 0 0 refl ∙ sym (pick_all (λ (r : ℕ). r ≡ 0) _ refl (sym (net-unknown s ps k)))))
+      pick-by (λ (b : Option LegBests). unwrap_or (net_where b) 0 ≡ net_ready os side s) (known ps s.count)
+      (λ k. pick-by (λ (n : Option ℕ). unwrap_or n 0 ≡ net_ready os side s) (eqb (units_of os side s ps 9999) 0)
+      (λ e. sym (pick_true _ _ _ (sym (ready-some os side s ps) ∙ e)))
+      (λ e. sym (pick-false _ _ _ (sym (ready-some os side s ps) ∙ e))))
+      (λ k. sym (pick_all (λ (r : ℕ). r ≡ 0) _ refl (sym (net-unknown s ps k))))
 
   -- the net alone, known where each leg has a price
-  pub net-is : (s : Strategy) {p : LegBests} → p ≡ leg_bests os side s → p.net ≡ net_of s (prices os side s.legs)
+  pub net-is : (s : Strategy) → option_map_or (λ (b : LegBests). b.net) (leg_bests os side s) 0 ≡ net_of s (prices os side s.legs)
   unfolding leg_bests
-  net-is s e =
+  net-is s =
       let ps : List ℕ = prices os side s.legs in
-      rw e (pick-by (λ (b : LegBests). b.net ≡ net_of s ps) (known ps s.count) (λ k. refl) (λ k. net-unknown s ps k))
+      pick-by (λ (b : Option LegBests). option_map_or (λ (x : LegBests). x.net) b 0 ≡ net_of s ps) (known ps s.count) (λ k. refl) (λ k. net-unknown s ps k)
 
-  -- what is met on the legs, where a net is known
-  pub legs-known : (s : Strategy) {p : LegBests} → p ≡ leg_bests os side s → ¬ (p.net ≡ 0)
+  -- what is met on the legs, where each has a price
+  pub legs-known : (s : Strategy) {p : LegBests} → Some p ≡ leg_bests os side s
       → p ≡ record { prices = stored 6 (price_at os side s.legs) s.count; units = units_of os side s (prices os side s.legs) 9999; net = net_of s (prices os side s.legs) }
   unfolding leg_bests
-  legs-known s {p} e n =
+  legs-known s {p} e =
       let ps : List ℕ = prices os side s.legs in
-      e ∙ pick-by (λ (b : LegBests). p ≡ b → b ≡ record { prices = stored 6 (price_at os side s.legs) s.count; units = units_of os side s ps 9999; net = net_of s ps }) (known ps s.count)
-      (λ k h. refl) (λ k h. absurd (n (ap (λ (b : LegBests). b.net) h))) e
+      pick-by (λ (b : Option LegBests). Some p ≡ b → p ≡ record { prices = stored 6 (price_at os side s.legs) s.count; units = units_of os side s ps 9999; net = net_of s ps }) (known ps s.count)
+      (λ k h. cc) (λ k h. cc) e

@@ -1,22 +1,37 @@
 -- Ranges of prices and nets, and the rules by what the code tests.
-use Rattle.std.specs.Prelude.{◌≡◌, List, ℕ, ◌+◌, ◌*◌, ◌-◌, ◌≤◌, eqb, get_or}
+use Rattle.std.specs.Prelude.{◌≡◌, List, ℕ, ◌+◌, ◌*◌, ◌-◌, ◌≤◌, ◌<◌, zero, suc, eqb, ltb, get_or, take, length, Option}
+use Rattle.std.specs.List.{list_all}
+use Rattle.std.specs.Option.{option_map_or}
 use Rattle.std.proofs.Math.Path.{refl}
-use Rattle.std.proofs.Common.{sym, mul-le-mul, arith}
+use Rattle.std.proofs.Common.{sym, ◌∙◌, ap, mul-le-mul, arith, eqb-true}
+use Rattle.std.proofs.lemmas.Bool.{eqb-false}
+use Rattle.std.proofs.lemmas.List.{length-take-le, get_or-take}
 use Rattle.std.proofs.Math.Bool.{Bool, true, false, not}
 use borrow.Author.Tests.{eq-eqb, ne_eqb}
-use Rattle.base.specs.Pick.{pick, pick_all, pick-false, tests}
+use Rattle.base.specs.Pick.{pick, pick_all, pick-by, pick_true, pick-false, tests}
 use Rattle.base.specs.All.{All}
-use Rattle.base.specs.Walks.{slot, sum-le}
+use Rattle.base.specs.Walks.{all_n, slot, sum-le}
+use Rattle.base.specs.Chains.{unless_zero, all-slots}
 use Rattle.rules.specs.declared.Leg.{Leg}
 use Rattle.rules.specs.declared.Strategy.{Strategy}
 use Rattle.rules.specs.declared.LegOrder.{LegOrder}
 use Rattle.rules.specs.State.{no_leg}
-use Rattle.rules.specs.Sides.{other, leg_side}
-use Rattle.rules.specs.Nets.{stands, lot, leg_price, price_at, prices, known, weight, weight_at, weighed, net_of}
+use Rattle.rules.specs.Sides.{other, leg_side, better}
+use Rattle.rules.specs.Nets.{stands, lot, leg_price, price_at, prices, known, weight, weight_at, weighed, net_of, betters}
 use Rattle.rules.specs.Valid.{FitLeg, FitOrder}
 use Rattle.rules.proofs.BetterNets.{price-most}
 use Rattle.ranges.specs.Most.{AtMost, table-most}
 use Rattle.ranges.specs.Fit.{FitLegs, fit-leg}
+
+-- whether a limit of a side betters the leg net of its own side, none where that net is unknown
+unfoldable pub betters_net : Bool → ℕ → ℕ → Option ℕ → Bool
+betters_net unknown side level net = option_map_or (λ (n : ℕ). better (other side) level n) net unknown
+
+-- .. by the rule, where an unknown net is 0
+pub betters-net : (unknown : Bool) (side level net : ℕ) → betters_net unknown side level (unless_zero net) ≡ betters unknown side level net
+unfolding betters_net betters
+betters-net unknown side level zero = sym (pick_true _ _ _ refl)
+betters-net unknown side level (suc n) = sym (pick-false _ _ _ (ne_eqb (suc n) 0 (λ z. omega arith)))
 
 -- whether an order stands in a series and side, by what the code tests: its series first, which differs most often
 module _ (s side : ℕ) (o : LegOrder) where
@@ -35,6 +50,40 @@ module _ (s side : ℕ) (o : LegOrder) where
       by : (t : Bool) → not t ≡ pick t false true
       by true = refl
       by false = refl
+
+-- two tests that agree at the first k slots
+pub all_same : (f g : ℕ → Bool) (k : ℕ) → ((i : ℕ) → i < k → f i ≡ g i) → all_n f k ≡ all_n g k
+unfolding all_n
+all_same f g zero h = refl
+all_same f g (suc k) h = cc (all_same f g k (λ i l. h i (omega arith)), h k (omega arith))
+
+-- a test of each of the first k slots of a list
+pub all-taken : {A : Type 0} (d : A) (p : A → Bool) (k : ℕ) (xs : List A) → k ≤ length xs → list_all p (take k xs) ≡ all_n (λ (i : ℕ). p (get_or xs i d)) k
+all-taken {A} d p k xs h =
+    all-slots d p (take k xs)
+    ∙ ap (all_n (λ (i : ℕ). p (get_or (take k xs) i d))) (length-take-le k xs h)
+    ∙ all_same _ _ k (λ i l. ap p (get_or-take k xs i d l))
+
+pub known-taken : (ps : List ℕ) (k : ℕ) → k ≤ length ps → list_all (λ (p : ℕ). ltb 0 p) (take k ps) ≡ known ps k
+unfolding known
+known-taken ps k h = all-taken 0 (λ (p : ℕ). ltb 0 p) k ps h
+
+-- the weight of a leg by its side
+module _ (side : ℕ) (l : Leg) (price : ℕ) where
+  pub weight-own : l.side ≡ side → l.ratio * price ≡ weight side l price
+  unfolding weight
+  weight-own e = rw (sym e) (by (eqb l.side 0))
+    where
+      by : (t : Bool) → l.ratio * price ≡ pick t (pick t (l.ratio * price) 0) (pick t 0 (l.ratio * price))
+      by true = sym (pick_true _ _ _ refl ∙ pick_true _ _ _ refl)
+      by false = sym (pick-false _ _ _ refl ∙ pick-false _ _ _ refl)
+
+  pub weight-other : l.side ≤ 1 → side ≤ 1 → ¬ (l.side ≡ side) → 0 ≡ weight side l price
+  unfolding weight
+  weight-other h k n =
+      pick-by (λ (x : ℕ). 0 ≡ x) _
+      (λ e. sym (pick-false _ _ _ (ne_eqb side 0 (λ z. n (eqb-true _ _ e ∙ sym z)))))
+      (λ e. let z : ¬ (l.side ≡ 0) = eqb-false _ _ e in sym (pick_true _ _ _ (eq-eqb side 0 (omega arith))))
 
 pub weight-fits : (r x : ℕ) → r ≤ 12 → x ≤ 99_999 → r * x ≤ 1_199_988
 weight-fits r x a b = mul-le-mul a b

@@ -1,5 +1,5 @@
 -- The turns of a pass: they shrink the state and keep its bounds, and none moves after one that stops.
-use Rattle.std.specs.Prelude.{◌≡◌, Bool, true, false, not, ◌⊎◌, List, ℕ, ◌+◌, ◌-◌, ◌≤◌, ◌<◌, eqb, ℤ}
+use Rattle.std.specs.Prelude.{◌≡◌, Bool, true, false, not, ◌⊎◌, List, ℕ, ◌+◌, ◌-◌, ◌≤◌, ◌<◌, eqb}
 use Rattle.std.proofs.Math.Path.{refl, sym, ap}
 use Rattle.std.proofs.Common.{◌∙◌, inl, inr, eqb-true, eq-eqb}
 use native.Mathlib.Omega.{arith}
@@ -16,11 +16,11 @@ use Rattle.rules.specs.declared.Allocation.TheVariants.{LegsOnly, Shared, ForSta
 use Rattle.rules.specs.declared.Bounds.{Bounds}
 use Rattle.rules.specs.declared.Turn.{Turn}
 use Rattle.rules.specs.declared.Turn.TheVariants.{Stop, ByLegs, AtLimit}
-use Rattle.rules.specs.State.{no_entry, no_strategy, no_nets, entry_at, strategy_at, strategy_of, with_entries, with_orders}
+use Rattle.rules.specs.State.{no_strategy, no_nets, entry_at, strategy_at, strategy_of, with_entries, with_orders}
 use Rattle.rules.specs.Sides.{meets, better}
 use Rattle.rules.specs.Nets.{prices, net_of, units_of}
 use Rattle.rules.specs.Moves.{still, each}
-use Rattle.rules.specs.Fills.{cut_entry, cut, leg_fill}
+use Rattle.rules.specs.Fills.{cut, leg_fill}
 use Rattle.rules.specs.National.{bounds_at, may_take, may_meet}
 use Rattle.rules.specs.Passes.{best_opposite, opposite, ready, ready_net, legs_first, meet_limit, turn_at, allowed, choice, turn_of, take_turn, turn, pass}
 use Rattle.rules.proofs.Control.{each-kept, turn-kept, shrinks-kept}
@@ -29,7 +29,7 @@ use Rattle.rules.proofs.Firsts.{better-turn}
 use Rattle.rules.proofs.Ends.{no-better-fails}
 use Rattle.rules.proofs.Choices.{apart, turn-sentence}
 use Rattle.rules.proofs.Shrinks.{Shrinks}
-use Rattle.rules.proofs.Gives.{cut_at, bounds-same}
+use Rattle.rules.proofs.Gives.{bounds-same}
 use Rattle.records.specs.Space.{Room}
 use Rattle.records.specs.Done.{Visited, RoomIn, DoneIn, done-of, visit-none, visit-moves, visit-room}
 use Rattle.ranges.specs.Fit.{Fit, fit-entry, fit-shrinks, fit-done}
@@ -38,7 +38,6 @@ use Rattle.nets.specs.declared.LegBests.{LegBests}
 use Rattle.nets.specs.Legs.{leg_bests, no_leg_bests, net_where, net_ready, net-where}
 use Rattle.stored_nets.specs.Stored.{net_for}
 use Rattle.stored_nets.specs.Laws.{net-stored}
-use Rattle.legging.specs.declared.AfterLegs.{AfterLegs}
 use Rattle.legging.specs.Legging.{records_by_legs, FilledByLegs}
 use Rattle.legging.specs.Legging as L
 use Rattle.records.specs.declared.Records.{Records}
@@ -290,17 +289,9 @@ module _ (way : Allocation) (legs : Bool) (a : ℕ) {k i : ℕ} {b₀ b : State}
     strategies = g.strategies;
   }
 
-  -- the end is as good as the next turn, where nothing of the entry f is left
-  turning-next : {f : Entry} → f ≡ entry_at b a → {r : ℕ} → r ≡ pick (eqb f.units 0) k i → Turning way legs a k b₀ r₀ r₁ b r
-  turning-next {f} p e =
-      rw e
-      (pick-by (Turning way legs a k b₀ r₀ r₁ b) (eqb f.units 0)
-      (λ z. turning-stops (sym (turn-none way legs a b (sym (ap (λ (x : Entry). x.units) p) ∙ eqb-true _ _ z))))
-      (λ z. g))
-
--- either way fewer turns are left
-pub next-less : (t : Bool) {i k r : ℕ} → i < k → r ≡ pick t k (i + 1) → k - r < k - i
-next-less t {i} {k} l e = rw e (pick_all (λ (x : ℕ). k - x < k - i) t (omega arith) (omega arith))
+  -- so does one where nothing of the entry is left
+  pub turning-ends : (entry_at b a).units ≡ 0 → Turning way legs a k b₀ r₀ r₁ b k
+  turning-ends e = turning-stops (sym (turn-none way legs a b e))
 
 module _ (way : Allocation) (legs : Bool) (a : ℕ) {k i : ℕ} {b₀ b : State} {r₀ r₁ : Records} (fit : Fit b₀) (g : Turning way legs a k b₀ r₀ r₁ b i) where
   -- the strategy of the active entry
@@ -376,31 +367,24 @@ module _ (way : Allocation) (legs : Bool) (a : ℕ) {k i : ℕ} {b₀ b : State}
   legs-room e l r = rw same-own at (L.legs-room a b (visit-room g.visited l (turn-legs way legs a b e) r))
 
   -- the leg orders left are in range
-  pub legs-fit : turn_of way legs a b ≡ ByLegs → {r₂ : Records} {t : AfterLegs} → FilledByLegs r₁ r₂ (entry_at b a) b.orders own → Fit (with_orders (cut b a t.units) t.rows)
+  pub legs-fit : turn_of way legs a b ≡ ByLegs → {r₂ : Records} {units : ℕ} {left : List LegOrder} → FilledByLegs r₁ r₂ units left (entry_at b a) b.orders own → Fit (with_orders (cut b a units) left)
   legs-fit e d =
       fit-done (L.legs-done a b (rw (sym same-own) at d)) (rw (turn-legs way legs a b e) at (turn-kept shrinks-kept way legs a i b turning-fit.order_rows)) turning-fit
 
-  pub turning-legs : turn_of way legs a b ≡ ByLegs → i < k → {r₂ : Records} {t : AfterLegs} → FilledByLegs r₁ r₂ (entry_at b a) b.orders own
-      → {f : Entry} → f ≡ cut_entry (entry_at b a) t.units → {r : ℕ} → r ≡ pick (eqb f.units 0) k (i + 1)
-      → Turning way legs a k b₀ r₀ r₂.count (with_orders (cut b a t.units) t.rows) r
+  pub turning-legs : turn_of way legs a b ≡ ByLegs → i < k → {r₂ : Records} {units : ℕ} {left : List LegOrder} → FilledByLegs r₁ r₂ units left (entry_at b a) b.orders own
+      → Turning way legs a k b₀ r₀ r₂ (with_orders (cut b a units) left) (i + 1)
   unfolding with_orders cut with_entries
-  turning-legs e l {t = t} d p q =
-      turning-next way legs a
-      (record { visited = visit-moves g.visited l (turn-legs way legs a b e) (L.legs-done a b (rw (sym same-own) at d)); strategies = g.strategies })
-      (p ∙ sym (cut_at b a t.units))
-      q
+  turning-legs e l d =
+      record { visited = visit-moves g.visited l (turn-legs way legs a b e) (L.legs-done a b (rw (sym same-own) at d)); strategies = g.strategies }
 
   pub limit-room : {level : ℕ} → turn_of way legs a b ≡ AtLimit level → i < k → Room r₀ (each (turn way legs a) k b₀).records → RoomIn (HasRows b.entries own a) (meet_limit way a level) r₁
   limit-room {level} e l r = record { book = b; held = turning-rows; room = visit-room g.visited l (turn-limit way legs a b level e) r }
 
   pub turning-limit : (rows : List Entry) {level : ℕ} → turn_of way legs a b ≡ AtLimit level → i < k → {r₂ : Records} → DoneIn (HasRows b.entries own a) (meet_limit way a level) r₁ r₂ (put_entries rows)
-      → {r : ℕ} → r ≡ pick (eqb (get_or rows a no_entry).units 0) k (i + 1) → Turning way legs a k b₀ r₀ r₂ (with_entries b rows) r
+      → Turning way legs a k b₀ r₀ r₂ (with_entries b rows) (i + 1)
   unfolding with_entries
-  turning-limit rows {level} e l d q =
-      turning-next way legs a
-      (record { visited = visit-moves g.visited l (turn-limit way legs a b level e) (d.done b turning-rows); strategies = g.strategies })
-      refl
-      q
+  turning-limit rows e l d =
+      record { visited = visit-moves g.visited l (turn-limit way legs a b _ e) (d.done b turning-rows); strategies = g.strategies }
 
 -- whether a turn stops, by what the calls have found
 pub stops-by : (e : Entry) (net : ℕ) (os : List LegOrder) (s : Strategy) (x : ℕ) {r : ℕ} {t : Turn} {p : LegBests} {y : Bool} → y ≡ stops_at t → t ≡ turn_at e x r → r ≡ net_where p → p ≡ legs_met e x net os s

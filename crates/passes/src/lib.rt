@@ -16,12 +16,12 @@ ghost use Rattle.nets.specs.Legs.{net_where};
 ghost use Rattle.stored_nets.specs.Stored.{net_for};
 ghost use Rattle.passes.specs.Passes.{stops_at, opposite_in, legs_met, turn_in};
 
-use fills::{AfterFills, cut_entry, give_for_starter, give_in_turn, give_shared};
+use fills::{cut_entry, give_for_starter, give_in_turn, give_shared};
 use legging::{leg_fill, nets_left};
 use national::{bounds, may_meet, may_take};
 use nets::{LegBests, NO_LEG_BESTS, leg_bests, ready_net};
 use quotas::best_opposite;
-use records::After;
+use records::Records;
 use rules::{Allocation, Bounds, Entry, LegNets, LegOrder, State, Strategy, Turn};
 use sides::{better, meets};
 use stored_nets::net_for;
@@ -125,22 +125,21 @@ fn turn_of(w: Bounds, e: Entry, x: u32, net: u32) -> Turn
 // The holders of a limit are met by entry a, of strategy s.
 fn meet_limit(
     way: Allocation,
-    es: [Entry; State::ROWS],
+    rows: &mut [Entry; State::ROWS],
     s: Strategy,
     a: usize,
     level: u32,
-    space: &mut [i32],
-    n: usize,
-) -> AfterFills
+    records: &mut Records,
+)
     requires a_lt_table_rows { a < table_rows }
-    requires room_in { RoomIn (HasRows es s a) (meet_limit way a level) space.old n }
-    ensures { DoneIn (HasRows es s a) (meet_limit way a level) space.old space.new n result.count (put_entries result.rows) }
+    requires room_in { RoomIn (HasRows rows.old s a) (meet_limit way a level) records.old }
+    ensures { DoneIn (HasRows rows.old s a) (meet_limit way a level) records.old records.new (put_entries rows.new) }
 {
     match way {
-        Allocation::LegsOnly => AfterFills { rows: es, count: n },
-        Allocation::Shared => give_shared(es, s, a, level, space, n),
-        Allocation::ForStarter => give_for_starter(es, s, a, level, space, n),
-        Allocation::Numbered => give_in_turn(es, s, a, level, 3, space, n),
+        Allocation::LegsOnly => {}
+        Allocation::Shared => give_shared(rows, s, a, level, records),
+        Allocation::ForStarter => give_for_starter(rows, s, a, level, records),
+        Allocation::Numbered => give_in_turn(rows, s, a, level, 3, records),
     }
 }
 
@@ -194,69 +193,34 @@ fn net_over(legs: bool, n: LegNets, side: u8) -> u32
     0
 }
 
-// What comes after turn i of so many: the next, or the end, where nothing of the entry is left.
-fn next_turn(g: Entry, i: u32, turns: u32) -> u32
-    requires { i < turns }
-    ensures { result ≡ pick (eqb g.units 0) turns (i + 1) }
+// A pass of entry a: turn after turn, each chosen anew, until one stops or nothing of the entry is left. There are no more than it has units.
+// No turn changes what bounds them, and only one by the legs the nets.
+pub fn pass(way: Allocation, legs: bool, b: &mut State, a: usize, records: &mut Records)
+    requires a_lt_table_rows { (a < table_rows) × Fit b.old }
+    requires room { Room records.old (pass way legs a b.old).records }
+    ensures { Done records.old records.new b.new (pass way legs a b.old) }
 {
-    if g.units == 0 {
-        return turns;
-    }
-    i + 1
-}
-
-// A pass of entry a: turn after turn, each chosen anew, until one stops. There are no more than it has units. No turn changes
-// what bounds them, and only one by the legs the nets.
-pub fn pass(way: Allocation, legs: bool, b: State, a: usize, space: &mut [i32], n: usize) -> After
-    requires a_lt_table_rows { (a < table_rows) × Fit b }
-    requires room { Room space.old n (pass way legs a b).records }
-    ensures { Done space.old space.new n result.count result.state (pass way legs a b) }
-{
-    let mut c = b;
-    let e = c.entries[a];
-    let units = e.units as u32;
+    let e = b.entries[a];
     let k = e.strategy as usize;
-    let s = c.strategies[k];
-    let qs = c.national;
-    let w = bounds(qs, c.range, s);
-    let mut m = n;
-    let mut i: u32 = 0;
-    while i < units {
-        let f = c.entries[a];
-        let es = c.entries;
-        let os = c.orders;
-        let held = c.nets[k];
-        let net = net_over(legs, held, f.side);
-        let x = opposite(way, es, f);
-        let p = legs_met(f, x, net, os, s);
+    let s = b.strategies[k];
+    let w = bounds(b.national, b.range, s);
+    for _ in 0..e.units {
+        let f = b.entries[a];
+        if f.units == 0 {
+            return;
+        }
+        let net = net_over(legs, b.nets[k], f.side);
+        let x = opposite(way, b.entries, f);
+        let p = legs_met(f, x, net, b.orders, s);
         let r = ready_net(p);
-        let t = turn_of(w, f, x, r);
-        match t {
-            Turn::Stop => {
-                i = units;
-            }
+        match turn_of(w, f, x, r) {
+            Turn::Stop => return,
             Turn::ByLegs => {
-                let y = leg_fill(f, p, os, s, space, m);
-                let rows = y.rows;
-                let ns = c.nets;
-                let ss = c.strategies;
-                let g = cut_entry(f, y.units);
-                let ps = p.prices;
-                c.orders = rows;
-                c.nets = nets_left(ns, ss, rows, f.side, s, ps);
-                c.entries[a] = g;
-                m = y.count;
-                i = next_turn(g, i, units);
+                let units = leg_fill(f, p, &mut b.orders, s, records);
+                nets_left(&mut b.nets, b.strategies, b.orders, f.side, s, p.prices);
+                b.entries[a] = cut_entry(f, units);
             }
-            Turn::AtLimit(level) => {
-                let y = meet_limit(way, es, s, a, level, space, m);
-                let rows = y.rows;
-                let g = rows[a];
-                c.entries = rows;
-                m = y.count;
-                i = next_turn(g, i, units);
-            }
+            Turn::AtLimit(level) => meet_limit(way, &mut b.entries, s, a, level, records),
         }
     }
-    After { state: c, count: m }
 }

@@ -1,5 +1,5 @@
 -- Bounds of sizes and quotas.
-use Rattle.std.specs.Prelude.{List, ℕ, ◌*◌, ◌≤◌, min, get_or}
+use Rattle.std.specs.Prelude.{◌≡◌, List, ℕ, ◌*◌, ◌≤◌, ◌<◌, min, get_or, length, sum}
 use Rattle.std.proofs.Math.Nat.{div-le_of_le-mul}
 use Rattle.std.proofs.Common.{mul-le-mul, mul-le-mul_right, arith}
 use Rattle.base.specs.Pick.{pick_all}
@@ -12,6 +12,7 @@ use Rattle.rules.specs.Passes.{holding, size_at, sizes}
 use Rattle.rules.specs.Valid.{FitEntry}
 use Rattle.ranges.specs.Most.{AtMost, table-most}
 use Rattle.ranges.specs.Fit.{fit-entry}
+use Rattle.quotas.specs.Laws.{sum-slots}
 
 pub portion-fits : (r x : ℕ) → r ≤ 9999 → x ≤ 9999 → r * x ≤ 99_980_001
 portion-fits r x a b = mul-le-mul a b
@@ -38,3 +39,7 @@ holding-most e level g f h =
 pub sizes-most : (es : List Entry) (e : Entry) (level g : ℕ) → All FitEntry es → AtMost 9999 (sizes es e level g)
 unfolding sizes
 sizes-most es e level g a = table-most (size_at es e level g) 9999 (λ i. holding-most e level g (get_or es i no_entry) (fit-entry a i)) 32
+
+-- the sum of a list of 32 within the bound
+pub sum-fits : (xs : List ℕ) → length xs ≡ 32 → AtMost 9999 xs → sum xs < 4_294_967_296
+sum-fits xs n a = rw (sum-slots xs n) (omega (arith, sum-le (slot xs) 9999 a.at 32))

@@ -1,10 +1,15 @@
 -- The rules of quotas, a slot at a time.
-use Rattle.std.specs.Prelude.{◌≡◌, List, ℕ, ◌+◌, ◌-◌, ◌≤◌, ◌<◌, min, eqb}
-use Rattle.std.proofs.Common.{sym}
+use Rattle.std.specs.Prelude.{◌≡◌, List, ℕ, zero, suc, ◌+◌, ◌-◌, ◌≤◌, ◌<◌, min, eqb, length, sum}
+use Rattle.std.specs.List.{fold}
+use Rattle.std.proofs.Common.{refl, sym, ◌∙◌, ap, None, Some}
 use native.Mathlib.Omega.{arith}
 use Rattle.std.proofs.lemmas.Bool.{lt-leb}
 use Rattle.base.specs.Pick.{pick-both, pick-false}
-use Rattle.base.specs.Walks.{sum_n, slot, table, sum_more}
+use Rattle.base.specs.Walks.{sum_n, slot, table, walk, sum_more}
+use Rattle.base.specs.Chains.{unless_zero, fold-walk, sum-by-slots}
+use Rattle.rules.specs.declared.Entry.{Entry}
+use Rattle.rules.specs.State.{no_entry}
+use Rattle.rules.specs.Passes.{limit_with, limit_step, best_opposite}
 use Rattle.rules.specs.Quotas.{in_turn_at, portion, portion_at, one_of, holder_at, shared_at, share}
 use Rattle.rules.proofs.Quotas.{portions-within, share-all}
 
@@ -39,3 +44,23 @@ module _ (r : ℕ) (xs : List ℕ) (t : ℕ) (is : t ≡ sum_n (slot xs) 32) whe
   pub share-parts : (n : ℕ) (qs : List ℕ) → r < t → n ≡ r - sum_n (portion_at r t xs) 32 → qs ≡ table (shared_at r t n xs) 32 → qs ≡ share r xs
   unfolding share
   share-parts n qs h s q = let f : r < sum_n (slot xs) 32 = omega arith in rw (q, s, is) (sym (pick-false _ _ _ (lt-leb _ _ f)))
+
+-- the best opposite limit by a fold over the table
+module _ (es : List Entry) (e : Entry) (n : length es ≡ 32) where
+  best-by-fold : (x : ℕ) → x ≡ fold (limit_with e) 0 es → x ≡ best_opposite es e
+  unfolding best_opposite
+  best-by-fold x h = h ∙ fold-walk no_entry (limit_with e) 0 es ∙ ap (walk (limit_step es e) 0) n
+
+  pub limit-none : (x : ℕ) → x ≡ fold (limit_with e) 0 es → x ≡ 0 → None ≡ unless_zero (best_opposite es e)
+  limit-none x h z = rw (sym (best-by-fold x h), z) refl
+
+  pub limit-some : (x : ℕ) → x ≡ fold (limit_with e) 0 es → ¬ (x ≡ 0) → Some x ≡ unless_zero (best_opposite es e)
+  limit-some x h z = rw (sym (best-by-fold x h)) (kept x z)
+    where
+      kept : (y : ℕ) → ¬ (y ≡ 0) → Some y ≡ unless_zero y
+      kept zero w = absurd (w refl)
+      kept (suc y) w = refl
+
+-- the sum of a list of 32
+pub sum-slots : (xs : List ℕ) → length xs ≡ 32 → sum xs ≡ sum_n (slot xs) 32
+sum-slots xs n = sum-by-slots 0 (λ (x : ℕ). x) xs ∙ ap (sum_n (slot xs)) n

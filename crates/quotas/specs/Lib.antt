@@ -1,2 +1,4 @@
 pub mod Bounds
+pub mod Groups
 pub mod Laws
+pub mod Maps

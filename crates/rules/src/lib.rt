@@ -2,7 +2,7 @@
 #![tactic(auto)]
 
 // One leg of a strategy. Its side is 0 where a buyer of the strategy buys the series, 1 where he sells it.
-#[derive(Clone, Copy)]
+#[derive(Clone, Copy, PartialEq, Eq)]
 pub struct Leg {
     pub series: u8,
     pub side: u8,

@@ -13,11 +13,7 @@ use rules::{Entry, State, Strategy};
 pub fn has(x: u32, s: u8) -> bool
     ensures { result ≡ has x s }
 {
-    if 31 < s {
-        return false;
-    }
-    let y = (x >> s as u32) % 2;
-    y == 1
+    s < 32 && (x >> s as u32) % 2 == 1
 }
 
 // Whether a series is open.
@@ -45,8 +41,7 @@ fn shut_in(t: Strategy, opened: u32) -> u32
 pub fn none_shut(t: Strategy, opened: u32) -> bool
     ensures { result ≡ eqb (minus t.series opened) 0 }
 {
-    let shut = shut_in(t, opened);
-    shut == 0
+    shut_in(t, opened) == 0
 }
 
 // The shut legs of strategy k, as a set of series.
@@ -54,8 +49,7 @@ pub fn shut_set(b: State, k: usize) -> u32
     requires { k < strategy_slots }
     ensures { result ≡ shut_set b k }
 {
-    let t = b.strategies[k];
-    shut_in(t, b.opened)
+    shut_in(b.strategies[k], b.opened)
 }
 
 // Whether an auction runs in a strategy.
@@ -70,17 +64,12 @@ pub fn running(b: State, k: usize) -> bool
     requires { k < strategy_slots }
     ensures { result ≡ running b k }
 {
-    let s = b.strategies[k];
-    runs(s)
+    runs(b.strategies[k])
 }
 
 // Whether an entry is live and of strategy k.
 pub fn live_in(k: usize, e: Entry) -> bool
     ensures { result ≡ live_in k e }
 {
-    if e.units == 0 {
-        return false;
-    }
-    let s = e.strategy as usize;
-    s == k
+    e.units != 0 && e.strategy as usize == k
 }

@@ -1,14 +1,17 @@
 -- The place of a series among the legs of a strategy: legs stand by rising series, so one leg at most has it.
-use Rattle.std.specs.Prelude.{◌≡◌, ◌⊎◌, false, get_or}
-use Rattle.std.proofs.Math.Path.{sym, ap}
-use Rattle.std.proofs.Common.{◌∙◌, arith}
+use Rattle.std.specs.Prelude.{◌≡◌, ◌⊎◌, List, [], ◌∷◌, zero, suc, false, true, eqb, get_or, length, take, Option}
+use Rattle.std.specs.List.{find}
+use Rattle.std.specs.Option.{option_map}
+use Rattle.std.proofs.Math.Path.{sym, refl}
+use Rattle.std.proofs.Common.{◌∙◌, arith, cond, None, Some}
 use Rattle.std.proofs.Math.Logic.{inl, inr, ⊎_elim}
 use Rattle.std.proofs.Math.Bool.{Bool}
 use Prim.Native.Nat.{ℕ, ◌≤◌, ◌<◌}
+use Rattle.std.proofs.Math.Dec.{eqb-suc-suc}
 use borrow.Author.Tests.{eqb-true, eqb-false, eq-eqb, ne_eqb}
-use Rattle.base.specs.Pick.{pick_all, pick_true, pick-false}
+use Rattle.base.specs.Pick.{pick, pick-by, pick_true, pick-false}
 use Rattle.base.specs.Sets.{has}
-use Rattle.base.specs.Walks.{first_n, first_holds, first-before, first-le, Passed, passed_here, passed-all, clash, lt-or-le}
+use Rattle.base.specs.Walks.{first_n, first_step, first_holds, first-before, first-le, clash, lt-or-le}
 use Rattle.rules.specs.declared.Leg.{Leg}
 use Rattle.rules.specs.declared.Strategy.{Strategy}
 use Rattle.rules.specs.Rows.{no_leg}
@@ -24,30 +27,47 @@ leg_in t i = get_or t.legs i no_leg
 pub record Found (t : Strategy) (s i : ℕ) : Type 0 where
   pub below : i < t.count
   pub series : (leg_in t i).series ≡ s
-  pub leg : leg_of t s ≡ leg_in t i
+  pub leg : leg_of t s ≡ Some (leg_in t i)
   pub others : (j : ℕ) → j < t.count → ¬ (j ≡ i) → ¬ ((leg_in t j).series ≡ s)
 
 -- no leg has it
 pub record Missing (t : Strategy) (s : ℕ) : Type 0 where
-  pub leg : leg_of t s ≡ no_leg
+  pub leg : leg_of t s ≡ None
   pub others : (j : ℕ) → j < t.count → ¬ ((leg_in t j).series ≡ s)
 
--- by what a walk over the legs has passed
-module _ (t : Strategy) (s : ℕ) where
-  pub leg-found : {i : ℕ} {l : Leg} → Passed (in_series t.legs s) i → i < t.count → l ≡ leg_in t i → l.series ≡ s → l ≡ leg_of t s
-  unfolding leg_of place_of
-  leg-found {i} {l} p h e g =
-      let q : i ≡ first_n (in_series t.legs s) t.count = passed_here (in_series t.legs s) i t.count p h (eq-eqb (leg_in t i).series s (ap (λ (x : Leg). x.series) (sym e) ∙ g)) in
-      e ∙ ap (leg_in t) q ∙ sym (pick-false _ _ _ (ne_eqb (first_n (in_series t.legs s) t.count) t.count (λ z. omega arith)))
+-- the first of the first k elements that pass a test
+module _ {A : Type 0} (d : A) (p : A → Bool) where
+  abbrev at : List A → ℕ → Bool
+  at xs i = p (get_or xs i d)
 
-  pub leg-missing : {i : ℕ} → Passed (in_series t.legs s) i → i ≡ t.count → no_leg ≡ leg_of t s
-  unfolding leg_of place_of
-  leg-missing {i} p h = sym (pick_true _ _ _ (eq-eqb (first_n (in_series t.legs s) t.count) t.count (sym (passed-all (in_series t.legs s) i t.count p h))))
+  abbrev first_at : List A → ℕ → Option A
+  first_at xs k = pick (eqb (first_n (at xs) k) k) None (Some (get_or xs (first_n (at xs) k) d))
+
+  next : (t : Bool) (x : A) (xs : List A) (n k : ℕ)
+      → cond t (Some x) (pick (eqb n k) None (Some (get_or xs n d))) ≡ pick (eqb (pick t 0 (suc n)) (suc k)) None (Some (get_or (x ∷ xs) (pick t 0 (suc n)) d))
+  unfolding pick
+  next true x xs n k = rw (ne_eqb 0 (suc k) (λ z. omega arith)) refl
+  next false x xs n k = rw (eqb-suc-suc n k) refl
+
+  pub find-taken : (k : ℕ) (xs : List A) → k ≤ length xs → find p (take k xs) ≡ first_at xs k
+  unfolding first_n
+  find-taken zero xs h = sym (pick_true _ _ _ refl)
+  find-taken (suc k) [] h = absurd (omega arith)
+  find-taken (suc k) (x ∷ xs) h = rw (first_step (at (x ∷ xs)) k, find-taken k xs (omega arith)) (next (p x) x xs (first_n (at xs) k) k)
+
+map-same : {A : Type 0} (r : Option A) → option_map (λ (x : A). x) r ≡ r
+map-same None = refl
+map-same (Some x) = refl
+
+-- the leg that a search over the legs in use finds
+pub leg-found : (t : Strategy) (s : ℕ) {r : Option Leg} → t.count ≤ length t.legs → option_map (λ (l : Leg). l) r ≡ find (λ (l : Leg). eqb l.series s) (take t.count t.legs) → r ≡ leg_of t s
+unfolding leg_of place_of
+leg-found t s {r} h e = sym (map-same r) ∙ e ∙ find-taken no_leg (λ (l : Leg). eqb l.series s) t.count t.legs h
 
 -- its range
-pub leg-ratio : (t : Strategy) (s : ℕ) {l : Leg} → FitLegs t → l ≡ leg_of t s → l.ratio ≤ 12
+pub leg-ratio : (t : Strategy) (s : ℕ) {l : Leg} → FitLegs t → Some l ≡ leg_of t s → l.ratio ≤ 12
 unfolding leg_of
-leg-ratio t s f e = rw e (pick_all (λ (x : Leg). x.ratio ≤ 12) _ (omega arith) (fit-leg f.legs _).ratio)
+leg-ratio t s {l} f e = pick-by (λ (x : Option Leg). Some l ≡ x → l.ratio ≤ 12) _ (λ _ z. absurd (cc)) (λ _ z. let q : l ≡ get_or t.legs (place_of t.legs t.count s) no_leg = cc in rw q (fit-leg f.legs _).ratio) e
 
 -- a leg of that series or none
 module _ (t : Strategy) (fit : FitLegs t) (s : ℕ) where
@@ -58,9 +78,9 @@ module _ (t : Strategy) (fit : FitLegs t) (s : ℕ) where
       (λ (l : j ≤ i). omega (arith, fit.rising j i (omega arith) h))
       (lt-or-le i j)
 
-  pub find : Found t s (place_of t.legs t.count s) ⊎ Missing t s
+  pub leg-or-none : Found t s (place_of t.legs t.count s) ⊎ Missing t s
   unfolding place_of leg_of
-  find =
+  leg-or-none =
       let f : ℕ → Bool = in_series t.legs s in
       let i : ℕ = first_n f t.count in
       ⊎_elim

@@ -1,7 +1,8 @@
 -- The stored nets after one best price changed: those that take it are moved, or found anew, and the others stay.
 use Rattle.std.specs.Prelude.{◌≡◌, Bool, true, false, eqb, length, set}
 use Rattle.std.proofs.Math.Path.{refl, sym, ap}
-use Rattle.std.proofs.Common.{◌∙◌, eqb-true, ne_eqb}
+use Rattle.std.proofs.Common.{◌∙◌, eqb-true, ne_eqb, None, Some}
+use Rattle.std.specs.Option.{option_map_or}
 use Rattle.std.proofs.Math.Logic.{⊎_elim}
 use mathlib.Core.List.{List}
 use Prim.Native.Nat.{ℕ, ◌+◌, ◌≤◌, ◌<◌}
@@ -25,9 +26,9 @@ use Rattle.rules.proofs.Laws.{side-is, other-other, other-buy, other-sell}
 use Rattle.rules.proofs.Nets.{table_same}
 use Rattle.rules.proofs.BetterNets.{price-most}
 use Rattle.ranges.specs.Fit.{FitLegs, fit-leg, fit-legs}
-use Rattle.stored_nets.specs.Stored.{Prices, with_price, leg_prices, nets_by, all_nets_by, leg_of, net_moved, nets_moved, moved_at, all_moved, nets_anew, anew_at, all_anew, Refreshed}
+use Rattle.stored_nets.specs.Stored.{Prices, with_price, leg_prices, nets_by, all_nets_by, leg_of, by_leg, net_moved, nets_moved, moved_at, all_moved, nets_anew, anew_at, all_anew, Refreshed}
 use Rattle.stored_nets.specs.Laws.{with-price-at, with-price-other, with-price-is, with-price-most, all-nets-ext, all-nets-at}
-use Rattle.stored_nets.specs.Places.{leg_in, Found, Missing, find, not-held}
+use Rattle.stored_nets.specs.Places.{leg_in, Found, Missing, leg-or-none, not-held}
 use Rattle.stored_nets.specs.Moves.{net-kept, net-change}
 
 -- the price that a party of that side meets on the leg at place j
@@ -112,18 +113,14 @@ module _ (t : Strategy) (fit : FitLegs t) (f : Prices) (s d q : ℕ) where
     abbrev l : Leg
     l = leg_in t i
 
-    used : eqb l.ratio 0 ≡ false
-    used = ne_eqb l.ratio 0 (λ z. omega (arith, fit.used i at.below))
-
     -- which of the two takes it, and what becomes of both; b and a are the new bid and offer net
     module _ (two : d ≤ 1) (b a : ℕ) (takes : other (leg_side 1 l) ≡ d → net_of t (leg_prices new 1 t.legs) ≡ b) (gives : other (leg_side 0 l) ≡ d → net_of t (leg_prices new 0 t.legs) ≡ a) where
-      pub nets-become : nets_by new t ≡ pick (eqb l.ratio 0) (nets_by f t) (pick (eqb l.side d) (record { bid = b; offer = (nets_by f t).offer }) (record { bid = (nets_by f t).bid; offer = a }))
+      pub nets-become : nets_by new t ≡ pick (eqb l.side d) (record { bid = b; offer = (nets_by f t).offer }) (record { bid = (nets_by f t).bid; offer = a })
       nets-become =
           let c : 0 < t.count = omega (arith, at.below) in
           let side : l.side ≤ 1 = (fit-leg fit.legs i).side in
           nets-some new c
-          ∙ sym (pick-false _ _ _ used
-          ∙ rw (nets-some f c)
+          ∙ sym (rw (nets-some f c)
           (pick-by (λ (n : LegNets). n ≡ record { bid = net_of t (leg_prices new 1 t.legs); offer = net_of t (leg_prices new 0 t.legs) }) (eqb l.side d)
           (λ z.
           let e : l.side ≡ d = eqb-true l.side d z in
@@ -135,7 +132,7 @@ module _ (t : Strategy) (fit : FitLegs t) (f : Prices) (s d q : ℕ) where
           rw (gives (offer-side l ∙ other-not l.side d side two e), net-stays 1 n))))
 
   -- the price was there
-  pub nets-moves : (few : (x e : ℕ) → f x e ≤ 99_999) → q ≤ 99_999 → d ≤ 1 → {p : ℕ} → f s d ≡ p → 0 < p → nets_by new t ≡ nets_moved (nets_by f t) (leg_of t s) d p q
+  pub nets-moves : (few : (x e : ℕ) → f x e ≤ 99_999) → q ≤ 99_999 → d ≤ 1 → {p : ℕ} → f s d ≡ p → 0 < p → nets_by new t ≡ option_map_or (λ (l : Leg). nets_moved (nets_by f t) l d p q) (leg_of t s) (nets_by f t)
   unfolding nets_moved
   nets-moves few h two {p} e some =
       ⊎_elim
@@ -146,18 +143,18 @@ module _ (t : Strategy) (fit : FitLegs t) (f : Prices) (s d q : ℕ) where
       nets-become i at two _ _
       (λ z. net-moves i at few h o 1 z ∙ rw (nets-some f (omega (arith, at.below))) refl)
       (λ z. net-moves i at few h o 0 z ∙ rw (nets-some f (omega (arith, at.below))) refl)))
-      (λ (m : Missing t s). rw m.leg (sym (nets-stay m.others) ∙ sym (pick_true _ _ _ refl)))
-      (find t fit s)
+      (λ (m : Missing t s). rw m.leg (sym (nets-stay m.others)))
+      (leg-or-none t fit s)
 
   -- the prices are now those of the leg orders
-  pub nets-anew : (os : List LegOrder) → d ≤ 1 → ((x e : ℕ) → new x e ≡ price_of os x e) → nets_by new t ≡ nets_anew (nets_by f t) t (leg_of t s) d os
+  pub nets-anew : (os : List LegOrder) → d ≤ 1 → ((x e : ℕ) → new x e ≡ price_of os x e) → nets_by new t ≡ option_map_or (λ (l : Leg). nets_anew (nets_by f t) t l d os) (leg_of t s) (nets_by f t)
   unfolding nets_anew
   nets-anew os two e =
       let by : (side : ℕ) → net_of t (leg_prices new side t.legs) ≡ net_of t (prices os side t.legs) = λ side. ap (net_of t) (prices-are os new e side t.legs) in
       ⊎_elim
       (λ (at : Found t s (place_of t.legs t.count s)). rw at.leg (nets-become (place_of t.legs t.count s) at two _ _ (λ _. by 1) (λ _. by 0)))
-      (λ (m : Missing t s). rw m.leg (sym (nets-stay m.others) ∙ sym (pick_true _ _ _ refl)))
-      (find t fit s)
+      (λ (m : Missing t s). rw m.leg (sym (nets-stay m.others)))
+      (leg-or-none t fit s)
 
 -- ALL 16
 
@@ -217,10 +214,10 @@ module _ (f : ℕ → LegNets) (ns : List LegNets) where
   pub step-last : {i : ℕ} {ms : List LegNets} → length ns ≡ 16 → i ≡ 16 → ms ≡ seam f ns i → ms ≡ table f 16
   step-last n h g = rw (g, h) (seam-last f ns 16 (omega arith))
 
--- the strategy at slot k holds the series
-module _ (ns : List LegNets) (ss : List Strategy) (s d k : ℕ) (holds : has (get_or ss k no_strategy).series s ≡ true) {l : Leg} (leg : l ≡ leg_of (get_or ss k no_strategy) s) {x : LegNets} where
-  pub moved_here : (p q : ℕ) → x ≡ nets_moved (get_or ns k no_nets) l d p q → x ≡ moved_at ns ss s d p q k
-  moved_here p q e = e ∙ rw leg (sym (pick_true _ _ _ holds))
+-- one strategy, by what the code tests
+module _ (t : Strategy) (s : ℕ) (n : LegNets) (f : Leg → LegNets) where
+  pub held-found : {l : Leg} → has t.series s ≡ true → Some l ≡ leg_of t s → f l ≡ by_leg t s n f
+  held-found h e = rw (sym e) (sym (pick_true _ _ _ h))
 
-  pub anew-here : (os : List LegOrder) → x ≡ nets_anew (get_or ns k no_nets) (get_or ss k no_strategy) l d os → x ≡ anew_at ns ss os s d k
-  anew-here os e = e ∙ rw leg (sym (pick_true _ _ _ holds))
+  pub held-missing : has t.series s ≡ true → None ≡ leg_of t s → by_leg t s n f ≡ n
+  held-missing h e = rw (sym e) (pick_true _ _ _ h)

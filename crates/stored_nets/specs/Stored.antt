@@ -1,5 +1,7 @@
 -- Stored nets by best prices: those of any prices by series and side, and what they become where one price changes.
-use Rattle.std.specs.Prelude.{◌≡◌, List, ℕ, ◌+◌, ◌-◌, ◌*◌, ◌≤◌, eqb, get_or}
+use Rattle.std.specs.Prelude.{◌≡◌, List, ℕ, ◌+◌, ◌-◌, ◌*◌, ◌≤◌, eqb, get_or, Option}
+use Rattle.std.specs.Option.{option_map_or}
+use Rattle.std.proofs.Common.{None, Some}
 use Rattle.base.specs.Pick.{pick, both}
 use Rattle.base.specs.Walks.{table}
 use Rattle.base.specs.Sets.{has}
@@ -42,9 +44,13 @@ pub record FitNets (n : LegNets) : Type 0 where
 unfoldable pub net_for : LegNets → ℕ → ℕ
 net_for n side = pick (eqb side 0) n.offer n.bid
 
--- the leg of a series, an empty one where there is none
-unfoldable pub leg_of : Strategy → ℕ → Leg
-leg_of t s = pick (eqb (place_of t.legs t.count s) t.count) no_leg (get_or t.legs (place_of t.legs t.count s) no_leg)
+-- the leg of a series
+unfoldable pub leg_of : Strategy → ℕ → Option Leg
+leg_of t s = pick (eqb (place_of t.legs t.count s) t.count) None (Some (get_or t.legs (place_of t.legs t.count s) no_leg))
+
+-- what becomes of the nets n of a strategy by its leg of series s, if it holds that
+abbrev pub by_leg : Strategy → ℕ → LegNets → (Leg → LegNets) → LegNets
+by_leg t s n f = pick (has t.series s) (option_map_or f (leg_of t s) n) n
 
 -- a net after the price of leg l in it, which was there, went from p to q
 unfoldable pub net_moved : ℕ → Leg → ℕ → ℕ → ℕ
@@ -54,15 +60,14 @@ net_moved net l p q =
     (pick (eqb l.side 0) (net + l.ratio * q - l.ratio * p) (net + l.ratio * p - l.ratio * q)))
 
 -- both nets after the price of leg l on that side, which was there, went from p to q. The bid net takes a leg's price on the leg's own side, the offer
--- net on the other side, so one of them moves; an empty leg moves none
+-- net on the other side, so one of them moves
 unfoldable pub nets_moved : LegNets → Leg → ℕ → ℕ → ℕ → LegNets
 nets_moved n l side p q =
-    pick (eqb l.ratio 0) n
-    (pick (eqb l.side side) (record { bid = net_moved n.bid l p q; offer = n.offer }) (record { bid = n.bid; offer = net_moved n.offer l p q }))
+    pick (eqb l.side side) (record { bid = net_moved n.bid l p q; offer = n.offer }) (record { bid = n.bid; offer = net_moved n.offer l p q })
 
 -- .. of the strategy at slot k, if it holds series s
 abbrev pub moved_at : List LegNets → List Strategy → ℕ → ℕ → ℕ → ℕ → ℕ → LegNets
-moved_at ns ss s side p q k = pick (has (get_or ss k no_strategy).series s) (nets_moved (get_or ns k no_nets) (leg_of (get_or ss k no_strategy) s) side p q) (get_or ns k no_nets)
+moved_at ns ss s side p q k = by_leg (get_or ss k no_strategy) s (get_or ns k no_nets) (λ (l : Leg). nets_moved (get_or ns k no_nets) l side p q)
 
 -- .. of each of the 16
 unfoldable pub all_moved : List LegNets → List Strategy → ℕ → ℕ → ℕ → ℕ → List LegNets
@@ -71,12 +76,11 @@ all_moved ns ss s side p q = table (moved_at ns ss s side p q) strategy_slots
 -- both nets of strategy t, of which the one that takes the price of leg l on that side is that of these leg orders
 unfoldable pub nets_anew : LegNets → Strategy → Leg → ℕ → List LegOrder → LegNets
 nets_anew n t l side os =
-    pick (eqb l.ratio 0) n
-    (pick (eqb l.side side) (record { bid = net_of t (prices os 1 t.legs); offer = n.offer }) (record { bid = n.bid; offer = net_of t (prices os 0 t.legs) }))
+    pick (eqb l.side side) (record { bid = net_of t (prices os 1 t.legs); offer = n.offer }) (record { bid = n.bid; offer = net_of t (prices os 0 t.legs) })
 
 -- .. of the strategy at slot k, if it holds series s
 abbrev pub anew_at : List LegNets → List Strategy → List LegOrder → ℕ → ℕ → ℕ → LegNets
-anew_at ns ss os s side k = pick (has (get_or ss k no_strategy).series s) (nets_anew (get_or ns k no_nets) (get_or ss k no_strategy) (leg_of (get_or ss k no_strategy) s) side os) (get_or ns k no_nets)
+anew_at ns ss os s side k = by_leg (get_or ss k no_strategy) s (get_or ns k no_nets) (λ (l : Leg). nets_anew (get_or ns k no_nets) (get_or ss k no_strategy) l side os)
 
 -- .. of each of the 16
 unfoldable pub all_anew : List LegNets → List Strategy → List LegOrder → ℕ → ℕ → List LegNets

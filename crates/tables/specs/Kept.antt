@@ -1,5 +1,5 @@
 -- The live rows of a table in their order, as a loop over it finds them.
-use Rattle.std.specs.Prelude.{◌≡◌, Bool, true, false, get_or, take, replicate}
+use Rattle.std.specs.Prelude.{◌≡◌, Bool, true, false, cond, count_by, get_or, take, replicate}
 use Rattle.std.proofs.Math.Path.{refl, sym, ap}
 use Rattle.std.proofs.Common.{◌∙◌, add-one, length-take, take-suc, take_all}
 use mathlib.Core.List.{List, [], ◌∷◌, ◌++◌, append-nil}
@@ -7,7 +7,8 @@ use Prim.Native.Nat.{ℕ, suc, ◌+◌, ◌≤◌, ◌<◌}
 use native.Mathlib.Omega.{arith}
 use Rattle.std.proofs.Math.ListN.{length, length-append}
 use Rattle.std.proofs.Math.Seq.{take_at, append_snoc}
-use Rattle.base.specs.Pick.{pick_all, pick-ap, pick_true, pick-false}
+use Rattle.std.proofs.lemmas.List.Recursion.{is_count_by}
+use Rattle.base.specs.Pick.{pick, pick_all, pick-ap, pick_true, pick-false}
 use Rattle.rules.specs.Events.{keep, behind}
 use Rattle.tables.specs.Padded.{pad_to, pad-take, pad-full}
 
@@ -21,6 +22,15 @@ module _ {A : Type 0} (test : A → Bool) where
   unfolding keep
   keep-length [] = omega arith
   keep-length (x ∷ xs) = let h = keep-length xs in pick_all (λ (l : List A). length l ≤ suc (length xs)) _ (omega arith) (omega arith)
+
+  -- how many they are, as `filter` and `count` say it
+  pub kept-count : (xs : List A) → count_by test xs ≡ length (keep test xs)
+  unfolding keep pick
+  kept-count xs = sym (is_count_by (λ (ys : List A). length (keep test ys)) test refl (λ x ys. by (test x) x (keep test ys)) xs)
+    where
+      by : (t : Bool) (x : A) (ys : List A) → length (pick t (x ∷ ys) ys) ≡ cond t (1 + length ys) (length ys)
+      by true x ys = omega arith
+      by false x ys = refl
 
   -- one row more
   module _ (d : A) (xs : List A) (i : ℕ) (h : i < length xs) where

@@ -17,7 +17,7 @@ pub record Packing {A : Type 0} (test : A → Bool) (d : A) (xs : List A) (i : �
   pub counted : Counted test xs i n
 
 module _ {A : Type 0} (test : A → Bool) (d : A) (xs : List A) where
-  pub counted-first : length xs ≡ 32 → Counted test xs 0 0
+  counted-first : length xs ≡ 32 → Counted test xs 0 0
   unfolding keep
   counted-first l = record { size = l; count = refl }
 
@@ -29,22 +29,22 @@ module _ {A : Type 0} (test : A → Bool) (d : A) (xs : List A) where
     within : Counted test xs i n → i < length xs
     within g = omega (arith, g.size)
 
-    pub counted-more : test (get_or xs i d) ≡ true → Counted test xs i n → Counted test xs (i + 1) (n + 1)
-    counted-more t g = record { size = g.size; count = rw (keep-more test d xs i (within g) t, length-append) (omega (arith, g.count)) }
+    counted-more : (e : A) → test (get_or xs i e) ≡ true → Counted test xs i n → Counted test xs (i + 1) (n + 1)
+    counted-more e t g = record { size = g.size; count = rw (keep-more test e xs i (within g) t, length-append) (omega (arith, g.count)) }
 
-    pub counted_skip : test (get_or xs i d) ≡ false → Counted test xs i n → Counted test xs (i + 1) n
-    counted_skip t g = record { size = g.size; count = rw (keep-skip test d xs i (within g) t) g.count }
+    counted_skip : (e : A) → test (get_or xs i e) ≡ false → Counted test xs i n → Counted test xs (i + 1) n
+    counted_skip e t g = record { size = g.size; count = rw (keep-skip test e xs i (within g) t) g.count }
 
-    pub packing-more : {ys : List A} → test (get_or xs i d) ≡ true → Packing test d xs i ys n → Packing test d xs (i + 1) (set ys n (get_or xs i d)) (n + 1)
-    packing-more t g =
+    pub packing-more : (e : A) {ys : List A} → test (get_or xs i e) ≡ true → Packing test d xs i ys n → Packing test d xs (i + 1) (set ys n (get_or xs i e)) (n + 1)
+    packing-more e t g =
         let k = g.counted in
         record {
-          rows = rw (keep-more test d xs i (within k) t, g.rows, k.count) (pad-set d 32 (keep test (take i xs)) (get_or xs i d) (omega (arith, k.size, keep-room test d xs i (within k))));
-          counted = counted-more t k;
+          rows = rw (keep-more test e xs i (within k) t, g.rows, k.count) (pad-set d 32 (keep test (take i xs)) (get_or xs i e) (omega (arith, k.size, keep-room test d xs i (within k))));
+          counted = counted-more e t k;
         }
 
-    pub packing-skip : {ys : List A} → test (get_or xs i d) ≡ false → Packing test d xs i ys n → Packing test d xs (i + 1) ys n
-    packing-skip t g = record { rows = rw (keep-skip test d xs i (within g.counted) t) g.rows; counted = counted_skip t g.counted }
+    pub packing-skip : (e : A) {ys : List A} → test (get_or xs i e) ≡ false → Packing test d xs i ys n → Packing test d xs (i + 1) ys n
+    packing-skip e t g = record { rows = rw (keep-skip test e xs i (within g.counted) t) g.rows; counted = counted_skip e t g.counted }
 
   module _ (i : ℕ) (h : 32 ≤ i) {n : ℕ} where
     all : Counted test xs i n → keep test (take i xs) ≡ keep test xs

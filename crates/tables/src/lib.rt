@@ -1,8 +1,10 @@
-// Empty rows of the tables, and the state of a fresh book; laws of tables stand in specs/.
+// Rows of the tables: empty ones, the live ones and one more behind them; and the state of a fresh book. Laws of tables
+// stand in specs/.
 #![tactic(auto)]
 
-ghost use Rattle.std.specs.Prelude.{◌≡◌};
-ghost use Rattle.rules.specs.State.{fresh, free_strategy};
+ghost use Rattle.std.specs.Prelude.{◌≡◌, Bool, length};
+ghost use Rattle.rules.specs.State.{fresh, free_strategy, no_entry, no_order};
+ghost use Rattle.rules.specs.Events.{live, live_order, keep, behind};
 
 use rules::{Entry, Leg, LegNets, LegOrder, Quote, Specialist, State, Strategy};
 
@@ -74,4 +76,79 @@ pub fn fresh(timer: u32) -> State
         national: [NO_QUOTE; State::SERIES],
         range: 9999,
     }
+}
+
+// A row of a table of complex orders and sweeps, or of leg orders: empty, or live.
+pub trait Row: Copy {
+    ghost test: { Self → Bool };
+
+    ghost none: { Self };
+
+    fn is_live(&self) -> bool
+        ensures { result ≡ test self.now };
+
+    fn empty() -> Self
+        ensures { result ≡ none };
+}
+
+impl Row for Entry {
+    ghost test = { live };
+
+    ghost none = { no_entry };
+
+    #[tactic(auto, unfolding(rules::specs::Events::live))]
+    fn is_live(&self) -> bool {
+        self.units != 0
+    }
+
+    fn empty() -> Entry {
+        NO_ENTRY
+    }
+}
+
+impl Row for LegOrder {
+    ghost test = { live_order };
+
+    ghost none = { no_order };
+
+    #[tactic(auto, unfolding(rules::specs::Events::live_order))]
+    fn is_live(&self) -> bool {
+        self.contracts != 0
+    }
+
+    fn empty() -> LegOrder {
+        NO_ORDER
+    }
+}
+
+// The number of live rows.
+pub fn count<T: Row>(xs: [T; State::ROWS]) -> usize
+    ensures { result ≡ length (keep T.test xs) }
+{
+    xs.iter().filter(|x| x.is_live()).count()
+}
+
+// A table with a new row, and the slot of it.
+#[derive(Clone, Copy)]
+pub struct Inserted<T> {
+    pub rows: [T; State::ROWS],
+    pub slot: usize,
+}
+
+// The live rows in front, in their order, and one more behind them, if a slot is free.
+pub fn insert<T: Row>(xs: [T; State::ROWS], x: T) -> Inserted<T>
+    ensures { (result.rows ≡ behind T.test T.none x xs) × (result.slot ≡ length (keep T.test xs)) }
+{
+    let mut rows = [T::empty(); State::ROWS];
+    let mut n = 0;
+    for y in &xs {
+        if y.is_live() {
+            rows[n] = *y;
+            n += 1;
+        }
+    }
+    if n < State::ROWS {
+        rows[n] = x;
+    }
+    Inserted { rows, slot: n }
 }

@@ -1,25 +1,32 @@
-use Rattle.matching.specs.Places.{passing-first, passing-fit, passing-fits, passing-room, passing-next, passing-less, passing-all}
-use native.Mathlib.Omega.{arith}
+use Rattle.std.proofs.Common.{arith, refl}
+use Rattle.matching.specs.Places.{passing-first, passing-fit, passing-room, passing-fits, passing-less, passing-next, passing-all, next-most}
+use Rattle.base.specs.Chains.{found-is, found-none, found-or}
 use Rattle.matching.proofs.leg_passes.Goals as goal
 
-pub loop-at-init : goal.loop-at-init
-loop-at-init c = passing-first _ _ c.requires.fit.1
+pub loop-next-init : goal.loop-next-init
+loop-next-init c = let n = found-or (next-most c.args.b.now _ _ refl) c.requires.fit.1 in (passing-first _ n.0, n.1)
 
-pub pass-t-requires : goal.pass-t-requires
-pass-t-requires c = record { a_lt_table_rows = (omega arith, passing-fit c.requires.fit.0 c.loop-at.invariant); room = passing-room c.requires.fit.0 c.loop-at.invariant c.loop-at-test.true c.requires.room }
+pub pass-requires : goal.pass-requires
+pass-requires c =
+    let v = rw c.in-Some.is at c.loop-next.invariant.0 in
+    let l = found-is (rw c.in-Some.is at c.loop-next.invariant.1) in
+    record { a_lt_table_rows = (omega arith, passing-fit c.requires.fit.0 v); room = passing-room c.requires.fit.0 v l.1 c.requires.room }
 
-pub overflow_add-at : goal.overflow_add-at
-overflow_add-at c = omega arith
+pub next_pass-next-requires : goal.next_pass-next-requires
+next_pass-next-requires c = passing-fits c.requires.fit.0 (rw c.in-Some.is at c.loop-next.invariant.0) c.pass.ensures
 
-pub next_pass-at-requires : goal.next_pass-at-requires
-next_pass-at-requires c = let f = passing-fits c.requires.fit.0 c.loop-at.invariant c.pass-t.ensures in
-    (f.strategies, f.entries, f.orders, f.priced, record { live = f.live }, f.nets.are)
+pub loop-next-smaller : goal.loop-next-smaller
+loop-next-smaller c =
+    let v = rw c.in-Some.is at c.loop-next.invariant.0 in
+    let l = found-is (rw c.in-Some.is at c.loop-next.invariant.1) in
+    rw c.in-Some.is (passing-less c.requires.fit.0 v l.1 c.pass.ensures (found-or (next-most c.pass.new.b _ _ refl) c.next_pass-next.ensures).0)
 
-pub loop-at-smaller : goal.loop-at-smaller
-loop-at-smaller c = passing-less c.requires.fit.0 c.loop-at.invariant c.loop-at-test.true c.pass-t.ensures c.next_pass-at.ensures
-
-pub loop-at-preserved : goal.loop-at-preserved
-loop-at-preserved c = passing-next c.requires.fit.0 c.loop-at.invariant c.loop-at-test.true c.pass-t.ensures c.next_pass-at.ensures
+pub loop-next-preserved : goal.loop-next-preserved
+loop-next-preserved c =
+    let v = rw c.in-Some.is at c.loop-next.invariant.0 in
+    let l = found-is (rw c.in-Some.is at c.loop-next.invariant.1) in
+    let n = found-or (next-most c.pass.new.b _ _ refl) c.next_pass-next.ensures in
+    (passing-next c.requires.fit.0 v l.1 c.pass.ensures n.0, n.1)
 
 pub returns : goal.returns
-returns c = passing-all c.requires.fit.0 c.loop-at.invariant c.loop-at-test.false
+returns c = passing-all c.requires.fit.0 c.loop-next.invariant.0 (found-none c.loop-next.invariant.1 c.in_default.not-Some)

@@ -1,9 +1,11 @@
+use Rattle.std.specs.Option.{unwrap_or}
+use Rattle.std.proofs.Common.{◌≡◌, ◌-◌}
+use Rattle.base.specs.Chains.{found}
 use Rattle.matching.specs.Places.{PassedTo}
-use Prim.Native.Nat.{◌-◌}
 use Rattle.matching.proofs.leg_passes.Given as goal
 
-abbrev pub invariant-loop-at : goal.invariant-loop-at
-invariant-loop-at l = PassedTo l.s l.initial.c l.initial.space l.space l.n l.m l.c l.at
+abbrev pub invariant-loop-next : goal.invariant-loop-next
+invariant-loop-next l = PassedTo l.s l.initial.b l.initial.records l.records l.b (unwrap_or l.next 512) × (l.next ≡ found 512 (unwrap_or l.next 512))
 
-abbrev pub decreases-loop-at : goal.decreases-loop-at
-decreases-loop-at l = 512 - l.at
+abbrev pub decreases-loop-next : goal.decreases-loop-next
+decreases-loop-next l = 512 - unwrap_or l.next 512

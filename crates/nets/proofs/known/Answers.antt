@@ -1,32 +1,12 @@
-use Rattle.rules.specs.Nets.{known}
-use Rattle.base.specs.Walks.{all_none, all_more, all-stop}
-use borrow.Author.Tests.{lt-ltb, le-ltb}
-use mathlib.Core.Path.{◌≡◌, sym}
-use native.Mathlib.Omega.{arith}
+use Rattle.std.proofs.Common.{◌≡◌, ◌∙◌, ltb, take, length, arith, rules, tests}
+use Rattle.std.specs.List.{list_all}
+use Rattle.std.proofs.lemmas.Iterator.{YieldsList-from_slice}
+use Rattle.std.proofs.lemmas.Iterator.Search.{all_from_yields_List}
+use Rattle.nets.specs.Nets.{known-taken}
 use Rattle.nets.proofs.known.Goals as goal
 
-pub loop-i-init : goal.loop-i-init
-loop-i-init c = (omega arith, all_none _)
-
-pub offset_bounds-ps-i : goal.offset_bounds-ps-i
-offset_bounds-ps-i c = omega arith
-
-pub bounds-ps-i : goal.bounds-ps-i
-bounds-ps-i c = omega arith
-
-pub overflow_add-i : goal.overflow_add-i
-overflow_add-i c = omega arith
-
-pub loop-i-smaller : goal.loop-i-smaller
-loop-i-smaller c = omega arith
-
-pub loop-i-preserved : goal.loop-i-preserved
-loop-i-preserved c = (omega arith, all_more _ _ c.loop-i.invariant.1 (lt-ltb _ _ c.if-ps-i-gt0.true))
-
-pub returns-else-ps-i-gt0 : goal.returns-else-ps-i-gt0
-unfolding known
-returns-else-ps-i-gt0 c = sym (all-stop _ _ _ c.loop-i-test.true (le-ltb _ _ c.if-ps-i-gt0.false))
-
 pub returns : goal.returns
-unfolding known
-returns c = let e : c.loop-i.i ≡ c.args.count = omega arith in sym (rw e at c.loop-i.invariant.1)
+returns c =
+    let n : length c.args.ps ≡ 6 = search rules in
+    let h : c.all.result ≡ list_all (ltb 0) (take c.args.count c.args.ps) = all_from_yields_List (ltb 0) _ _ c.all.result c.all.ensures.ran (YieldsList-from_slice _ c.iter.ensures.rest) (λ x b q k. search (rules, tests)) in
+    h ∙ known-taken _ _ (omega arith)

@@ -1,20 +1,16 @@
 use Rattle.rules.specs.Nets.{lot}
 use Rattle.base.specs.Pick.{tests, told}
-use borrow.Author.Rules.{rules}
+use Rattle.nets.proofs.lot.Goals.{else-stands-via-then-stands+else-o-price, else-stands-via-else-stands}
 use Rattle.nets.proofs.lot.Goals as goal
-
-pub stands-requires : goal.stands-requires
-unfolding lot
-stands-requires c = search rules
 
 pub returns-then-o-price : goal.returns-then-o-price
 unfolding lot
 returns-then-o-price c = search (tests, told c.stands.ensures c.if-stands.true)
 
-pub returns-then-stands : goal.returns-then-stands
+pub returns-else-stands : goal.returns-else-stands
 unfolding lot
-returns-then-stands c = search (tests, told c.stands.ensures c.if-stands.true)
-
-pub returns : goal.returns
-unfolding lot
-returns c = search (tests, told c.stands.ensures c.if-stands.false)
+returns-else-stands c =
+    elim c.else-stands.branch [
+      | else-stands-via-then-stands+else-o-price w ↦ search (tests, told c.stands.ensures w.if-stands.true, w.if-o-price.false)
+      | else-stands-via-else-stands w ↦ search (tests, told c.stands.ensures w.if-stands.false)
+    ]

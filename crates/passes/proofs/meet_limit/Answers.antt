@@ -19,7 +19,7 @@ give_in_turn-requires c = record { a_lt_table_rows = c.requires.a_lt_table_rows;
 
 pub returns-in-LegsOnly : goal.returns-in-LegsOnly
 unfolding meet_limit
-returns-in-LegsOnly c = in-done (λ b _. (ap (λ (w : Allocation). meet_limit w c.args.a c.args.level b) c.in-LegsOnly.is)) (give-nobody _ _ _ _ _)
+returns-in-LegsOnly c = in-done (λ b _. (ap (λ (w : Allocation). meet_limit w c.args.a c.args.level b) c.in-LegsOnly.is)) (give-nobody _ _ _ _)
 
 pub returns-in-Shared : goal.returns-in-Shared
 unfolding meet_limit

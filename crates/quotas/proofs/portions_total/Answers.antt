@@ -7,32 +7,17 @@ use Rattle.base.specs.Walks.{sum_n}
 use Rattle.quotas.specs.Bounds.{portion-le, portions-le}
 use Rattle.quotas.proofs.portions_total.Goals as goal
 
-pub loop-i-init : goal.loop-i-init
+pub loop-x-init : goal.loop-x-init
 unfolding sum_n
-loop-i-init c = (omega arith, refl)
-
-pub offset_bounds-xs-i : goal.offset_bounds-xs-i
-offset_bounds-xs-i c = omega arith
-
-pub bounds-xs-i : goal.bounds-xs-i
-bounds-xs-i c = omega arith
-
-pub portion-n-requires : goal.portion-n-requires
-portion-n-requires c = (c.requires.0, c.requires.2.at _, omega arith)
+loop-x-init c = refl
 
 pub overflow_add-n : goal.overflow_add-n
 overflow_add-n c = let r : c.args.r ≤ c.args.total = omega arith in
-    rw (c.loop-i.invariant.1, c.portion-n.ensures) (omega (arith, portions-le c.args.r c.args.total c.args.xs r c.requires.2 c.loop-i.i, portion-le c.args.r c.args.total (get_or c.args.xs c.loop-i.i 0) r, c.requires.2.at c.loop-i.i))
+    rw (c.loop-x.invariant, c.portion-n.ensures) (omega (arith, portions-le c.args.r c.args.total c.args.xs r c.requires.2 c.loop-x.x-index, portion-le c.args.r c.args.total (get_or c.args.xs c.loop-x.x-index 0) r, c.requires.2.at c.loop-x.x-index))
 
-pub overflow_add-i : goal.overflow_add-i
-overflow_add-i c = omega arith
-
-pub loop-i-smaller : goal.loop-i-smaller
-loop-i-smaller c = omega arith
-
-pub loop-i-preserved : goal.loop-i-preserved
+pub loop-x-preserved : goal.loop-x-preserved
 unfolding sum_n
-loop-i-preserved c = (omega arith, rw add-one (cc))
+loop-x-preserved c = rw add-one (cc)
 
 pub returns : goal.returns
-returns c = let e : c.loop-i.i ≡ 32 = omega arith in cc
+returns c = let e : c.loop-x.x-index ≡ 32 = omega arith in cc

@@ -1,31 +1,12 @@
-use mathlib.Core.Path.{◌≡◌, refl}
-use native.Mathlib.Numerals.{add-one}
-use native.Mathlib.Omega.{arith}
-use Rattle.base.specs.Walks.{sum-le, sum_n, slot}
+use borrow.Author.Rules.{rules}
+use Rattle.std.proofs.Common.{◌≡◌, ◌∙◌, ◌<◌}
+use Rattle.std.specs.Prelude.{sum}
+use Rattle.quotas.specs.Laws.{sum-slots}
+use Rattle.quotas.specs.Bounds.{sum-fits}
 use Rattle.quotas.proofs.total.Goals as goal
 
-pub loop-i-init : goal.loop-i-init
-unfolding sum_n
-loop-i-init c = (omega arith, refl)
-
-pub offset_bounds-xs-i : goal.offset_bounds-xs-i
-offset_bounds-xs-i c = omega arith
-
-pub bounds-xs-i : goal.bounds-xs-i
-bounds-xs-i c = omega arith
-
-pub overflow_add-t : goal.overflow_add-t
-overflow_add-t c = rw c.loop-i.invariant.1 (omega (arith, sum-le (slot c.args.xs) 9999 c.requires.at c.loop-i.i, c.requires.at c.loop-i.i))
-
-pub overflow_add-i : goal.overflow_add-i
-overflow_add-i c = omega arith
-
-pub loop-i-smaller : goal.loop-i-smaller
-loop-i-smaller c = omega arith
-
-pub loop-i-preserved : goal.loop-i-preserved
-unfolding sum_n
-loop-i-preserved c = (omega arith, rw add-one (cc))
+pub sum-requires-clause-fits : goal.sum-requires-clause-fits
+sum-requires-clause-fits c = let h : sum c.args.xs < 4294967296 = sum-fits c.args.xs (search rules) c.requires in search (rules, h)
 
 pub returns : goal.returns
-returns c = let e : c.loop-i.i ≡ 32 = omega arith in cc
+returns c = let h : c.sum.result ≡ sum c.args.xs = search rules in h ∙ sum-slots c.args.xs (search rules)

@@ -6,6 +6,6 @@ pub returns-then-side-eq0 : goal.returns-then-side-eq0
 unfolding meets
 returns-then-side-eq0 c = search tests
 
-pub returns : goal.returns
+pub returns-else-side-eq0 : goal.returns-else-side-eq0
 unfolding meets
-returns c = search tests
+returns-else-side-eq0 c = search tests

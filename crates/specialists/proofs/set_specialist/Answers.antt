@@ -1,7 +1,8 @@
+use mathlib.Core.Path.{refl}
 use Rattle.rules.specs.State.{with_strategies}
-use Rattle.specialists.specs.Laws.{named-is}
+use Rattle.rules.specs.Specialists.{on_specialist}
 use Rattle.specialists.proofs.set_specialist.Goals as goal
 
 pub returns : goal.returns
-unfolding with_strategies
-returns c = named-is _ _ _ c.with_specialist.ensures
+unfolding on_specialist with_strategies
+returns c = refl

@@ -1,56 +1,31 @@
-use Rattle.stored_nets.specs.Refreshing.{step-first, step_set, step_skip, step-last, anew-here}
-use Rattle.stored_nets.specs.Stored.{all_anew}
-use Rattle.ranges.specs.Fit.{fit-legs}
+use Rattle.std.proofs.Common.{◌≡◌, ◌<◌, length, get_or, arith, rules, ◌∙◌}
 use Rattle.base.specs.Pick.{pick-false, told}
-use lib.ListN.{length}
-use Prim.Native.Nat.{◌<◌}
-use mathlib.Core.Path.{◌≡◌}
-use borrow.Author.Rules.{rules}
-use native.Mathlib.Omega.{arith}
+use Rattle.ranges.specs.Fit.{fit-legs}
+use Rattle.rules.specs.Rows.{no_strategy}
+use Rattle.stored_nets.specs.Refreshing.{step-first, step_set, step_skip, step-last, held-found, held-missing}
+use Rattle.stored_nets.specs.Stored.{all_anew}
+use Rattle.stored_nets.proofs.appeared.Goals.{then-holds+in-Some, then-holds+in_default, else-holds}
 use Rattle.stored_nets.proofs.appeared.Goals as goal
-use Rattle.stored_nets.proofs.appeared.Goals.{then-holds, else-holds}
 
 pub loop-k-init : goal.loop-k-init
-loop-k-init c = (omega arith, step-first _ _)
+loop-k-init c = step-first _ _
 
-pub offset_bounds-ss-k : goal.offset_bounds-ss-k
-offset_bounds-ss-k c = omega arith
-
-pub bounds-ss-k : goal.bounds-ss-k
-bounds-ss-k c = omega arith
-
-pub leg_of-l-requires : goal.leg_of-l-requires
-leg_of-l-requires c = fit-legs c.requires.0 _
-
-pub offset_bounds-ns-k : goal.offset_bounds-ns-k
-offset_bounds-ns-k c = omega arith
-
-pub bounds-ns-k : goal.bounds-ns-k
-bounds-ns-k c = omega arith
+pub leg_of-requires : goal.leg_of-requires
+leg_of-requires c = fit-legs c.requires.0 _
 
 pub nets_anew-requires : goal.nets_anew-requires
 nets_anew-requires c = (c.requires.1, c.requires.2, fit-legs c.requires.0 _)
 
-pub offset_bounds-ms-k : goal.offset_bounds-ms-k
-offset_bounds-ms-k c = omega arith
-
-pub bounds-ms-k : goal.bounds-ms-k
-bounds-ms-k c = omega arith
-
-pub overflow_add-k : goal.overflow_add-k
-overflow_add-k c = omega arith
-
-pub loop-k-smaller : goal.loop-k-smaller
-loop-k-smaller c = omega arith
-
 pub loop-k-preserved : goal.loop-k-preserved
-loop-k-preserved c = let n : length c.args.ns ≡ 16 = search rules in
+loop-k-preserved c =
+    let n : length c.args.ns ≡ 16 = search rules in
     let h : c.loop-k.k < 16 = omega arith in
-    (elim c.if-holds.branch [
-      | then-holds w ↦ (omega arith, rw w.ms-is (step_set _ _ n h (anew-here c.args.ns c.args.ss c.args.s c.args.side c.loop-k.k (told c.holds.ensures w.if-holds.true) w.leg_of-l.ensures c.args.os w.nets_anew.ensures) c.loop-k.invariant.1))
-      | else-holds w ↦ (omega arith, rw w.ms-is (step_skip _ _ n h (pick-false _ _ _ (told c.holds.ensures w.if-holds.false)) c.loop-k.invariant.1))
-    ])
+    elim c.if-holds.branch [
+      | then-holds+in-Some w ↦ rw w.ms-is (step_set _ _ n h (w.nets_anew.ensures ∙ held-found (get_or c.args.ss c.loop-k.k no_strategy) c.args.s _ _ (told c.holds.ensures w.if-holds.true) w.in-Some.ensures) c.loop-k.invariant)
+      | then-holds+in_default w ↦ rw w.ms-is (step_skip _ _ n h (held-missing (get_or c.args.ss c.loop-k.k no_strategy) c.args.s _ _ (told c.holds.ensures w.if-holds.true) w.in_default.ensures) c.loop-k.invariant)
+      | else-holds w ↦ rw w.ms-is (step_skip _ _ n h (pick-false _ _ _ (told c.holds.ensures w.if-holds.false)) c.loop-k.invariant)
+    ]
 
 pub returns : goal.returns
 unfolding all_anew
-returns c = let n : length c.args.ns ≡ 16 = search rules in step-last _ _ n (omega arith) c.loop-k.invariant.1
+returns c = let n : length c.args.ns ≡ 16 = search rules in step-last _ _ n (omega arith) c.loop-k.invariant

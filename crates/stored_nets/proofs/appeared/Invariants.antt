@@ -1,11 +1,7 @@
-use Rattle.stored_nets.specs.Stored.{anew_at}
-use Rattle.base.specs.Walks.{seam}
-use Prim.Native.Nat.{◌≤◌, ◌-◌}
 use mathlib.Core.Path.{◌≡◌}
+use Rattle.base.specs.Walks.{seam}
+use Rattle.stored_nets.specs.Stored.{anew_at}
 use Rattle.stored_nets.proofs.appeared.Given as goal
 
 abbrev pub invariant-loop-k : goal.invariant-loop-k
-invariant-loop-k l = (l.k ≤ 16) × (l.ms ≡ seam (anew_at l.ns l.ss l.os l.s l.side) l.ns l.k)
-
-abbrev pub decreases-loop-k : goal.decreases-loop-k
-decreases-loop-k l = 16 - l.k
+invariant-loop-k l = l.ms ≡ seam (anew_at l.ns l.fn.ss l.os l.s l.side) l.ns l.k
