@@ -11,10 +11,11 @@ ghost use Rattle.ranges.specs.Fit.{Fit};
 ghost use Rattle.sweeps.specs.Sweeps.{MayEnter};
 
 use auctions::answers;
-use entries::{insert, live, old_sweep};
+use entries::old_sweep;
 use fills::cancel_entry;
 use records::Records;
 use rules::{Entry, State};
+use tables::{Row, insert};
 
 // The sweep that e replaces is cancelled, if there is one.
 fn cancel_old(e: Entry, b: &mut State, records: &mut Records)
@@ -22,8 +23,7 @@ fn cancel_old(e: Entry, b: &mut State, records: &mut Records)
     requires room { Room records.old (cancel_entry (old_sweep b.old e) b.old).records }
     ensures { Done records.old records.new b.new (cancel_entry (old_sweep b.old e) b.old) }
 {
-    let i = old_sweep(b.entries, e);
-    if i < State::ROWS {
+    if let Some(i) = old_sweep(b.entries, e) {
         cancel_entry(b, i, records);
     }
 }
@@ -33,7 +33,7 @@ fn enter_sweep(e: Entry, b: &mut State)
     requires { MayEnter e }
     ensures { still b.new ≡ enter_sweep e b.old }
 {
-    if live(e) {
+    if e.is_live() {
         let rows = insert(b.entries, e).rows;
         b.entries = rows;
         b.last = e.number;
