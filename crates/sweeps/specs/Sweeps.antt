@@ -1,17 +1,19 @@
 -- The rules of a sweep by what the code tests, and the ranges that they keep.
-use Rattle.std.specs.Prelude.{◌≡◌, true, false, ℕ, ◌≤◌, ◌<◌, length}
+use Rattle.std.specs.Prelude.{◌≡◌, true, false, ℕ, ◌≤◌, nat_lt, length, Option}
 use Rattle.std.proofs.Math.Path.{ap}
-use Rattle.std.proofs.Common.{arith, eq-eqb}
+use Rattle.std.proofs.Common.{sym, ◌∙◌, arith, ltb-false, None, Some}
+use Rattle.std.proofs.lemmas.Bool.{cond_both}
+use Rattle.std.proofs.lemmas.Option.{none-some, cond_some}
+use Rattle.base.specs.Chains.{found}
 use Rattle.std.proofs.Math.ListN.{get_or-eq_default}
-use Rattle.base.specs.Pick.{pick_yes, tests}
-use Rattle.base.specs.Walks.{first_holds, clash}
+use Rattle.base.specs.Pick.{tests}
 use Rattle.rules.specs.declared.Entry.{Entry}
 use Rattle.rules.specs.declared.State.{State}
 use Rattle.rules.specs.State.{no_entry, entry_at}
 use Rattle.rules.specs.Moves.{still}
 use Rattle.rules.specs.Fills.{cancel_entry}
 use Rattle.rules.specs.Auctions.{answer}
-use Rattle.rules.specs.Events.{live, enter, same_sweep, same_sweep_at, old_sweep, enter_sweep}
+use Rattle.rules.specs.Events.{live, enter, old_sweep, enter_sweep}
 use Rattle.rules.specs.Valid.{FitEntry}
 use Rattle.tables.specs.Only.{only_entries}
 
@@ -20,15 +22,6 @@ pub record MayEnter (e : Entry) : Type 0 where
   pub fit : live e ≡ true → FitEntry e
 
 -- laws
-
--- no sweep is replaced
-module _ (i : ℕ) (b : State) where
-  pub cancel-past : length b.entries ≡ 32 → 32 ≤ i → cancel_entry i b ≡ still b
-  unfolding cancel_entry
-  cancel-past n h =
-      let e : entry_at b i ≡ no_entry = get_or-eq_default b.entries no_entry {n = i} (omega arith) in
-      let z : (entry_at b i).units ≡ 0 = ap (λ (x : Entry). x.units) e in
-      search tests
 
 -- a sweep that enters
 module _ (e : Entry) (b : State) where
@@ -40,16 +33,17 @@ module _ (e : Entry) (b : State) where
   unfolding enter_sweep
   sweep-enters l p q = rw (q, p) (search tests)
 
--- the cancel at the slot that the code has found
-pub old-is : (e : Entry) (b : State) {i : ℕ} → i ≡ old_sweep (only_entries b.entries) e → cancel_entry (old_sweep b e) b ≡ cancel_entry i b
-unfolding old_sweep
-old-is e b p = rw p
+-- the cancel at the slot that the code has found, if there is one
+module _ (e : Entry) (b : State) {r : Option ℕ} (p : r ≡ found 32 (old_sweep (only_entries b.entries) e)) where
+  pub old-is : {i : ℕ} → r ≡ Some i → cancel_entry (old_sweep b e) b ≡ cancel_entry i b
+  unfolding old_sweep
+  old-is q = rw (cond_some _ _ _ (sym p ∙ q)).1
 
--- a sweep that is replaced is live
-same_live : (e f : Entry) → same_sweep e f ≡ true → ¬ (f.units ≡ 0)
-unfolding same_sweep live
-same_live e f h z = clash (pick_yes _ h).0 (rw (eq-eqb _ _ z))
-
-pub old-live : (e : Entry) (b : State) {i : ℕ} → i ≡ old_sweep (only_entries b.entries) e → i < 32 → ¬ ((entry_at b i).units ≡ 0)
-unfolding old_sweep
-old-live e b {i} p l = let s : same_sweep_at b e i ≡ true = rw p (first_holds (same_sweep_at b e) 32 (rw (← p) l)) in same_live e (entry_at b i) s
+  pub old-none : length b.entries ≡ 32 → r ≡ None → cancel_entry (old_sweep b e) b ≡ still b
+  unfolding cancel_entry old_sweep
+  old-none n q =
+      let k : ℕ = old_sweep (only_entries b.entries) e in
+      let l : 32 ≤ k = cond_both (nat_lt k 32) (Some k) None (λ o. o ≡ None → 32 ≤ k) (λ t f. absurd (none-some k (sym f))) (λ t f. ltb-false k 32 t) (sym p ∙ q) in
+      let x : entry_at b k ≡ no_entry = get_or-eq_default b.entries no_entry {n = k} (omega arith) in
+      let z : (entry_at b k).units ≡ 0 = ap (λ (y : Entry). y.units) x in
+      search tests
