@@ -1,4 +1,5 @@
 -- THE BUYER'S THREE DEMANDS, of every call of the entry and every list of calls; and the stored nets (2026-05) after every list of calls.
+use Rattle.std.specs.Prelude.{Result}
 use mathlib.Core.Path.{◌≡◌, refl, sym, ◌∙◌, ap, subst}
 use mathlib.Core.Bool.{Bool, true, false}
 use mathlib.Core.List.{List, [], ◌∷◌, ◌++◌, map}
@@ -12,7 +13,6 @@ use lib.Seq.{sets-eq, take_at}
 use Rattle.base.specs.All.{All, all_nil, all_cons}
 use Rattle.base.specs.Pick.{pick, pick_true, pick-false}
 use Rattle.base.specs.Walks.{clash}
-use Rattle.events.specs.declared.Reading.{Reading}
 use Rattle.frames.specs.Frames.{read_of}
 use Rattle.frames.specs.Round.{read-written, frame-read-written}
 use Rattle.rules.specs.declared.State.{State}
@@ -38,6 +38,8 @@ use Rattle.book.specs.declared.Book.{Book}
 use Rattle.book.specs.declared.Taken.{Taken}
 use Rattle.book.specs.Books.{First, Stepped}
 use Rattle.book.specs.Calls.{Call, Calls, no_call, a_call, lines_in, numbers_in, ReadWhole, seen, Answers, Exact, TotalsHold}
+use Rattle.events.specs.declared.Refusal.{Refusal}
+use Rattle.events.specs.declared.Event.{Event}
 
 -- THE ANSWER, by the number of the outcome.
 
@@ -118,7 +120,7 @@ numbers-laid : (s : List ℤ) (rs : List Record) → length rs * 6 ≤ length s 
 numbers-laid s rs h = ap (take (length rs * 6)) (laid-first s rs h) ∙ take_at (numbers rs) (drop (0 + length (numbers rs)) s) (length rs * 6) (length-numbers rs)
 
 -- no cause applies of the space's length: it is long enough
-long-space : (b : State) (r : Reading) (n : ℕ) → applies (table_of b r n) 1 ≡ false → 15_360 ≤ n
+long-space : (b : State) (r : Result Event Refusal) (n : ℕ) → applies (table_of b r n) 1 ≡ false → 15_360 ≤ n
 unfolding table_of applies pick
 long-space b r n h = go (ltb n 15_360) refl h
   where

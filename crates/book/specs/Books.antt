@@ -1,7 +1,6 @@
 -- What a book is, and what a call hands back.
-use Rattle.std.specs.Prelude.{◌≡◌, List, ℕ, ◌≤◌, ℤ, length}
+use Rattle.std.specs.Prelude.{◌≡◌, List, ℕ, ◌≤◌, ℤ, length, Ok}
 use Rattle.events.specs.declared.Event.{Event}
-use Rattle.events.specs.declared.Reading.TheVariants as R
 use Rattle.rules.specs.Sizes.{records_lent}
 use Rattle.rules.specs.State.{first}
 use Rattle.rules.specs.declared.State.{State}
@@ -32,7 +31,7 @@ pub record Handed (o : Outcome) (s t : List ℤ) (x : Taken) : Type 0 where
 
 -- an event of any kind
 abbrev pub Took : State → Event → List ℤ → List ℤ → Taken → Type 0
-Took b e s t x = Handed (refuse_or_perform b (R.Event e) (length s)) s t x
+Took b e s t x = Handed (refuse_or_perform b (Ok e) (length s)) s t x
 
 -- a frame of any bytes, with a record space of any length
 abbrev pub Stepped : State → List ℕ → List ℤ → List ℤ → Taken → Type 0

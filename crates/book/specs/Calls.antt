@@ -1,12 +1,10 @@
 -- The calls of the entry as its caller sees them, and the buyer's three demands of them.
-use Rattle.std.specs.Prelude.{◌≡◌, true, false, List, [], ◌∷◌, ◌++◌, map, ℕ, zero, suc, ◌*◌, ◌≤◌, ◌<◌, ℤ, pos, length, get_or, take, drop}
+use Rattle.std.specs.Prelude.{◌≡◌, true, false, List, [], ◌∷◌, ◌++◌, map, ℕ, zero, suc, ◌*◌, ◌≤◌, ◌<◌, ℤ, pos, length, get_or, take, drop, Ok}
 use Rattle.std.specs.Int.Signed.{mag}
 use Rattle.base.specs.All.{All}
 use Rattle.events.specs.declared.Event.{Event}
-use Rattle.events.specs.declared.Reading.TheVariants as R
 use Rattle.frames.specs.Number.{Bytes}
 use Rattle.frames.specs.Frames.{read_of, written_of, space_of, Wrote}
-use Rattle.frames.specs.declared.Written.TheVariants as W
 use Rattle.rules.specs.declared.State.{State}
 use Rattle.rules.specs.declared.Answer.{Answer}
 use Rattle.rules.specs.declared.Answer.TheVariants as A
@@ -82,8 +80,8 @@ pub record Exact (b : State) (frame : List ℕ) (s t : List ℤ) (x : Taken) : T
   pub answer : x.answer ≡ answer_of (step b frame (length s))
   pub state : x.book.state ≡ (step b frame (length s)).moved.state
   pub space : t ≡ laid s 0 (step b frame (length s)).moved.records
-  pub written_read : (e : Event) (sp : List ℕ) (n : ℕ) → written_of e (length sp) ≡ W.Length n → read_of (take n (space_of e sp)) ≡ R.Event e
-  pub read-written : (f : List ℕ) → Bytes f → (e : Event) → read_of f ≡ R.Event e → (sp : List ℕ) → length f ≤ length sp → Wrote e sp (f ++ drop (length f) sp) (W.Length (length f))
+  pub written_read : (e : Event) (sp : List ℕ) (n : ℕ) → written_of e (length sp) ≡ Ok n → read_of (take n (space_of e sp)) ≡ Ok e
+  pub read-written : (f : List ℕ) → Bytes f → (e : Event) → read_of f ≡ Ok e → (sp : List ℕ) → length f ≤ length sp → Wrote e sp (f ++ drop (length f) sp) (Ok (length f))
 
 -- DEMAND 3, of a list of calls: the totals, and the claims of the requests, hold of what the caller saw, with nothing after an accepted day end; and what he saw
 -- is every number that his spaces hold of the records.

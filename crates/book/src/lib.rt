@@ -16,7 +16,7 @@ use cancels::cancel_number;
 use clocks::on_clock;
 use complex_orders::on_order;
 use day_ends::on_day_end;
-use events::{Event, Reading};
+use events::Event;
 use frames::read;
 use given::{
     ill_formed, leg_order_given, order_given, quote_given, specialist_given, strategy_given,
@@ -284,11 +284,11 @@ impl Book {
         }
         let reading = read(frame);
         match reading {
-            Reading::Refused(n) => {
+            Err(refusal) => {
                 let b = self.state;
-                refuse(b, n)
+                refuse(b, u32::from(refusal))
             }
-            Reading::Event(event) => match event {
+            Ok(event) => match event {
                 Event::Strategy(e) => self.strategy(e, space),
                 Event::Order(e) => self.order(e, space),
                 Event::Sweep(e) => self.sweep(e, space),

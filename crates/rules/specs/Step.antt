@@ -1,10 +1,10 @@
 -- One event: a frame of any bytes, and a record space of any length.
-use Rattle.std.specs.Prelude.{List, ℕ, eqb, length}
+use Rattle.std.specs.Prelude.{List, ℕ, eqb, length, Result, Ok, Err}
 use Rattle.base.specs.Pick.{pick}
+use Rattle.events.specs.Refusals.{refusal_number}
+use Rattle.events.specs.declared.Refusal.{Refusal}
 use Rattle.events.specs.declared.Event.{Event}
 use Rattle.events.specs.declared.Event.TheVariants as E
-use Rattle.events.specs.declared.Reading.{Reading}
-use Rattle.events.specs.declared.Reading.TheVariants as R
 use Rattle.frames.specs.Frames.{read_of}
 use Rattle.rules.specs.declared.State.{State}
 use Rattle.rules.specs.declared.Answer.{Answer}
@@ -56,12 +56,12 @@ unfoldable pub refused : ℕ → State → Outcome
 refused n b = record { answer = n; value = 0; moved = still b }
 
 -- the outcome of an event that nothing refuses
-unfoldable pub perform : State → Reading → Outcome
-perform b (R.Refused n) = refused n b
-perform b (R.Event e) = record { answer = 0; value = value_of b e; moved = accept b e }
+unfoldable pub perform : State → Result Event Refusal → Outcome
+perform b (Err r) = refused (refusal_number r) b
+perform b (Ok e) = record { answer = 0; value = value_of b e; moved = accept b e }
 
 -- the refusal, or else the event is performed
-unfoldable pub refuse_or_perform : State → Reading → ℕ → Outcome
+unfoldable pub refuse_or_perform : State → Result Event Refusal → ℕ → Outcome
 refuse_or_perform b r space = pick (eqb (refusal b r space) 0) (perform b r) (refused (refusal b r space) b)
 
 -- "each event goes in with the book and hands a book back"
