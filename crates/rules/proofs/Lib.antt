@@ -76,3 +76,4 @@ pub mod TurnLevels
 pub mod OfToday
 pub mod StoredNets
 pub mod Props
+pub mod Answers

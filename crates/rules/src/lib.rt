@@ -185,9 +185,9 @@ pub struct StrategyNets {
     pub offer: Option<i32>,
 }
 
-// The answer to an event: its value and the number of its records, or the refusal.
+// What an accepted event answers: its value and the number of its records.
 #[derive(Clone, Copy)]
-pub enum Answer {
-    Accepted(u32, usize),
-    Refused(u32),
+pub struct Accepted {
+    pub value: u32,
+    pub records: usize,
 }
