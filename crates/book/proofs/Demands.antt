@@ -187,3 +187,7 @@ valid-after-calls {b} {cs} {end} r = end.valid
 -- from any book
 pub nets-after-calls : (b : Book) (cs : List Call) (end : Book) → Calls b cs end → NetsTrue end.state
 nets-after-calls b cs end r = valid-nets end.valid
+
+-- .. from the first book
+pub nets-after-first : (b : Book) → First b → (cs : List Call) (end : Book) → Calls b cs end → NetsTrue end.state
+nets-after-first b f cs end r = nets-after-calls b cs end r
