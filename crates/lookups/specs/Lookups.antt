@@ -1,5 +1,6 @@
 -- Depth over the book's own table, and the laws of the lookups.
-use Rattle.std.specs.Prelude.{◌≡◌, Bool, List, [], ◌∷◌, ℕ, ◌≤◌, ◌<◌, eqb, ltb, get_or, length, true, false, not, Option, Ok, Err}
+use Rattle.nets.specs.Bests.{if_priced}
+use Rattle.std.specs.Prelude.{◌≡◌, Bool, List, [], ◌∷◌, ℕ, ◌≤◌, ◌<◌, eqb, ltb, get_or, length, true, false, not, Option, None, Some, Ok, Err}
 use Rattle.std.specs.Bool.{then_some}
 use Rattle.std.proofs.lemmas.List.{same_lists}
 use Rattle.std.specs.List.{sum_by}
@@ -79,11 +80,11 @@ pub depth-best-of : (os : List LegOrder) (s side : ℕ) → depth_of os s side �
 unfolding depth_of best_tells best_of
 depth-best-of os s side = refl
 
-pub tells-best : (b : Best) {o : Option Best} → o ≡ then_some (not (eqb b.price 0)) b → depth_tells (Ok o) ≡ best_tells b
-unfolding depth_tells best_tells pick
+pub tells-best : (b : Best) {o : Option Best} → o ≡ if_priced b → depth_tells (Ok o) ≡ best_tells b
+unfolding depth_tells best_tells if_priced pick
 tells-best b e = rw e (by (eqb b.price 0))
   where
-    by : (t : Bool) → depth_tells (Ok (then_some (not t) b)) ≡ pick t (values []) (values (b.price ∷ (b.contracts ∷ [])))
+    by : (t : Bool) → depth_tells (Ok (pick t None (Some b))) ≡ pick t (values []) (values (b.price ∷ (b.contracts ∷ [])))
     by true = refl
     by false = refl
 

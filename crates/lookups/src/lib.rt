@@ -88,8 +88,7 @@ pub fn depth(os: [LegOrder; State::LEG_ORDERS], s: u32, side: u32) -> Result<Opt
     if 31 < s || 1 < side {
         return Err(Refusal::BadField);
     }
-    let b = best_of(os, s as u8, side as u8);
-    Ok((b.price != 0).then_some(b))
+    Ok(best_of(os, s as u8, side as u8))
 }
 
 // A leg order as an order entry.

@@ -1,5 +1,9 @@
 -- The causes of refusals by what the loops find, and by the leg orders that are live.
-use Rattle.std.specs.Prelude.{◌≡◌, Bool, ℕ, ◌<◌, leb, length, Result, Ok, Err}
+use Rattle.std.specs.Prelude.{◌≡◌, Bool, ℕ, ◌<◌, leb, ltb, length, Result, Ok, Err, Option, None, Some}
+use Rattle.std.specs.Option.{is_some}
+use Rattle.std.proofs.Common.{cond}
+use Rattle.base.specs.Chains.{found, unless_zero}
+use Rattle.nets.specs.Nets.{betters_net, betters-net}
 use Rattle.events.specs.declared.Refusal.{Refusal}
 use Rattle.events.specs.Refusals.{refusal_number}
 use Rattle.std.proofs.Math.Path.{refl, sym, ap}
@@ -11,7 +15,6 @@ use Rattle.rules.specs.declared.LegOrder.{LegOrder}
 use Rattle.rules.specs.declared.State.{State}
 use Rattle.rules.specs.State.{no_order, strategy_at, nets_stored, leg_net, own_net}
 use Rattle.rules.specs.Sides.{other}
-use Rattle.rules.specs.Nets.{betters}
 use Rattle.rules.specs.Events.{live_order, free_order_slot}
 use Rattle.rules.specs.Refusals.{is_leg_order, leg_orders_full, undefined, betters_nothing}
 use Rattle.rules.specs.Fits.{FitSweepGiven}
@@ -56,14 +59,24 @@ unfolding undefined
 has-legs {b} s k e n = omega (arith, s.legs k (leb-false _ _ (told e n)))
 
 -- a sweep of units against the leg net of its side, by what the code tests: the net that is stored is that of the leg orders
-module _ (b : State) (e : GivenSweep) (some : ¬ (e.units ≡ 0)) (p : FitSweepGiven e × Fit b × (0 < (strategy_at b e.strategy).count)) {o n : ℕ} {r : Bool}
-    (on : o ≡ other e.side) (net : n ≡ net_for (nets_stored b e.strategy) o) (t : r ≡ betters true e.side e.level n) where
-  net-is : n ≡ own_net b e.side e.strategy
+module _ (b : State) (e : GivenSweep) (some : ¬ (e.units ≡ 0)) (p : FitSweepGiven e × Fit b × (0 < (strategy_at b e.strategy).count)) {o : ℕ} {n : Option ℕ} {r : Bool}
+    (on : o ≡ other e.side) (net : n ≡ unless_zero (net_for (nets_stored b e.strategy) o)) (t : r ≡ betters_net true e.side e.level n) where
+  net-is : n ≡ unless_zero (own_net b e.side e.strategy)
   unfolding leg_net
   net-is =
-      net ∙ ap (net_for (nets_stored b e.strategy)) on
-      ∙ net-stored b.nets b.orders b.strategies e.strategy (other e.side) p.0.strategy (other-side e.side) p.2 p.1.nets.are
+      net ∙ ap (λ (d : ℕ). unless_zero (net_for (nets_stored b e.strategy) d)) on
+      ∙ ap unless_zero (net-stored b.nets b.orders b.strategies e.strategy (other e.side) p.0.strategy (other-side e.side) p.2 p.1.nets.are)
 
   pub betters-none : not r ≡ betters_nothing b e
   unfolding betters_nothing
-  betters-none = sym (pick-false _ _ _ (ne_eqb _ _ some) ∙ ap not (sym (t ∙ ap (betters true e.side e.level) net-is)))
+  betters-none =
+      sym (pick-false _ _ _ (ne_eqb _ _ some)
+      ∙ ap not (sym (t ∙ ap (betters_net true e.side e.level) net-is ∙ betters-net true e.side e.level (own_net b e.side e.strategy))))
+
+-- whether a slot is found
+pub found-there : {o : Option ℕ} {n k : ℕ} → o ≡ found n k → is_some o ≡ ltb k n
+found-there {n = n} {k = k} e = ap (λ (p : Option ℕ). is_some p) e ∙ by (ltb k n)
+  where
+    by : (t : Bool) → is_some (cond t (Some k) None) ≡ t
+    by true = refl
+    by false = refl

@@ -13,7 +13,7 @@ ghost use Rattle.rules.specs.Valid.{Sound};
 ghost use Rattle.ranges.specs.Fit.{Fit};
 ghost use Rattle.refusals.specs.Refusing.{refused_by, refuse_if};
 
-use entries::{count_of, live, old_sweep};
+use entries::{count_of, old_sweep};
 use events::Refusal;
 use given::sweep_given;
 use legs::free_order_slot;
@@ -49,7 +49,7 @@ fn not_open(b: State, s: u8) -> bool
 fn is_order_of(m: u32, n: u32, e: Entry) -> bool
     ensures { result ≡ is_order_of m n e }
 {
-    live(e) && e.life != 4 && e.member as u32 == m && e.number == n
+    e.units != 0 && e.life != 4 && e.member as u32 == m && e.number == n
 }
 
 #[tactic(auto, unfolding(base::specs::Pick::pick, rules::specs::Refusals::is_leg_order_of, rules::specs::Events::live_order))]
@@ -141,7 +141,7 @@ fn replaces(b: State, e: events::Sweep) -> bool
     requires { FitSweepGiven e × (b.last < 4294967295) }
     ensures { result ≡ replaces b e }
 {
-    old_sweep(b.entries, sweep_given(b, e)) < State::ROWS
+    old_sweep(b.entries, sweep_given(b, e)).is_some()
 }
 
 // Whether a sweep has 0 units and none to remove.

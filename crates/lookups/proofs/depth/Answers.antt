@@ -1,3 +1,4 @@
+use Rattle.std.proofs.Common.{refl}
 -- proofs/depth/Answers.antt
 use Rattle.lookups.specs.Lookups.{depth-series, depth-side, depth_is, tells-best}
 use Rattle.lookups.proofs.depth.Goals.{then-s-gt31-via-then-s-gt31, then-s-gt31-via-else-s-gt31+then-side-gt1}
@@ -8,4 +9,4 @@ returns-then-s-gt31 c =
     elim c.then-s-gt31.branch [ then-s-gt31-via-then-s-gt31 w ↦ depth-series _ _ _ w.if-s-gt31.true | then-s-gt31-via-else-s-gt31+then-side-gt1 w ↦ depth-side _ _ _ w.if-s-gt31.false w.if-side-gt1.true ]
 
 pub returns : goal.returns
-returns c = depth_is _ _ _ c.if-s-gt31.false c.if-side-gt1.false c.best_of-b.ensures (tells-best _ c.then_some.ensures)
+returns c = depth_is _ _ _ c.if-s-gt31.false c.if-side-gt1.false refl (tells-best _ c.best_of.ensures)
