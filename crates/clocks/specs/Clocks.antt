@@ -1,13 +1,12 @@
 -- The rules of the clock by what the code tests, and the ranges that they keep.
-use Rattle.std.specs.Prelude.{◌≡◌, true, false, List, ℕ, ◌+◌, ◌≤◌, ◌<◌, leb, ℤ}
+use Rattle.std.specs.Prelude.{◌≡◌, true, false, ℕ, ◌+◌, ◌≤◌, ◌<◌, leb}
 use Rattle.std.proofs.Common.{arith}
 use Rattle.rules.specs.declared.State.{State}
 use Rattle.rules.specs.State.{strategy_at, with_clock}
 use Rattle.rules.specs.Moves.{Moved, still, each}
 use Rattle.rules.specs.Auctions.{running, end_auction, due, end_due}
-use Rattle.rules.specs.Events.{on_clock}
-use Rattle.rules.proofs.Control.{each-kept}
-use Rattle.records.specs.Done.{Done}
+use Rattle.rules.proofs.Control.{each-kept, end_due-kept}
+use Rattle.records.specs.Done.{Done, Visited}
 use Rattle.ranges.specs.Fit.{Fit}
 use Rattle.auctions.specs.Ranged.{Ranged, ranged-kept, ranged-done}
 use Rattle.base.specs.Pick.{pick, pick_true, pick-false}
@@ -26,13 +25,9 @@ module _ (k : ℕ) (b : State) where
 pub due-fits : (k : ℕ) (b : State) → Ranged b → (strategy_at b k).begun + b.timer < 4294967296
 due-fits k b r = omega (arith, (r.auction k).begun, r.timer)
 
-pub clock-is : (t : ℕ) (b : State) {c : State} → c ≡ with_clock b t → on_clock t b ≡ each end_due 16 c
-unfolding on_clock
-clock-is t b e = rw e
-
 -- THE RANGES
 
-pub ranged-each : (f : ℕ → State → Moved) → ((i : ℕ) (b : State) → Ranged b → Ranged (f i b).state) → (i : ℕ) (b : State) {c : State} {r₀ r₁ : Records}
+ranged-each : (f : ℕ → State → Moved) → ((i : ℕ) (b : State) → Ranged b → Ranged (f i b).state) → (i : ℕ) (b : State) {c : State} {r₀ r₁ : Records}
     → Ranged b → Done r₀ r₁ c (each f i b) → Ranged c
 ranged-each f h i b r d = ranged-done d (each-kept ranged-kept f h i b) r
 
@@ -44,5 +39,6 @@ clock-ranged : (b : State) (t : ℕ) → t ≤ 86_400_000 → Ranged b → Range
 unfolding with_clock
 clock-ranged b t h r = record { fit = clock-fit b t r.fit; auction = r.auction; clock = h; timer = r.timer }
 
-pub ranged-clock : (b : State) (t : ℕ) {c : State} → c ≡ with_clock b t → t ≤ 86_400_000 → Ranged b → Ranged c
-ranged-clock b t e h r = rw e (clock-ranged b t h r)
+-- .. while the loop over the auctions runs
+pub ranged-visited : (b : State) (t : ℕ) {c : State} {i : ℕ} {r₀ r₁ : Records} → t ≤ 86_400_000 → Ranged b → Visited end_due 16 (with_clock b t) r₀ r₁ c i → Ranged c
+ranged-visited b t h r v = ranged-each end_due (end_due-kept ranged-kept) _ _ (clock-ranged b t h r) v.done

@@ -3,53 +3,34 @@
 
 ghost use Rattle.std.specs.Prelude.{◌≡◌, false, not, ◌+◌, ◌<◌, ◌≤◌, eqb, leb};
 ghost use Rattle.base.specs.Pick.{pick};
-ghost use Rattle.rules.specs.State.{with_clock};
 ghost use Rattle.rules.specs.Events.{on_clock};
 ghost use Rattle.records.specs.Space.{Room};
 ghost use Rattle.records.specs.Done.{Done};
 ghost use Rattle.auctions.specs.Ranged.{Ranged};
 
 use endings::end_auction;
-use records::After;
+use records::Records;
 use rules::{State, Strategy};
 
-fn with_clock(b: State, t: u32) -> State
-    ensures { result ≡ with_clock b t }
-{
-    let mut c = b;
-    c.clock = t;
-    c
-}
-
 // Whether an auction of a strategy runs and was begun at least the timer ago.
+#[tactic(auto, using(base::specs::Pick::tests))]
 fn due(s: Strategy, timer: u32, clock: u32) -> bool
     requires { s.begun + timer < 4294967296 }
     ensures { result ≡ pick (not (eqb s.starter 0)) (leb (s.begun + timer) clock) false }
 {
-    if s.starter == 0 {
-        return false;
-    }
-    let t = s.begun + timer;
-    t <= clock
+    s.starter != 0 && s.begun + timer <= clock
 }
 
 // The clock, then the auctions that are due, by strategy.
-pub fn on_clock(b: State, t: u32, space: &mut [i32], n: usize) -> After
-    requires t_bound { (t ≤ 86400000) × Ranged b }
-    requires room { Room space.old n (on_clock t b).records }
-    ensures { Done space.old space.new n result.count result.state (on_clock t b) }
+pub fn on_clock(b: &mut State, t: u32, records: &mut Records)
+    requires t_bound { (t ≤ 86400000) × Ranged b.old }
+    requires room { Room records.old (on_clock t b.old).records }
+    ensures { Done records.old records.new b.new (on_clock t b.old) }
 {
-    let mut c = with_clock(b, t);
-    let mut m = n;
-    let mut k: usize = 0;
-    while k < State::STRATEGIES {
-        let s = c.strategies[k];
-        if due(s, c.timer, c.clock) {
-            let x = end_auction(c, k, space, m);
-            c = x.state;
-            m = x.count;
+    b.clock = t;
+    for k in 0..State::STRATEGIES {
+        if due(b.strategies[k], b.timer, b.clock) {
+            end_auction(b, k, records);
         }
-        k += 1;
     }
-    After { state: c, count: m }
 }

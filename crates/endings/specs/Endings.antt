@@ -1,6 +1,7 @@
 -- The rules of the end of an auction by what the code tests, and the ranges that they keep.
-use Rattle.std.specs.Prelude.{◌≡◌, Bool, true, false, not, List, ℕ, ◌≤◌, eqb, ℤ, length}
-use Rattle.std.proofs.Common.{ap, arith}
+use Rattle.std.specs.Prelude.{◌≡◌, Bool, true, false, not, ℕ, ◌≤◌, eqb, length, Option}
+use Rattle.std.proofs.Common.{ap, sym, ◌∙◌, arith, None, Some}
+use Rattle.base.specs.Chains.{found, found-is, found-no}
 use Rattle.std.proofs.Math.ListN.{get_or-eq_default}
 use Rattle.base.specs.Pick.{tests}
 use Rattle.rules.specs.declared.Entry.{Entry}
@@ -14,6 +15,7 @@ use Rattle.rules.specs.Auctions.{starter_slot, starter_pass, later, later_pass}
 use Rattle.rules.proofs.Control.{each-kept, starter_pass-kept, later_pass-kept, shrinks-kept}
 use Rattle.records.specs.Done.{Done}
 use Rattle.ranges.specs.Fit.{Fit, fit-done}
+use Rattle.auctions.specs.Auctions.{starter_in}
 use Rattle.records.specs.declared.Records.{Records}
 
 -- a pass of no entry
@@ -23,14 +25,14 @@ pass-past way legs a b n h =
     let e : entry_at b a ≡ no_entry = get_or-eq_default b.entries no_entry {n = a} (omega arith) in
     ap (λ (x : Entry). each (turn way legs a) x.units b) e
 
-module _ (k : ℕ) (b : State) {a : ℕ} (p : a ≡ starter_slot b k) where
-  pub starter-gone : length b.entries ≡ 32 → 32 ≤ a → starter_pass k b ≡ still b
-  unfolding starter_pass
-  starter-gone n h = rw (← p) (pass-past ForStarter _ a b n h)
+module _ (k : ℕ) (b : State) {r : Option ℕ} (p : r ≡ found 32 (starter_in b.entries k (strategy_at b k).starter)) where
+  pub starter-here : {a : ℕ} → r ≡ Some a → starter_pass k b ≡ pass ForStarter (not (strategy_at b k).answered) a b
+  unfolding starter_pass starter_slot
+  starter-here q = rw (found-is (sym q ∙ p)).0
 
-  pub starter-here : {legs : Bool} → legs ≡ not (strategy_at b k).answered → starter_pass k b ≡ pass ForStarter legs a b
-  unfolding starter_pass
-  starter-here l = rw (p, l)
+  pub starter-gone : length b.entries ≡ 32 → r ≡ None → starter_pass k b ≡ still b
+  unfolding starter_pass starter_slot
+  starter-gone n q = pass-past ForStarter _ _ b n (found-no (sym q ∙ p))
 
 module _ (k n i : ℕ) (b : State) where
   pub later-not : later k n (entry_at b i) ≡ false → later_pass k n i b ≡ still b

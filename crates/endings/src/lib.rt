@@ -12,68 +12,52 @@ ghost use Rattle.ranges.specs.Fit.{Fit};
 
 use auctions::{end_unfilled, starter_slot};
 use passes::pass;
-use records::After;
+use records::Records;
 use rules::{Allocation, Entry, State};
 use states::live_in;
 
 // The starter's shared pass, legs barred if an opposite sweep or waiting order was accepted meanwhile.
-fn starter_pass(b: State, k: usize, space: &mut [i32], n: usize) -> After
-    requires k_lt_strategy_slots { (k < strategy_slots) × Fit b }
-    requires room { Room space.old n (starter_pass k b).records }
-    ensures { Done space.old space.new n result.count result.state (starter_pass k b) }
+fn starter_pass(b: &mut State, k: usize, records: &mut Records)
+    requires k_lt_strategy_slots { (k < strategy_slots) × Fit b.old }
+    requires room { Room records.old (starter_pass k b.old).records }
+    ensures { Done records.old records.new b.new (starter_pass k b.old) }
 {
     let s = b.strategies[k];
-    let es = b.entries;
-    let a = starter_slot(es, k, s.starter);
-    if a < State::ROWS {
-        let legs = !s.answered;
-        return pass(Allocation::ForStarter, legs, b, a, space, n);
+    if let Some(a) = starter_slot(b.entries, k, s.starter) {
+        pass(Allocation::ForStarter, !s.answered, b, a, records);
     }
-    After { state: b, count: n }
 }
 
 // Whether an entry of strategy k was accepted after number n.
+#[tactic(auto, using(base::specs::Pick::tests), unfolding(rules::specs::Auctions::later))]
 fn later(k: usize, n: u32, e: Entry) -> bool
     ensures { result ≡ later k n e }
 {
-    if live_in(k, e) {
-        return n < e.number;
-    }
-    false
+    live_in(k, e) && n < e.number
 }
 
 // A numbered pass of each entry accepted meanwhile, by number; sweeps never use legs.
-fn later_passes(b: State, k: usize, n: u32, space: &mut [i32], m: usize) -> After
-    requires fit { Fit b }
-    requires room { Room space.old m (each (later_pass k n) table_rows b).records }
-    ensures { Done space.old space.new m result.count result.state (each (later_pass k n) table_rows b) }
+fn later_passes(b: &mut State, k: usize, n: u32, records: &mut Records)
+    requires fit { Fit b.old }
+    requires room { Room records.old (each (later_pass k n) table_rows b.old).records }
+    ensures { Done records.old records.new b.new (each (later_pass k n) table_rows b.old) }
 {
-    let mut c = b;
-    let mut o = m;
-    let mut i: usize = 0;
-    while i < State::ROWS {
-        let e = c.entries[i];
+    for i in 0..State::ROWS {
+        let e = b.entries[i];
         if later(k, n, e) {
-            let legs = e.life != 4;
-            let t = pass(Allocation::Numbered, legs, c, i, space, o);
-            c = t.state;
-            o = t.count;
+            pass(Allocation::Numbered, e.life != 4, b, i, records);
         }
-        i += 1;
     }
-    After { state: c, count: o }
 }
 
 // The auction of strategy k ends.
-pub fn end_auction(b: State, k: usize, space: &mut [i32], n: usize) -> After
-    requires k_lt_strategy_slots { (k < strategy_slots) × Fit b }
-    requires room { Room space.old n (end_auction k b).records }
-    ensures { Done space.old space.new n result.count result.state (end_auction k b) }
+pub fn end_auction(b: &mut State, k: usize, records: &mut Records)
+    requires k_lt_strategy_slots { (k < strategy_slots) × Fit b.old }
+    requires room { Room records.old (end_auction k b.old).records }
+    ensures { Done records.old records.new b.new (end_auction k b.old) }
 {
-    let s = b.strategies[k];
-    let x = starter_pass(b, k, space, n);
-    let c = x.state;
-    let y = later_passes(c, k, s.starter, space, x.count);
-    let d = y.state;
-    end_unfilled(d, k, space, y.count)
+    let n = b.strategies[k].starter;
+    starter_pass(b, k, records);
+    later_passes(b, k, n, records);
+    end_unfilled(b, k, records);
 }

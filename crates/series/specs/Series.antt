@@ -38,26 +38,20 @@ module _ (s state : ℕ) (b : State) where
   unfolding on_series
   series-opens h e = search tests
 
-pub shut-is : (s : ℕ) (b : State) {x y : ℕ} {c : State} → y ≡ 2 ^ s → x ≡ b.opened - y → c ≡ with_opened b x → shut s b ≡ each (end_holding s) 16 c
+pub shut-is : (s : ℕ) (b : State) {x y : ℕ} → y ≡ 2 ^ s → x ≡ b.opened - y → shut s b ≡ each (end_holding s) 16 (with_opened b x)
 unfolding shut
-shut-is s b p q e = rw (e, q, p)
+shut-is s b p q = rw (q, p)
 
-pub reopen-is : (s : ℕ) (b : State) {x : ℕ} {c : State} → x ≡ b.opened + 2 ^ s → c ≡ with_opened b x → reopen s b ≡ and_then (each (match_in s) 16 c) (leg_passes s)
+pub reopen-is : (s : ℕ) (b : State) {x : ℕ} → x ≡ b.opened + 2 ^ s → reopen s b ≡ and_then (each (match_in s) 16 (with_opened b x)) (leg_passes s)
 unfolding reopen
-reopen-is s b q e = rw (e, q)
+reopen-is s b p = rw p
 
 -- THE RANGES
 
-opened-fit : (b : State) (x : ℕ) → Fit b → Fit (with_opened b x)
+pub opened-fit : (b : State) (x : ℕ) → Fit b → Fit (with_opened b x)
 unfolding with_opened
 opened-fit b x f = record { strategies = f.strategies; entries = f.entries; orders = f.orders; priced = f.priced; strategy_rows = f.strategy_rows; entry_rows = f.entry_rows; order_rows = f.order_rows; quotes = f.quotes; quote_rows = f.quote_rows; range = f.range; nets = record { are = f.nets.are }; live = f.live }
 
-opened-ranged : (b : State) (x : ℕ) → Ranged b → Ranged (with_opened b x)
+pub opened-ranged : (b : State) (x : ℕ) → Ranged b → Ranged (with_opened b x)
 unfolding with_opened
 opened-ranged b x r = record { fit = opened-fit b x r.fit; auction = r.auction; clock = r.clock; timer = r.timer }
-
-pub fit_opened : (b : State) (x : ℕ) {c : State} → c ≡ with_opened b x → Fit b → Fit c
-fit_opened b x e f = rw e (opened-fit b x f)
-
-pub ranged-opened : (b : State) (x : ℕ) {c : State} → c ≡ with_opened b x → Ranged b → Ranged c
-ranged-opened b x e r = rw e (opened-ranged b x r)

@@ -4,7 +4,6 @@
 ghost use Rattle.std.specs.Prelude.{◌≡◌, false, not, ◌+◌, ◌^◌, ◌<◌, eqb};
 ghost use Rattle.base.specs.Pick.{pick};
 ghost use Rattle.base.specs.Sets.{has};
-ghost use Rattle.rules.specs.State.{with_opened};
 ghost use Rattle.rules.specs.Events.{shut, reopen, on_series};
 ghost use Rattle.records.specs.Space.{Room};
 ghost use Rattle.records.specs.Done.{Done};
@@ -12,84 +11,62 @@ ghost use Rattle.ranges.specs.Fit.{Fit};
 
 use auctions::end_unfilled;
 use matching::{all_leg_passes, match_series};
-use records::{After, less};
+use records::Records;
 use rules::{State, Strategy};
-use states::{holds, is_open};
-
-fn with_opened(b: State, x: u32) -> State
-    ensures { result ≡ with_opened b x }
-{
-    let mut c = b;
-    c.opened = x;
-    c
-}
+use states::{holds, is_open, runs};
 
 // Whether an auction runs in a strategy that holds a series.
+#[tactic(auto, using(base::specs::Pick::tests))]
 fn ends(h: Strategy, s: u8) -> bool
     ensures { result ≡ pick (not (eqb h.starter 0)) (has h.series s) false }
 {
-    if h.starter == 0 {
-        return false;
-    }
-    holds(h, s)
+    runs(h) && holds(h, s)
 }
 
 // A series shuts: the auctions of strategies that hold it end, by strategy.
-fn shut(b: State, s: u8, space: &mut [i32], n: usize) -> After
+fn shut(b: &mut State, s: u8, records: &mut Records)
     requires s_bound { s < 32 }
-    requires room { Room space.old n (shut s b).records }
-    ensures { Done space.old space.new n result.count result.state (shut s b) }
+    requires room { Room records.old (shut s b.old).records }
+    ensures { Done records.old records.new b.new (shut s b.old) }
 {
-    let left = less(b.opened, 1u32 << s);
-    let mut c = with_opened(b, left);
-    let mut m = n;
-    let mut k: usize = 0;
-    while k < State::STRATEGIES {
-        let h = c.strategies[k];
-        if ends(h, s) {
-            let t = end_unfilled(c, k, space, m);
-            c = t.state;
-            m = t.count;
+    b.opened = b.opened.saturating_sub(1 << s);
+    for k in 0..State::STRATEGIES {
+        if ends(b.strategies[k], s) {
+            end_unfilled(b, k, records);
         }
-        k += 1;
     }
-    After { state: c, count: m }
 }
 
+// A set of series with one more.
 fn with_series(x: u32, s: u8) -> u32
-    requires { (s < 32) × (x + 2 ^ s < 4294967296) }
+    requires { (s < 32) × (has x s ≡ false) }
     ensures { result ≡ x + 2 ^ s }
 {
-    x + (1u32 << s)
+    x + (1 << s)
 }
 
 // A series opens: the matches by strategy, then the passes by legs only.
-fn reopen(b: State, s: u8, space: &mut [i32], n: usize) -> After
-    requires s_bound { (s < 32) × Fit b × (has b.opened s ≡ false) }
-    requires room { Room space.old n (reopen s b).records }
-    ensures { Done space.old space.new n result.count result.state (reopen s b) }
+fn reopen(b: &mut State, s: u8, records: &mut Records)
+    requires s_bound { (s < 32) × Fit b.old × (has b.old.opened s ≡ false) }
+    requires room { Room records.old (reopen s b.old).records }
+    ensures { Done records.old records.new b.new (reopen s b.old) }
 {
-    let more = with_series(b.opened, s);
-    let c = with_opened(b, more);
-    let x = match_series(c, s, space, n);
-    let d = x.state;
-    all_leg_passes(d, s, space, x.count)
+    b.opened = with_series(b.opened, s);
+    match_series(b, s, records);
+    all_leg_passes(b, s, records);
 }
 
 // A series shuts (state 0), opens, or stays.
-pub fn on_series(b: State, s: u8, state: u32, space: &mut [i32], n: usize) -> After
-    requires s_bound { (s < 32) × Fit b }
-    requires room { Room space.old n (on_series s state b).records }
-    ensures { Done space.old space.new n result.count result.state (on_series s state b) }
+pub fn on_series(b: &mut State, s: u8, state: u32, records: &mut Records)
+    requires s_bound { (s < 32) × Fit b.old }
+    requires room { Room records.old (on_series s state b.old).records }
+    ensures { Done records.old records.new b.new (on_series s state b.old) }
 {
-    if is_open(b, s) {
+    if is_open(*b, s) {
         if state == 0 {
-            return shut(b, s, space, n);
+            shut(b, s, records);
         }
-        return After { state: b, count: n };
+    } else if state != 0 {
+        reopen(b, s, records);
     }
-    if state == 0 {
-        return After { state: b, count: n };
-    }
-    reopen(b, s, space, n)
 }

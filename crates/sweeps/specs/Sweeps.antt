@@ -1,10 +1,8 @@
 -- The rules of a sweep by what the code tests, and the ranges that they keep.
-use Rattle.std.specs.Prelude.{◌≡◌, true, false, ℕ, ◌≤◌, nat_lt, length, Option}
+use Rattle.std.specs.Prelude.{◌≡◌, true, false, ℕ, ◌≤◌, length, Option}
 use Rattle.std.proofs.Math.Path.{ap}
-use Rattle.std.proofs.Common.{sym, ◌∙◌, arith, ltb-false, None, Some}
-use Rattle.std.proofs.lemmas.Bool.{cond_both}
-use Rattle.std.proofs.lemmas.Option.{none-some, cond_some}
-use Rattle.base.specs.Chains.{found}
+use Rattle.std.proofs.Common.{sym, ◌∙◌, arith, None, Some}
+use Rattle.base.specs.Chains.{found, found-is, found-no}
 use Rattle.std.proofs.Math.ListN.{get_or-eq_default}
 use Rattle.base.specs.Pick.{tests}
 use Rattle.rules.specs.declared.Entry.{Entry}
@@ -37,13 +35,13 @@ module _ (e : Entry) (b : State) where
 module _ (e : Entry) (b : State) {r : Option ℕ} (p : r ≡ found 32 (old_sweep (only_entries b.entries) e)) where
   pub old-is : {i : ℕ} → r ≡ Some i → cancel_entry (old_sweep b e) b ≡ cancel_entry i b
   unfolding old_sweep
-  old-is q = rw (cond_some _ _ _ (sym p ∙ q)).1
+  old-is q = rw (found-is (sym q ∙ p)).0
 
   pub old-none : length b.entries ≡ 32 → r ≡ None → cancel_entry (old_sweep b e) b ≡ still b
   unfolding cancel_entry old_sweep
   old-none n q =
       let k : ℕ = old_sweep (only_entries b.entries) e in
-      let l : 32 ≤ k = cond_both (nat_lt k 32) (Some k) None (λ o. o ≡ None → 32 ≤ k) (λ t f. absurd (none-some k (sym f))) (λ t f. ltb-false k 32 t) (sym p ∙ q) in
+      let l : 32 ≤ k = found-no (sym q ∙ p) in
       let x : entry_at b k ≡ no_entry = get_or-eq_default b.entries no_entry {n = k} (omega arith) in
       let z : (entry_at b k).units ≡ 0 = ap (λ (y : Entry). y.units) x in
       search tests

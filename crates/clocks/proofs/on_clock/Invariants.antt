@@ -1,10 +1,6 @@
-use Rattle.rules.specs.Auctions.{end_due}
 use Rattle.records.specs.Done.{Visited}
-use Prim.Native.Nat.{◌-◌}
+use Rattle.rules.specs.Auctions.{end_due}
 use Rattle.clocks.proofs.on_clock.Given as goal
 
 abbrev pub invariant-loop-k : goal.invariant-loop-k
-invariant-loop-k l = Visited end_due 16 l.initial.c l.initial.space l.space l.n l.m l.c l.k
-
-abbrev pub decreases-loop-k : goal.decreases-loop-k
-decreases-loop-k l = 16 - l.k
+invariant-loop-k l = Visited end_due 16 l.initial.b l.initial.records l.records l.b l.k
