@@ -1,6 +1,8 @@
 -- The outcome of an event by what the code has found, and what it hands back.
 use Rattle.std.specs.Prelude.{◌≡◌, refl, List, ℕ, ◌≤◌, ◌<◌, ℤ, Result, Ok, Err}
 use Rattle.std.proofs.Common.{sym, subst, ◌∙◌, arith, eq-eqb, ne_eqb, lt-ltb, le-ltb}
+use Rattle.std.specs.Result.{IsErrAnd}
+use Rattle.std.proofs.lemmas.Result.{err_from_is_err_and}
 use Rattle.std.proofs.Math.Nat.{zero-add}
 use Rattle.std.proofs.Math.ListN.{length}
 use Rattle.base.specs.Pick.{pick, pick_true, pick-false}
@@ -72,6 +74,10 @@ module _ (b : State) (e : Event) (s : List ℤ) (q : Valid b × FitEvent e × (1
   pub took-refused : {f : Refusal} → refusal_number f ≡ first_cause (causes b e) → Took b e s s b (Err f)
   took-refused c = handed-refused b (Ok e) s (c ∙ sym (refusal-event b e (length s) q.2))
 
+  -- .. at the exit of a `?`
+  pub took-exit : (f : Refusal) {x : Result Accepted Refusal} → IsErrAnd x (λ (r : Refusal). r ≡ f) → refusal_number f ≡ first_cause (causes b e) → Took b e s s b x
+  took-exit f {x} h c = let p = err_from_is_err_and x h in rw (p.1, p.2) (took-refused c)
+
   -- one that nothing refuses: room for its records, and what it leaves after its rule y
   module _ (c : 0 ≡ first_cause (causes b e)) {y : Moved} (a : accept b e ≡ y) where
     pub room-event : Room s 0 y.records
@@ -107,9 +113,13 @@ pub stepped-short : (b : State) (f : List ℕ) (s : List ℤ) → length s < 15_
 unfolding step
 stepped-short b f s h = handed-refused b (read_of f) s (sym (refusal-short b (read_of f) (length s) h))
 
-pub stepped-refused : (b : State) (f : List ℕ) (s : List ℤ) → 15_360 ≤ length s → {r : Refusal} → ◌≡◌ {A = Result Event Refusal} (Err r) (read_of f) → Stepped b f s s b (Err r)
+stepped-refused : (b : State) (f : List ℕ) (s : List ℤ) → 15_360 ≤ length s → {r : Refusal} → ◌≡◌ {A = Result Event Refusal} (Err r) (read_of f) → Stepped b f s s b (Err r)
 unfolding step
 stepped-refused b f s h {r} e = rw (← e) (handed-refused b (Err r) s (sym (refusal-read b r (length s) h)))
+
+-- .. at the exit of a `?`
+pub stepped-exit : (b : State) (f : List ℕ) (s : List ℤ) → 15_360 ≤ length s → (r : Refusal) {x : Result Accepted Refusal} → IsErrAnd x (λ (y : Refusal). y ≡ r) → ◌≡◌ {A = Result Event Refusal} (Err r) (read_of f) → Stepped b f s s b x
+stepped-exit b f s l r {x} h e = let p = err_from_is_err_and x h in rw (p.1, p.2) (stepped-refused b f s l e)
 
 -- an event e of the frame f, by the kind k that the code has found
 module _ (f : List ℕ) {e k : Event} (g : ◌≡◌ {A = Result Event Refusal} (Ok e) (read_of f)) (h : e ≡ k) where

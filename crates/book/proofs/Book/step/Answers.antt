@@ -1,13 +1,12 @@
 -- proofs/Book/step/Answers.antt
-use Rattle.std.proofs.lemmas.Result.{err_from_is_err_and}
-use Rattle.book.specs.Outcomes.{stepped-short, stepped-refused, stepped, event-fits}
+use Rattle.book.specs.Outcomes.{stepped-short, stepped-exit, stepped, event-fits}
 use Rattle.book.proofs.Book.step.Goals as goal
 
 pub returns-then-space-lt-RECORD_SPACE : goal.returns-then-space-lt-RECORD_SPACE
 returns-then-space-lt-RECORD_SPACE c = stepped-short _ _ _ c.if-space-lt-RECORD_SPACE.true
 
 pub returns-in_err-e : goal.returns-in_err-e
-returns-in_err-e c = let p = err_from_is_err_and c.from_residual.result c.from_residual.ensures.1 in rw (p.1, p.2) (stepped-refused _ _ _ c.if-space-lt-RECORD_SPACE.false c.in_err-e.ensures)
+returns-in_err-e c = stepped-exit _ _ _ c.if-space-lt-RECORD_SPACE.false _ c.from_residual.ensures.1 c.in_err-e.ensures
 
 pub strategy-requires : goal.strategy-requires
 strategy-requires c = event-fits c.args.frame.now c.in_ok-e.ensures c.in-Strategy.is
