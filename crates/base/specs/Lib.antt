@@ -5,3 +5,4 @@ pub mod Sets
 pub mod Gcd
 pub mod SetLaws
 pub mod Chains
+pub mod Maps

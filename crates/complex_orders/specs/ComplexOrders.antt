@@ -1,5 +1,7 @@
 -- What a complex order does that has entered, by what the code reads and tests.
-use Rattle.std.specs.Prelude.{◌≡◌, false, not, List, [], ◌∷◌, ℕ, ◌≤◌, ◌<◌, eqb, ℤ, length}
+use Rattle.std.specs.Prelude.{◌≡◌, false, not, List, [], ◌∷◌, ℕ, ◌≤◌, ◌<◌, eqb, length, Option}
+use Rattle.base.specs.Chains.{unless_zero}
+use Rattle.nets.specs.Nets.{betters_net, betters-net}
 use Rattle.std.proofs.Math.Path.{refl, sym, ap}
 use Rattle.std.proofs.Common.{◌∙◌, arith}
 use Rattle.std.proofs.Math.Bool.{Bool, true}
@@ -30,10 +32,9 @@ use Rattle.fills.specs.Fills.{with_entry, cancel-room, cancel-stores}
 use Rattle.auctions.specs.Auctions.{answers_in, answer-by, auctioned, put_is}
 use Rattle.entries.specs.Entered.{entered, entered-is}
 use Rattle.ranges.specs.Fit.{Fit}
-use Rattle.nets.specs.Legs.{net_where}
 use Rattle.stored_nets.specs.Stored.{net_for}
 use Rattle.stored_nets.specs.Laws.{net-stored}
-use Rattle.passes.specs.Passes.{stops_at, opposite_in, net_in, net_over, legs_met, turn-met, pass-still}
+use Rattle.passes.specs.Passes.{stops_at, opposite_in, net_in, net_over, legs_met, turn-met, pass-still, ready_level}
 use Rattle.complex_orders.specs.declared.Arrival.{Arrival}
 use Rattle.complex_orders.specs.declared.Arrival.TheVariants as A
 use Rattle.records.specs.declared.Records.{Records}
@@ -90,9 +91,10 @@ nets-are e b f h l = record {
     other-most : (side : ℕ) → other side ≤ 1
     other-most side = unfold other in pick_all (λ (x : ℕ). x ≤ 1) (eqb side 0) (omega arith) (omega arith)
 
-pub starts-yes : (e : Entry) (n : LegNets) {on net : ℕ} {r : Bool} → may_start e ≡ true → on ≡ other e.side → net ≡ net_for n on → r ≡ betters false e.side e.level net → r ≡ starts_by e n
+pub starts-yes : (e : Entry) (n : LegNets) {on : ℕ} {net : Option ℕ} {r : Bool} → may_start e ≡ true → on ≡ other e.side → net ≡ unless_zero (net_for n on) → r ≡ betters_net false e.side e.level net → r ≡ starts_by e n
 unfolding starts_by
-starts-yes e n m o f h = h ∙ ap (betters false e.side e.level) (f ∙ ap (net_for n) o) ∙ sym (pick_true _ _ _ m)
+starts-yes e n m o f h =
+    h ∙ ap (betters_net false e.side e.level) (f ∙ ap (λ (x : ℕ). unless_zero (net_for n x)) o) ∙ betters-net false e.side e.level (net_for n (other e.side)) ∙ sym (pick_true _ _ _ m)
 
 -- whether it starts an auction, by these
 pub starts-found : (e : Entry) (s : Strategy) (os : List LegOrder) {n : LegNets} {r : Bool} → NetsAre n os s e.side → r ≡ starts_by e n → r ≡ starts_in e s os
@@ -101,13 +103,13 @@ starts-found e s os a h = h ∙ ap (λ (x : ℕ). both (may_start e) (betters fa
 
 -- the turn by the stored net is the rule's
 idle_met : (e : Entry) (s : Strategy) (es : List Entry) (os : List LegOrder) {net : ℕ} → net ≡ net_over true os e.side s
-    → stops_at (turn_at e (opposite_in Shared es e) (net_where (legs_met e (opposite_in Shared es e) net os s))) ≡ idle_in e s es os
+    → stops_at (turn_at e (opposite_in Shared es e) (ready_level (legs_met e (opposite_in Shared es e) net os s))) ≡ idle_in e s es os
 idle_met e s es os q =
-    ap (λ (x : ℕ). stops_at (turn_at e (opposite_in Shared es e) (net_where (legs_met e (opposite_in Shared es e) x os s)))) q ∙ ap stops_at (turn-met true e (opposite_in Shared es e) os s)
+    ap (λ (x : ℕ). stops_at (turn_at e (opposite_in Shared es e) (ready_level (legs_met e (opposite_in Shared es e) x os s)))) q ∙ ap stops_at (turn-met true e (opposite_in Shared es e) os s)
 
 -- whether its pass does nothing, by the net that is stored
 pub idle-found : (e : Entry) (s : Strategy) (es : List Entry) (os : List LegOrder) {n : LegNets} {net : ℕ} {r : Bool} → NetsAre n os s e.side → net ≡ net_for n e.side
-    → r ≡ stops_at (turn_at e (opposite_in Shared es e) (net_where (legs_met e (opposite_in Shared es e) net os s))) → r ≡ idle_in e s es os
+    → r ≡ stops_at (turn_at e (opposite_in Shared es e) (ready_level (legs_met e (opposite_in Shared es e) net os s))) → r ≡ idle_in e s es os
 unfolding net_over pick
 idle-found e s es os a g h = h ∙ idle_met e s es os (g ∙ a.met)
 

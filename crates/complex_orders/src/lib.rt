@@ -14,15 +14,15 @@ ghost use Rattle.ranges.specs.Fit.{FitLegs, Fit};
 ghost use Rattle.complex_orders.specs.ComplexOrders.{starts_by, NetsAre, rests_as, waits_as, arrival_of};
 
 use auctions::{answers, begin, with_auction};
-use entries::insert;
 use fills::{cancel_entry, cancel_record, cut_entry};
 use nets::betters;
 use passes::{idle, pass};
-use records::{After, push};
+use records::Records;
 use rules::{Allocation, Entry, LegNets, LegOrder, State, Strategy};
 use sides::other;
 use states::{none_shut, runs};
 use stored_nets::net_for;
+use tables::{Inserted, insert};
 
 // What an order does that has entered: it stays, resting or waiting in the auction; it is cancelled; it waits and answers
 // the auction; it starts one; or it has its shared pass.
@@ -35,56 +35,42 @@ pub enum Arrival {
     Passes,
 }
 
-fn is_either(x: u8, y: u8, z: u8) -> bool
-    ensures { result ≡ pick (eqb x y) true (eqb x z) }
-{
-    if x == y {
-        return true;
-    }
-    x == z
-}
-
 // Whether class and life let an order start an auction.
+#[tactic(auto, using(base::specs::Pick::tests), unfolding(rules::specs::Events::may_start))]
 fn may_start(e: Entry) -> bool
     ensures { result ≡ may_start e }
 {
-    if is_either(e.class, 1, 2) {
-        return is_either(e.life, 0, 1);
-    }
-    false
+    (e.class == 1 || e.class == 2) && (e.life == 0 || e.life == 1)
 }
 
 // Whether it does: its limit is better than the known leg net of its own side.
 fn starts(e: Entry, n: LegNets) -> bool
     ensures { result ≡ starts_by e n }
 {
-    if may_start(e) {
-        let on = other(e.side);
-        let net = net_for(n, on);
-        return betters(false, e.side, e.level, net);
-    }
-    false
+    may_start(e) && betters(false, e.side, e.level, net_for(n, other(e.side)))
 }
 
 // Day rests and others are cancelled.
+#[tactic(auto, using(base::specs::Pick::tests), unfolding(crate::specs::ComplexOrders::rests_as))]
 fn rests(e: Entry) -> Arrival
     ensures { result ≡ rests_as e }
 {
     if e.life == 0 {
-        return Arrival::Rests;
+        Arrival::Rests
+    } else {
+        Arrival::Cancelled
     }
-    Arrival::Cancelled
 }
 
 // Where an auction runs, do-not-auction is cancelled and others wait, of which one of the other side answers.
+#[tactic(auto, using(base::specs::Pick::tests), unfolding(crate::specs::ComplexOrders::waits_as))]
 fn waits(e: Entry, s: Strategy, es: [Entry; State::ROWS]) -> Arrival
     ensures { result ≡ waits_as e s es }
 {
     if e.life == 3 {
         return Arrival::Cancelled;
     }
-    let k = e.strategy as usize;
-    if answers(es, k, s.starter, e.side) {
+    if answers(es, e.strategy as usize, s.starter, e.side) {
         return Arrival::Answers;
     }
     Arrival::Rests
@@ -102,81 +88,63 @@ fn arrives(
     requires { All FitOrder os × All Priced os × FitLegs s × NetsAre n os s e.side }
     ensures { result ≡ arrival_of e s opened es os }
 {
-    if none_shut(s, opened) {
-        if runs(s) {
-            return waits(e, s, es);
-        }
-        if starts(e, n) {
-            return Arrival::Starts;
-        }
-        let net = net_for(n, e.side);
-        if idle(Allocation::Shared, e, es, net, os, s) {
-            return rests(e);
-        }
-        return Arrival::Passes;
+    if !none_shut(s, opened) {
+        return rests(e);
     }
-    rests(e)
+    if runs(s) {
+        return waits(e, s, es);
+    }
+    if starts(e, n) {
+        return Arrival::Starts;
+    }
+    if idle(Allocation::Shared, e, es, net_for(n, e.side), os, s) {
+        return rests(e);
+    }
+    Arrival::Passes
 }
 
 // Day rests and others are cancelled.
-fn rest_or_cancel(b: State, i: usize, space: &mut [i32], n: usize) -> After
+fn rest_or_cancel(b: &mut State, i: usize, records: &mut Records)
     requires i_lt_table_rows { i < table_rows }
-    requires room { Room space.old n (rest_or_cancel i b).records }
-    ensures { Done space.old space.new n result.count result.state (rest_or_cancel i b) }
+    requires room { Room records.old (rest_or_cancel i b.old).records }
+    ensures { Done records.old records.new b.new (rest_or_cancel i b.old) }
 {
-    let e = b.entries[i];
-    if e.life == 0 {
-        return After { state: b, count: n };
+    if b.entries[i].life != 0 {
+        cancel_entry(b, i, records);
     }
-    cancel_entry(b, i, space, n)
 }
 
 // A shared pass of the order at slot i, then it rests or is cancelled.
-fn trades(b: State, i: usize, space: &mut [i32], n: usize) -> After
-    requires i_lt_table_rows { (i < table_rows) × Fit b }
-    requires room { Room space.old n (trades i b).records }
-    ensures { Done space.old space.new n result.count result.state (trades i b) }
+fn trades(b: &mut State, i: usize, records: &mut Records)
+    requires i_lt_table_rows { (i < table_rows) × Fit b.old }
+    requires room { Room records.old (trades i b.old).records }
+    ensures { Done records.old records.new b.new (trades i b.old) }
 {
-    let x = pass(Allocation::Shared, true, b, i, space, n);
-    let c = x.state;
-    rest_or_cancel(c, i, space, x.count)
+    pass(Allocation::Shared, true, b, i, records);
+    rest_or_cancel(b, i, records);
 }
 
 // A complex order, accepted: it enters, and does what it then finds.
-pub fn on_order(e: Entry, b: State, space: &mut [i32], n: usize) -> After
-    requires b_bound { (free_slot b < table_rows) × FitEntry e × (0 < e.units) × (0 < (strategy_at b e.strategy).count) × Fit b }
-    requires room { Room space.old n (on_order e b).records }
-    ensures { Done space.old space.new n result.count result.state (on_order e b) }
+pub fn on_order(e: Entry, b: &mut State, records: &mut Records)
+    requires b_bound { (free_slot b.old < table_rows) × FitEntry e × (0 < e.units) × (0 < (strategy_at b.old e.strategy).count) × Fit b.old }
+    requires room { Room records.old (on_order e b.old).records }
+    ensures { Done records.old records.new b.new (on_order e b.old) }
 {
-    let mut c = b;
-    let es = c.entries;
-    let x = insert(es, e);
-    let i = x.slot;
-    let rows = x.rows;
-    c.entries = rows;
-    c.last = e.number;
+    let Inserted { rows, slot: i } = insert(b.entries, e);
+    b.entries = rows;
+    b.last = e.number;
     let k = e.strategy as usize;
-    let s = c.strategies[k];
-    let os = c.orders;
-    let ns = c.nets[k];
-    let a = arrives(e, s, c.opened, rows, os, ns);
-    let mut m = n;
-    match a {
+    let s = b.strategies[k];
+    match arrives(e, s, b.opened, rows, b.orders, b.nets[k]) {
         Arrival::Rests => {}
         Arrival::Cancelled => {
-            let r = cancel_record(e);
-            m = push(space, n, r);
-            c.entries[i] = cut_entry(e, e.units as u32);
+            records.push(cancel_record(e));
+            b.entries[i] = cut_entry(e, e.units as u32);
         }
         Arrival::Answers => {
-            c.strategies[k] = with_auction(s, s.starter, s.begun, true);
+            b.strategies[k] = with_auction(s, s.starter, s.begun, true);
         }
-        Arrival::Starts => {
-            return begin(c, i, space, n);
-        }
-        Arrival::Passes => {
-            return trades(c, i, space, n);
-        }
+        Arrival::Starts => begin(b, i, records),
+        Arrival::Passes => trades(b, i, records),
     }
-    After { state: c, count: m }
 }

@@ -1,5 +1,5 @@
 -- The trades of a leg order that has entered: the leg orders left, and the nets, of which the price of its own side is still as it was.
-use Rattle.std.specs.Prelude.{◌≡◌, refl, Bool, true, false, List, ℕ, ◌≤◌, ◌<◌, eqb, ℤ, length, get_or}
+use Rattle.std.specs.Prelude.{◌≡◌, refl, Bool, true, false, List, ℕ, ◌≤◌, ◌<◌, eqb, length, get_or}
 use Rattle.std.proofs.Common.{sym, ◌∙◌, eqb-true}
 use Rattle.std.proofs.Math.Path.{ap}
 use native.Mathlib.Omega.{arith}
@@ -52,7 +52,7 @@ abbrev pub but_own : List LegOrder → List LegOrder → LegOrder → Prices
 but_own os left o = with_price (price_of left) o.series o.side (price_of os o.series o.side)
 
 -- the trades done: the records, the leg orders left, and the nets
-pub record TradesLeft (os rows : List LegOrder) (a : ℕ) (o : LegOrder) (ss : List Strategy) (r₀ r₁ : Records) (left : List LegOrder) (ms : List LegNets) (m : ℕ) : Type 0 where
+pub record TradesLeft (os rows : List LegOrder) (a : ℕ) (o : LegOrder) (ss : List Strategy) (r₀ r₁ : Records) (left : List LegOrder) (ms : List LegNets) : Type 0 where
   pub done : DoneIn (HasOrders rows) (trade_all a) r₀ r₁ (put_orders left)
   pub nets : ms ≡ all_nets_by (but_own os left o) ss
 
@@ -96,14 +96,14 @@ module _ {os rows : List LegOrder} {a : ℕ} {o : LegOrder} {ss : List Strategy}
   enters-fits = rw stored-before (fit-all-by (price_of os) (price-most os g.orders) ss g.legs)
 
   -- no trade
-  pub left-none : {h : ℕ} (r₀ : Records) → h ≡ next_trade a (only_orders rows) → h ≡ 32 → TradesLeft os rows a o ss sp sp n rows ns n
-  left-none {h} sp n e z = record {
+  pub left-none : (r : Records) → 32 ≤ next_trade a (only_orders rows) → TradesLeft os rows a o ss r r rows ns
+  left-none r z = record {
     done = record { done = λ b k. none b k };
     nets = stored-before ∙ all-nets-ext ss (λ x d. with-price-is (price_of rows) o.series o.side _ (λ (y : ℕ). price_of os x d ≡ y) x d (λ p q. rw (p, q) refl) (λ u. sym (entered-price x d u)));
   }
     where
-      none : (b : State) → HasOrders rows b → Done r₀ r₀ (put_orders rows b) (trade_all a b)
-      none b k = rw (put_same rows b k) (done-of (trades-none a b {h = h} (rw k.orders e) (omega arith)) (done-still r₀ b))
+      none : (b : State) → HasOrders rows b → Done r r (put_orders rows b) (trade_all a b)
+      none b k = rw (put_same rows b k) (done-of (trades-none a b (rw k.orders refl) z) (done-still r b))
 
   -- the order stands at its slot
   entered_at : get_or rows a no_order ≡ o
@@ -158,7 +158,7 @@ module _ {os rows : List LegOrder} {a : ℕ} {o : LegOrder} {ss : List Strategy}
           (λ q. let p = eqb-true x o.series q in no-side os left x f g.orders left-orders (past-sides o.side f g.own.side (λ y. v (p, y)) (λ y. u (p, y))))
           (λ q. sym (other-series x f (eqb-false x o.series q)))
 
-      pub left-some : {on old : ℕ} {ms : List LegNets} → on ≡ other o.side → old ≡ price_of os o.series on → Refreshed ns ss left o.series on old ms → TradesLeft os rows a o ss sp sq n left ms m
+      pub left-some : {on old : ℕ} {ms : List LegNets} → on ≡ other o.side → old ≡ price_of os o.series on → Refreshed ns ss left o.series on old ms → TradesLeft os rows a o ss r₀ r₁ left ms
       left-some {on} {old} q p f = record {
         done = d;
         nets = rw q at (f.by (price_of os) (price-most os g.orders) stored-before (sym p) (λ y. absurd (let t = rw q at p in omega (arith, old-there))))

@@ -1,5 +1,5 @@
 -- The rules of a leg order by what the code tests, and the ranges that they keep.
-use Rattle.std.specs.Prelude.{◌≡◌, refl, List, ℕ, ◌≤◌, ◌<◌, ℤ, length, get_or}
+use Rattle.std.specs.Prelude.{◌≡◌, refl, List, ℕ, ◌≤◌, ◌<◌, get_or}
 use Rattle.std.proofs.Common.{sym, ◌∙◌, eq-eqb, ne_eqb}
 use Rattle.std.proofs.Math.Path.{ap}
 use Rattle.rules.specs.declared.LegOrder.{LegOrder}
@@ -15,7 +15,7 @@ use Rattle.rules.proofs.Control.{trade_all-kept, shrinks-kept}
 use Rattle.rules.proofs.Entering.{fit-no-order}
 use Rattle.rules.proofs.Tables.{behind-all, behind-length}
 use Rattle.records.specs.Space.{Room}
-use Rattle.records.specs.Done.{Done, RoomIn, done-length, room_of, room-then}
+use Rattle.records.specs.Done.{Done, RoomIn, room_of, room-then}
 use Rattle.ranges.specs.Fit.{FitLegs, Fit, fit-done}
 use Rattle.rules.proofs.Bests.{priced-none}
 use Rattle.rules.proofs.LegPrices.{filled-price}
@@ -94,12 +94,9 @@ module _ (o : LegOrder) (b : State) {a : ℕ} {rows : List LegOrder} (slot : a �
   pub enters-room : {r₀ : Records} → Room r₀ (on_leg_order o b).records → RoomIn (HasRows rows) (trade_all a) r₀
   enters-room r = record { book = enter_order o b; held = enter-rows o b entered own priced fit; room = room-then _ _ (room_of (leg-is o b slot refl) r) }
 
-  module _ (left : List LegOrder) {r₀ r₁ : Records} {ms : List LegNets} (t : TradesLeft b.orders rows a o b.strategies sp sq n left ms m) where
+  module _ (left : List LegOrder) {r₀ r₁ : Records} {ms : List LegNets} (t : TradesLeft b.orders rows a o b.strategies r₀ r₁ left ms) where
     done-here : Done r₀ r₁ (put_orders left (enter_order o b)) (trade_all a (enter_order o b))
     done-here = t.done.done (enter_order o b) (has-orders (enter-rows o b entered own priced fit))
-
-    pub left-length : length sq ≡ length sp
-    left-length = done-length done-here
 
     fit-left : Fit (put_orders left (enter_order o b))
     fit-left = fit-trades a (enter_order o b) (enter-fit o b own priced fit) done-here

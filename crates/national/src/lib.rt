@@ -86,18 +86,16 @@ pub fn may_meet(w: Bounds, level: u32) -> bool
 }
 
 // Both national prices of a series are set; a 0 takes the old one away.
-pub fn set_prices(b: State, s: u8, q: Quote) -> State
+pub fn set_prices(b: &mut State, s: u8, q: Quote)
     requires { s < series_count }
-    ensures { result ≡ on_national s q b }
+    ensures { b.new ≡ on_national s q b.old }
 {
-    let mut c = b;
-    c.national[s as usize] = q;
-    c
+    b.national[s as usize] = q;
 }
 
 // The execution range is set.
-pub fn set_range(b: State, range: u32) -> State
-    ensures { result ≡ on_range range b }
+pub fn set_range(b: &mut State, range: u32)
+    ensures { b.new ≡ on_range range b.old }
 {
-    State { range, ..b }
+    b.range = range;
 }

@@ -14,13 +14,11 @@ use quotas::{opposes, portion, share, total};
 use rules::{Entry, Specialist, State};
 
 // Strategy k has that specialist.
-pub fn set_specialist(b: State, k: u8, p: Specialist) -> State
+pub fn set_specialist(b: &mut State, k: u8, p: Specialist)
     requires { k < strategy_slots }
-    ensures { result ≡ on_specialist k p b }
+    ensures { b.new ≡ on_specialist k p b.old }
 {
-    let mut c = b;
-    c.strategies[k as usize].specialist = p;
-    c
+    b.strategies[k as usize].specialist = p;
 }
 
 // What the sweep of x units gets of r: the greater of its rounded-down share and the rounded-down percentage, never above

@@ -1,12 +1,15 @@
 -- Laws of a definition's ratios and places.
-use Rattle.std.specs.Prelude.{◌≡◌, Bool, false, List, ℕ, zero, suc, ◌+◌, ◌%◌, ◌≤◌, ◌<◌, length, set}
-use Rattle.std.proofs.Common.{sym, ◌∙◌, ⊎_elim, arith, ne_eqb}
+use Rattle.std.specs.Prelude.{◌≡◌, Bool, true, false, List, ℕ, zero, suc, ◌%◌, ◌≤◌, ◌<◌, ltb, get_or}
+use Rattle.std.specs.List.{list_any, position, range_with_len}
+use Rattle.std.specs.Option.{is_some}
+use Rattle.std.proofs.Common.{refl, sym, ◌∙◌, ap, zero-add, arith, ne_eqb, cond, Some, None}
+use Rattle.std.proofs.lemmas.List.FromFn.{get_or-range_with_len, length-range_with_len}
 use Rattle.base.specs.Pick.{pick-false, tests}
-use Rattle.base.specs.Walks.{walk, seam, seam-next, seam-last, below}
+use Rattle.base.specs.Walks.{walk, any_n, first_n, first-same}
+use Rattle.base.specs.Chains.{found, any-slots, position-slots}
 use Rattle.base.specs.Gcd.{gcd, gcd-step}
 use Rattle.rules.specs.declared.Leg.{Leg}
-use Rattle.rules.specs.State.{no_leg}
-use Rattle.rules.specs.Strategies.{divisor, divided_at, lowest_terms, smallest_step}
+use Rattle.rules.specs.Strategies.{smallest_step}
 
 -- laws
 
@@ -23,16 +26,28 @@ unfolding walk
 smallest-most legs zero = omega arith
 smallest-most legs (suc k) = let h = smallest-most legs k in omega arith
 
--- a test that failed at the first i slots and fails at slot i
-pub none_more : (f : ℕ → Bool) (i : ℕ) → ((j : ℕ) → j < i → f j ≡ false) → f i ≡ false → (j : ℕ) → j < i + 1 → f j ≡ false
-none_more f i h e j l = ⊎_elim (λ q. rw q e) (λ m. h j m) (below (let k : j < suc i = omega arith in k))
+-- tests and searches over the first n numbers
+any_same : (f g : ℕ → Bool) (k : ℕ) → ((i : ℕ) → i < k → f i ≡ g i) → any_n f k ≡ any_n g k
+unfolding any_n
+any_same f g zero h = refl
+any_same f g (suc k) h = cc (any_same f g k (λ i l. h i (omega arith)), h k (omega arith))
 
--- the loop over six legs that stores each one divided
-pub terms-next : (legs : List Leg) (d i : ℕ) {ls : List Leg} {x : Leg} → length legs ≡ 6 → i < 6 → ls ≡ seam (divided_at legs d) legs i → x ≡ divided_at legs d i
-    → set ls i x ≡ seam (divided_at legs d) legs (i + 1)
-terms-next legs d i n h e g = rw (e, g) (seam-next (divided_at legs d) legs no_leg i (omega arith))
+module _ (f : ℕ → Bool) (n : ℕ) where
+  pub any-range : list_any f (range_with_len 0 n) ≡ any_n f n
+  any-range =
+      any-slots 0 f (range_with_len 0 n) ∙ ap (any_n (λ (i : ℕ). f (get_or (range_with_len 0 n) i 0))) (length-range_with_len 0 n)
+      ∙ any_same _ _ n (λ i h. ap f (get_or-range_with_len 0 n i 0 h ∙ zero-add i))
 
-pub terms-last : (legs : List Leg) (count i : ℕ) {d : ℕ} {ls : List Leg} → length legs ≡ 6 → i ≡ 6 → d ≡ divisor legs count → ls ≡ seam (divided_at legs d) legs i
-    → ls ≡ lowest_terms legs count
-unfolding lowest_terms
-terms-last legs count i n h g e = rw (e, g, h) (seam-last (divided_at legs (divisor legs count)) legs 6 (omega arith))
+  pub position-range : position f (range_with_len 0 n) ≡ found n (first_n f n)
+  position-range =
+      position-slots 0 f (range_with_len 0 n)
+      ∙ ap (λ (k : ℕ). found k (first_n (λ (i : ℕ). f (get_or (range_with_len 0 n) i 0)) k)) (length-range_with_len 0 n)
+      ∙ ap (found n) (first-same _ _ n (λ i h. ap f (get_or-range_with_len 0 n i 0 h ∙ zero-add i)))
+
+-- whether a place is found
+pub found-some : (n k : ℕ) → is_some (found n k) ≡ ltb k n
+found-some n k = by (ltb k n)
+  where
+    by : (t : Bool) → is_some (cond t (Some k) None) ≡ t
+    by true = refl
+    by false = refl

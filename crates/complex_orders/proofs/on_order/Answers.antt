@@ -6,51 +6,45 @@ use Rattle.records.specs.Done.{done-of, done-still, room_of}
 use Rattle.complex_orders.specs.ComplexOrders.{does, order_is, slot-within, cancels-room, cancels-done, answers-is, nets-are}
 use Rattle.complex_orders.proofs.on_order.Goals as goal
 
-pub bounds-c-k : goal.bounds-c-k
-bounds-c-k c = c.requires.b_bound.1.strategy
+pub bounds-b-k : goal.bounds-b-k
+bounds-b-k c = c.requires.b_bound.1.strategy
 
-pub bounds-c-k-2 : goal.bounds-c-k-2
-bounds-c-k-2 c = c.requires.b_bound.1.strategy
+pub arrives-requires : goal.arrives-requires
+arrives-requires c = (c.requires.b_bound.4.orders, c.requires.b_bound.4.priced, fit-legs c.requires.b_bound.4.strategies _, nets-are _ _ c.requires.b_bound.4 c.requires.b_bound.1 c.requires.b_bound.3)
 
-pub arrives-a-requires : goal.arrives-a-requires
-arrives-a-requires c = (c.requires.b_bound.4.orders, c.requires.b_bound.4.priced, fit-legs c.requires.b_bound.4.strategies _, nets-are _ _ c.requires.b_bound.4 c.requires.b_bound.1 c.requires.b_bound.3)
-
-pub push-m-requires : goal.push-m-requires
+pub push-requires : goal.push-requires
 unfolding does
-push-m-requires c = cancels-room _ _ c.insert-x.ensures.0 c.insert-x.ensures.1 c.requires.b_bound.0 c.requires.b_bound.2 c.cancel_record-r.ensures (room_of (order_is _ _ c.insert-x.ensures.0 c.insert-x.ensures.1 c.requires.b_bound.0 (sym c.in-Cancelled.is ∙ c.arrives-a.ensures)) c.requires.room)
+push-requires c = cancels-room _ _ c.insert-i.ensures.0 c.insert-i.ensures.1 c.requires.b_bound.0 c.requires.b_bound.2 c.cancel_record.ensures (room_of (order_is _ _ c.insert-i.ensures.0 c.insert-i.ensures.1 c.requires.b_bound.0 (sym c.in-Cancelled.is ∙ c.arrives.ensures)) c.requires.room)
 
-pub offset_bounds-c-i : goal.offset_bounds-c-i
-offset_bounds-c-i c = let k = slot-within _ _ c.insert-x.ensures.0 c.insert-x.ensures.1 c.requires.b_bound.0 in omega arith
+pub offset_bounds-b-i : goal.offset_bounds-b-i
+offset_bounds-b-i c = let k = slot-within _ _ c.insert-i.ensures.0 c.insert-i.ensures.1 c.requires.b_bound.0 in omega arith
 
-pub bounds-c-i : goal.bounds-c-i
-bounds-c-i c = slot-within _ _ c.insert-x.ensures.0 c.insert-x.ensures.1 c.requires.b_bound.0
-
-pub bounds-c-k-in-Answers : goal.bounds-c-k-in-Answers
-bounds-c-k-in-Answers c = c.requires.b_bound.1.strategy
+pub bounds-b-i : goal.bounds-b-i
+bounds-b-i c = slot-within _ _ c.insert-i.ensures.0 c.insert-i.ensures.1 c.requires.b_bound.0
 
 pub begin-requires : goal.begin-requires
 unfolding does
-begin-requires c = record { i_lt_table_rows = (slot-within _ _ c.insert-x.ensures.0 c.insert-x.ensures.1 c.requires.b_bound.0, fit-enter _ _ (entered-is _ _ c.insert-x.ensures.0) c.requires.b_bound.1 c.requires.b_bound.3 c.requires.b_bound.4); room = room_of (order_is _ _ c.insert-x.ensures.0 c.insert-x.ensures.1 c.requires.b_bound.0 (sym c.in-Starts.is ∙ c.arrives-a.ensures)) c.requires.room }
+begin-requires c = record { i_lt_table_rows = (slot-within _ _ c.insert-i.ensures.0 c.insert-i.ensures.1 c.requires.b_bound.0, fit-enter _ _ (entered-is _ _ c.insert-i.ensures.0) c.requires.b_bound.1 c.requires.b_bound.3 c.requires.b_bound.4); room = room_of (order_is _ _ c.insert-i.ensures.0 c.insert-i.ensures.1 c.requires.b_bound.0 (sym c.in-Starts.is ∙ c.arrives.ensures)) c.requires.room }
 
 pub returns-in-Starts : goal.returns-in-Starts
 unfolding does
-returns-in-Starts c = done-of (order_is _ _ c.insert-x.ensures.0 c.insert-x.ensures.1 c.requires.b_bound.0 (sym c.in-Starts.is ∙ c.arrives-a.ensures)) c.begin.ensures
+returns-in-Starts c = done-of (order_is _ _ c.insert-i.ensures.0 c.insert-i.ensures.1 c.requires.b_bound.0 (sym c.in-Starts.is ∙ c.arrives.ensures)) c.begin.ensures
 
 pub trades-requires : goal.trades-requires
 unfolding does
-trades-requires c = record { i_lt_table_rows = (slot-within _ _ c.insert-x.ensures.0 c.insert-x.ensures.1 c.requires.b_bound.0, fit-enter _ _ (entered-is _ _ c.insert-x.ensures.0) c.requires.b_bound.1 c.requires.b_bound.3 c.requires.b_bound.4); room = room_of (order_is _ _ c.insert-x.ensures.0 c.insert-x.ensures.1 c.requires.b_bound.0 (sym c.in-Passes.is ∙ c.arrives-a.ensures)) c.requires.room }
+trades-requires c = record { i_lt_table_rows = (slot-within _ _ c.insert-i.ensures.0 c.insert-i.ensures.1 c.requires.b_bound.0, fit-enter _ _ (entered-is _ _ c.insert-i.ensures.0) c.requires.b_bound.1 c.requires.b_bound.3 c.requires.b_bound.4); room = room_of (order_is _ _ c.insert-i.ensures.0 c.insert-i.ensures.1 c.requires.b_bound.0 (sym c.in-Passes.is ∙ c.arrives.ensures)) c.requires.room }
 
 pub returns-in-Passes : goal.returns-in-Passes
 unfolding does
-returns-in-Passes c = done-of (order_is _ _ c.insert-x.ensures.0 c.insert-x.ensures.1 c.requires.b_bound.0 (sym c.in-Passes.is ∙ c.arrives-a.ensures)) c.trades.ensures
+returns-in-Passes c = done-of (order_is _ _ c.insert-i.ensures.0 c.insert-i.ensures.1 c.requires.b_bound.0 (sym c.in-Passes.is ∙ c.arrives.ensures)) c.trades.ensures
 
 pub returns-in-Rests : goal.returns-in-Rests
 unfolding does
-returns-in-Rests c = done-of (order_is _ _ c.insert-x.ensures.0 c.insert-x.ensures.1 c.requires.b_bound.0 (sym c.in-Rests.is ∙ c.arrives-a.ensures)) (done-still _ _ _)
+returns-in-Rests c = done-of (order_is _ _ c.insert-i.ensures.0 c.insert-i.ensures.1 c.requires.b_bound.0 (sym c.in-Rests.is ∙ c.arrives.ensures)) (done-still _ _)
 
 pub returns-in-Cancelled : goal.returns-in-Cancelled
 unfolding does
-returns-in-Cancelled c = done-of (order_is _ _ c.insert-x.ensures.0 c.insert-x.ensures.1 c.requires.b_bound.0 (sym c.in-Cancelled.is ∙ c.arrives-a.ensures)) (cancels-done _ _ c.insert-x.ensures.0 c.insert-x.ensures.1 c.requires.b_bound.0 c.requires.b_bound.2 c.cancel_record-r.ensures c.cut_entry.ensures c.push-m.ensures)
+returns-in-Cancelled c = done-of (order_is _ _ c.insert-i.ensures.0 c.insert-i.ensures.1 c.requires.b_bound.0 (sym c.in-Cancelled.is ∙ c.arrives.ensures)) (cancels-done _ _ c.insert-i.ensures.0 c.insert-i.ensures.1 c.requires.b_bound.0 c.requires.b_bound.2 c.cancel_record.ensures c.cut_entry.ensures c.push.ensures)
 
 pub returns-in-Answers : goal.returns-in-Answers
-returns-in-Answers c = done-of (order_is _ _ c.insert-x.ensures.0 c.insert-x.ensures.1 c.requires.b_bound.0 (sym c.in-Answers.is ∙ c.arrives-a.ensures) ∙ answers-is _ _ c.insert-x.ensures.0 c.insert-x.ensures.1 c.requires.b_bound.0 c.with_auction.ensures) (done-still _ _ _)
+returns-in-Answers c = done-of (order_is _ _ c.insert-i.ensures.0 c.insert-i.ensures.1 c.requires.b_bound.0 (sym c.in-Answers.is ∙ c.arrives.ensures) ∙ answers-is _ _ c.insert-i.ensures.0 c.insert-i.ensures.1 c.requires.b_bound.0 c.with_auction.ensures) (done-still _ _)

@@ -1,20 +1,25 @@
+use Rattle.std.proofs.Common.{◌∙◌, sym, ap, arith}
+use Rattle.std.specs.Prelude.{Option, unwrap_or, ℕ}
+use Rattle.base.specs.Chains.{found-is, found-none}
 use Rattle.rules.proofs.BetterNets.{price-most}
+use Rattle.nets.specs.Bests.{unless-zero-or}
 use Rattle.legging.specs.Left.{side-most}
 use Rattle.leg_orders.specs.Left.{room-rows, enters-fits, left-none, left-orders, left-priced, left-some}
 use Rattle.leg_orders.proofs.trades_of.Goals as goal
 
--- src/lib.rt:51:9
-pub returns-then-h-eq-LEG_ORDERS : goal.returns-then-h-eq-LEG_ORDERS
-returns-then-h-eq-LEG_ORDERS c = left-none c.requires.enters _ _ c.next_trade-h.ensures c.if-h-eq-LEG_ORDERS.true
+pub returns-in_default : goal.returns-in_default
+returns-in_default c = left-none c.requires.enters _ (found-none c.next_trade.ensures c.in_default.not-Some)
 
--- src/lib.rt:59:9
-pub trade_all-x-requires : goal.trade_all-x-requires
-trade_all-x-requires c = room-rows c.requires.room_in
+pub trade_all-requires : goal.trade_all-requires
+trade_all-requires c = room-rows c.requires.room_in
 
--- src/lib.rt:61:9
-pub refreshed-ms-requires : goal.refreshed-ms-requires
-refreshed-ms-requires c = (c.requires.enters.legs, left-orders c.requires.enters c.next_trade-h.ensures c.if-h-eq-LEG_ORDERS.false c.requires.room_in _ c.trade_all-x.ensures, left-priced c.requires.enters c.next_trade-h.ensures c.if-h-eq-LEG_ORDERS.false c.requires.room_in _ c.trade_all-x.ensures, enters-fits c.requires.enters, side-most _ c.other-on.ensures, rw c.price_of-old.ensures (price-most _ c.requires.enters.orders _ _))
+pub refreshed-requires : goal.refreshed-requires
+refreshed-requires c =
+    let n = found-is (sym c.in-Some.is ∙ c.next_trade.ensures) in
+    let old = ap (λ (p : Option ℕ). unwrap_or p 0) c.price_of-old.ensures ∙ unless-zero-or _ in
+    (c.requires.enters.legs, left-orders c.requires.enters n.0 (λ z. omega (arith, n.0, n.1)) c.requires.room_in _ c.trade_all.ensures, left-priced c.requires.enters n.0 (λ z. omega (arith, n.0, n.1)) c.requires.room_in _ c.trade_all.ensures, enters-fits c.requires.enters, side-most _ c.other-on.ensures, rw old (price-most _ c.requires.enters.orders _ _))
 
--- src/lib.rt:35:1
 pub returns : goal.returns
-returns c = left-some c.requires.enters c.next_trade-h.ensures c.if-h-eq-LEG_ORDERS.false c.requires.room_in _ c.trade_all-x.ensures c.other-on.ensures c.price_of-old.ensures c.refreshed-ms.ensures
+returns c =
+    let n = found-is (sym c.in-Some.is ∙ c.next_trade.ensures) in
+    left-some c.requires.enters n.0 (λ z. omega (arith, n.0, n.1)) c.requires.room_in _ c.trade_all.ensures c.other-on.ensures (ap (λ (p : Option ℕ). unwrap_or p 0) c.price_of-old.ensures ∙ unless-zero-or _) c.refreshed.ensures

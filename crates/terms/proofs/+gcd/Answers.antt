@@ -5,5 +5,5 @@ use Rattle.terms.proofs.+gcd.Goals as goal
 pub returns-then-b-eq0 : goal.returns-then-b-eq0
 returns-then-b-eq0 t c = gcd-end _ _ c.if-b-eq0.true
 
-pub returns : goal.returns
-returns t c = c.gcd.ensures ∙ gcd-next _ _ c.if-b-eq0.false
+pub returns-else-b-eq0 : goal.returns-else-b-eq0
+returns-else-b-eq0 t c = c.gcd.ensures ∙ gcd-next _ _ c.if-b-eq0.false

@@ -1,27 +1,14 @@
-use mathlib.Core.Path.{sym}
-use borrow.Author.Tests.{eq-eqb, ne_eqb}
-use Rattle.base.specs.Walks.{first-is, first-none}
-use Rattle.rules.specs.Strategies.{place_of}
-use Rattle.terms.specs.Terms.{none_more}
-use native.Mathlib.Omega.{arith}
+use Rattle.std.proofs.Common.{◌≡◌, ◌∙◌, refl, rules, tests, arith}
+use Rattle.std.proofs.lemmas.Iterator.{YieldsList-from_range}
+use Rattle.std.proofs.lemmas.Iterator.Search.{position_from_yields_List}
+use Rattle.std.specs.List.{position, range_with_len}
+use Rattle.rules.specs.Strategies.{place_of, in_series}
+use Rattle.terms.specs.Terms.{position-range}
 use Rattle.terms.proofs.place_of.Goals as goal
-
-pub loop-i-init : goal.loop-i-init
-loop-i-init c = (omega arith, λ j h. absurd (omega arith))
-
-pub returns-then-l-s : goal.returns-then-l-s
-unfolding place_of
-returns-then-l-s c = sym (first-is _ _ _ c.loop-i-test.true (rw c.leg_at-l.ensures at (eq-eqb _ _ c.if-l-s.true)) c.loop-i.invariant.1)
-
-pub overflow_add-i : goal.overflow_add-i
-overflow_add-i c = omega arith
-
-pub loop-i-smaller : goal.loop-i-smaller
-loop-i-smaller c = omega arith
-
-pub loop-i-preserved : goal.loop-i-preserved
-loop-i-preserved c = (omega arith, none_more _ _ c.loop-i.invariant.1 (rw c.leg_at-l.ensures at (ne_eqb _ _ c.if-l-s.false)))
 
 pub returns : goal.returns
 unfolding place_of
-returns c = sym (first-none _ _ (λ j h. c.loop-i.invariant.1 j (omega (arith, h, c.loop-i-test.false))))
+returns c =
+    let h : c.position.result ≡ position (in_series c.args.legs c.args.s) (range_with_len 0 c.args.count) =
+    position_from_yields_List (in_series c.args.legs c.args.s) _ _ c.position.result c.position.ensures.ran (YieldsList-from_range 0 c.args.count c.args.count refl (omega arith)) (λ x b q k. search (rules, tests)) in
+    h ∙ position-range _ _

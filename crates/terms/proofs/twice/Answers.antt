@@ -1,28 +1,14 @@
-use mathlib.Core.Path.{sym}
-use borrow.Author.Tests.{lt-ltb, le-ltb}
-use Rattle.base.specs.Walks.{any-holds, any_none}
-use Rattle.rules.specs.Strategies.{twice, place_of}
-use Rattle.terms.specs.Terms.{none_more}
-use native.Mathlib.Omega.{arith}
+use Rattle.std.proofs.Common.{◌≡◌, ◌∙◌, refl, rules, tests, arith}
+use Rattle.std.specs.List.{list_any, range_with_len}
+use Rattle.std.proofs.lemmas.Iterator.{YieldsList-from_range}
+use Rattle.std.proofs.lemmas.Iterator.Search.{any_from_yields_List}
+use Rattle.rules.specs.Strategies.{twice, repeats, place_of}
+use Rattle.terms.specs.Terms.{any-range, found-some}
 use Rattle.terms.proofs.twice.Goals as goal
 
-pub loop-i-init : goal.loop-i-init
-loop-i-init c = (omega arith, λ j h. absurd (omega arith))
-
-pub returns-then-place_of-i : goal.returns-then-place_of-i
-unfolding twice place_of
-returns-then-place_of-i c = sym (any-holds _ _ _ c.loop-i-test.true (lt-ltb _ _ (rw c.leg_at-l.ensures at (rw c.place_of.ensures at c.if-place_of-i.true))))
-
-pub overflow_add-i : goal.overflow_add-i
-overflow_add-i c = omega arith
-
-pub loop-i-smaller : goal.loop-i-smaller
-loop-i-smaller c = omega arith
-
-pub loop-i-preserved : goal.loop-i-preserved
-unfolding place_of
-loop-i-preserved c = (omega arith, none_more _ _ c.loop-i.invariant.1 (le-ltb _ _ (rw c.leg_at-l.ensures at (rw c.place_of.ensures at c.if-place_of-i.false))))
-
 pub returns : goal.returns
-unfolding twice
-returns c = sym (any_none _ _ (λ j h. c.loop-i.invariant.1 j (omega (arith, h, c.loop-i-test.false))))
+unfolding twice place_of
+returns c =
+    let h : c.any.result ≡ list_any (repeats c.args.legs) (range_with_len 0 c.args.count) =
+    any_from_yields_List (repeats c.args.legs) _ _ c.any.result c.any.ensures.ran (YieldsList-from_range 0 c.args.count c.args.count refl (omega arith)) (λ x b q k. search (rules, tests, found-some)) in
+    h ∙ any-range _ _
