@@ -1,7 +1,7 @@
 -- The cancel of a number by the slot that the code finds: a number is live once.
-use Rattle.std.specs.Prelude.{◌≡◌, refl, Bool, false, not, List, [], ◌∷◌, ℕ, ◌≤◌, ◌<◌, nat_lt, eqb, length, get_or, set, Option, position}
+use Rattle.std.specs.Prelude.{◌≡◌, refl, Bool, false, not, List, [], ◌∷◌, ℕ, ◌≤◌, ◌<◌, nat_lt, eqb, length, get_or, set, Option, unwrap_or, position}
 use Rattle.std.specs.List.{position_or_len}
-use Rattle.std.proofs.Common.{sym, ◌∙◌, arith, eqb-true, ltb-false, Some, None}
+use Rattle.std.proofs.Common.{sym, ◌∙◌, ap, arith, eqb-true, ltb-false, Some, None}
 use Rattle.std.proofs.Math.Bool.{true}
 use Rattle.std.proofs.lemmas.Bool.{cond_both, eqb-false, not-true}
 use Rattle.std.proofs.lemmas.Option.{none-some}
@@ -10,6 +10,8 @@ use Rattle.std.proofs.lemmas.List.Quantifiers.{position-Some}
 use Rattle.base.specs.Pick.{pick, pick_yes, tests}
 use Rattle.base.specs.All.{All}
 use Rattle.base.specs.Walks.{clash}
+use Rattle.base.specs.Chains.{unless_zero}
+use Rattle.nets.specs.Bests.{unless-zero-or}
 use Rattle.rules.specs.declared.LegOrder.{LegOrder}
 use Rattle.rules.specs.declared.LegNets.{LegNets}
 use Rattle.rules.specs.declared.State.{State}
@@ -103,16 +105,19 @@ module _ (n : ℕ) (b : State) where
       )
 
 -- the nets after q contracts were taken from the leg order at slot j: what `refreshed` asks for, and that it gives those of the rule
-module _ (b : State) (s : Sound b) (j q : ℕ) {o : LegOrder} {p : ℕ} (e : o ≡ cut_order (order_at b j) q) (f : p ≡ price_of b.orders (order_at b j).series (order_at b j).side) where
-  pub cut-asks : All FitLegs b.strategies × All FitOrder (set b.orders j o) × All Priced (set b.orders j o) × All FitNets b.nets × ((order_at b j).side ≤ 1) × (p ≤ 99_999)
+module _ (b : State) (s : Sound b) (j q : ℕ) {o : LegOrder} {p : Option ℕ} (e : o ≡ cut_order (order_at b j) q) (f : p ≡ unless_zero (price_of b.orders (order_at b j).series (order_at b j).side)) where
+  price-was : unwrap_or p 0 ≡ price_of b.orders (order_at b j).series (order_at b j).side
+  price-was = ap (λ x. unwrap_or x 0) f ∙ unless-zero-or _
+
+  pub cut-asks : All FitLegs b.strategies × All FitOrder (set b.orders j o) × All Priced (set b.orders j o) × All FitNets b.nets × ((order_at b j).side ≤ 1) × (unwrap_or p 0 ≤ 99_999)
   unfolding cut_leg with_orders
   cut-asks =
       let g = fit-sound s in
       let h = fit-shrinks (cut_leg-shrinks b j q) g in
-      rw (e, f) (g.strategies, h.orders, h.priced, rw g.nets.are (fit-nets g.orders g.strategies), (fit-order g.orders j).side, price-most b.orders g.orders _ _)
+      rw (e, price-was) (g.strategies, h.orders, h.priced, rw g.nets.are (fit-nets g.orders g.strategies), (fit-order g.orders j).side, price-most b.orders g.orders _ _)
 
-  pub cut-nets : {ns : List LegNets} → Refreshed b.nets b.strategies (set b.orders j o) (order_at b j).series (order_at b j).side p ns
+  pub cut-nets : {ns : List LegNets} → Refreshed b.nets b.strategies (set b.orders j o) (order_at b j).series (order_at b j).side (unwrap_or p 0) ns
       → ns ≡ nets_of (set b.orders j (cut_order (order_at b j) q)) b.strategies
   cut-nets r =
-      refreshed-one b.orders (set b.orders j (cut_order (order_at b j) q)) b.strategies (order_at b j).series (order_at b j).side s.orders s.nets.are f
+      refreshed-one b.orders (set b.orders j (cut_order (order_at b j) q)) b.strategies (order_at b j).series (order_at b j).side s.orders s.nets.are price-was
       (λ x d n. cut-price b.orders j q x d n) (rw e at r)
