@@ -74,8 +74,8 @@ module _ (b : State) (e : GivenSweep) (some : ¬ (e.units ≡ 0)) (p : FitSweepG
       ∙ ap not (sym (t ∙ ap (betters_net true e.side e.level) net-is ∙ betters-net true e.side e.level (own_net b e.side e.strategy))))
 
 -- whether a slot is found
-pub found-there : {o : Option ℕ} {n k : ℕ} → o ≡ found n k → is_some o ≡ ltb k n
-found-there {n = n} {k = k} e = ap (λ (p : Option ℕ). is_some p) e ∙ by (ltb k n)
+pub found-there : (n k : ℕ) {o : Option ℕ} → o ≡ found n k → is_some o ≡ ltb k n
+found-there n k e = ap (λ (p : Option ℕ). is_some p) e ∙ by (ltb k n)
   where
     by : (t : Bool) → is_some (cond t (Some k) None) ≡ t
     by true = refl

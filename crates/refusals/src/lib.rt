@@ -45,7 +45,7 @@ fn not_open(b: State, s: u8) -> bool
     !is_open(b, s)
 }
 
-#[tactic(auto, unfolding(base::specs::Pick::pick, rules::specs::Refusals::is_order_of))]
+#[tactic(auto, unfolding(base::specs::Pick::pick, rules::specs::Refusals::is_order_of, rules::specs::Events::live))]
 fn is_order_of(m: u32, n: u32, e: Entry) -> bool
     ensures { result ≡ is_order_of m n e }
 {
