@@ -1,6 +1,6 @@
 -- The outcome of an event by what the code has found, and what it hands back.
-use Rattle.std.specs.Prelude.{◌≡◌, refl, List, ℕ, ◌≤◌, ◌<◌, ℤ, Result, Ok, Err}
-use Rattle.std.proofs.Common.{sym, subst, ◌∙◌, arith, eq-eqb, ne_eqb, lt-ltb, le-ltb}
+use Rattle.std.specs.Prelude.{◌≡◌, refl, List, [], ℕ, ◌≤◌, ◌<◌, ℤ, Result, Ok, Err}
+use Rattle.std.proofs.Common.{ap, sym, subst, ◌∙◌, arith, eq-eqb, ne_eqb, lt-ltb, le-ltb}
 use Rattle.std.specs.Result.{IsErrAnd}
 use Rattle.std.proofs.lemmas.Result.{err_from_is_err_and}
 use Rattle.std.proofs.Math.Nat.{zero-add}
@@ -15,14 +15,15 @@ use Rattle.rules.specs.declared.State.{State}
 use Rattle.rules.specs.declared.Accepted.{Accepted}
 use Rattle.rules.specs.Refusals.{first_cause, causes, read_causes, table_of, refusal}
 use Rattle.rules.specs.Step.{Outcome, value_of, accept, refused, perform, refuse_or_perform, step, answer_number, answer_value, answer_count}
-use Rattle.rules.specs.Moves.{Moved}
+use Rattle.rules.specs.Moves.{Moved, still}
 use Rattle.rules.specs.Fits.{FitReading, FitEvent}
 use Rattle.rules.specs.Valid.{Valid}
 use Rattle.rules.proofs.Validity.{decide-valid}
 use Rattle.rules.proofs.Ranges.{reading-fit}
 use Rattle.rules.proofs.Room.{accept-few, six-sound}
-use Rattle.records.specs.Space.{Room, wrote-nil}
-use Rattle.records.specs.Done.{Done, done-of, done-length, room_of}
+use Rattle.records.specs.Space.{Room, laid, numbers, length-laid}
+use Rattle.records.specs.Done.{Done, room_of}
+use Rattle.records.specs.declared.Records.{Records}
 use Rattle.rules.proofs.Answers.{answer-none, answer-some}
 use Rattle.book.specs.Books.{Handed, Took, Stepped}
 use Rattle.book.specs.Small.{accept-small}
@@ -40,6 +41,11 @@ refusal-read : (b : State) (f : Refusal) (space : ℕ) → 15_360 ≤ space → 
 unfolding refusal table_of read_causes first_cause pick
 refusal-read b f space h = rw (le-ltb space 15_360 h)
 
+-- no records
+laid-nil : (s : List ℤ) → s ≡ laid s 0 []
+unfolding laid numbers
+laid-nil s = refl
+
 -- refused: the book and the space are as they were
 handed-refused : (b : State) (r : Result Event Refusal) (s : List ℤ) {f : Refusal} → refusal_number f ≡ refusal b r (length s) → Handed (refuse_or_perform b r (length s)) s s b (Err f)
 unfolding refuse_or_perform refused answer_number answer_value answer_count
@@ -53,7 +59,7 @@ handed-refused b r s {f} e =
       value = refl;
       count = refl;
       state = refl;
-      space = (wrote-nil s 0).space;
+      space = laid-nil s;
       few = omega arith;
       same = refl;
     })
@@ -80,33 +86,40 @@ module _ (b : State) (e : Event) (s : List ℤ) (q : Valid b × FitEvent e × (1
 
   -- one that nothing refuses: room for its records, and what it leaves after its rule y
   module _ (c : 0 ≡ first_cause (causes b e)) {y : Moved} (a : accept b e ≡ y) where
-    pub room-event : Room s 0 y.records
-    room-event = room_of a (record { count = omega (arith, accept-few b e (six-sound b q.0.sound)); space = q.2; small = accept-small b e q.0 q.1 (sym c) })
+    pub room-event : {r : Records} → r.count ≡ 0 → r.space.now ≡ s → Room r y.records
+    room-event z l =
+        room_of a (record { count = omega (arith, z, accept-few b e (six-sound b q.0.sound)); space = omega (arith, q.2, ap length l); small = accept-small b e q.0 q.1 (sym c) })
 
     performed : refuse_or_perform b (Ok e) (length s) ≡ perform b (Ok e)
     performed = event-performed b e (length s) q.2 c
 
-    module _ {t : List ℤ} {m : ℕ} {d : State} (w : Done s t 0 m d y) where
+    -- by the state, the value and the records that the code has
+    pub took : {t : List ℤ} {m value : ℕ} {d : State} → d ≡ y.state → m ≡ length y.records → t ≡ laid s 0 y.records → value ≡ value_of b e → Took b e s t d (Ok (record { value = value; records = m }))
+    unfolding perform answer_number answer_value answer_count
+    took {t} {m} {value} {d} g k l i =
+        let n : m ≡ length (accept b e).records = rw a k in
+        rw performed
+        (record {
+          answer = rw (i, n) (sym (answer-none (perform b (Ok e)) refl));
+          number = refl;
+          value = i;
+          count = n;
+          state = rw a g;
+          space = rw a l;
+          few = omega (arith, n, accept-few b e (six-sound b q.0.sound));
+          same = ap length l ∙ length-laid s 0 y.records;
+        })
+
+    -- a rule without records
+    pub took-still : {d : State} {value : ℕ} → y ≡ still d → value ≡ value_of b e → Took b e s s d (Ok (record { value = value; records = 0 }))
+    took-still {d} h i = took (ap (λ (x : Moved). x.state) (sym h)) (ap (λ (x : Moved). length x.records) (sym h)) (rw h (laid-nil s)) i
+
+    module _ {r₀ r₁ : Records} {d : State} (w : Done r₀ r₁ d y) where
       pub took-valid : Valid d
       took-valid = rw w.state (rule-valid b e q.0 q.1 c a)
 
-      pub took : {value : ℕ} {d' : State} {x : Accepted} → value ≡ value_of b e → (d' ≡ d) × (x.value ≡ value) × (x.records ≡ m) → Took b e s t d' (Ok x)
-      unfolding perform answer_number answer_value answer_count
-      took {value} {d'} {x} i g =
-          let h = done-of a w in
-          let k : m ≡ length (accept b e).records = h.wrote.count ∙ zero-add _ in
-          let p : x ≡ record { value = value; records = m } = λ j. record { value = g.1 j; records = g.2 j } in
-          rw (g.0, p, performed)
-          (record {
-            answer = rw (i, k) (sym (answer-none (perform b (Ok e)) refl));
-            number = refl;
-            value = i;
-            count = k;
-            state = h.state;
-            space = h.wrote.space;
-            few = omega (arith, k, accept-few b e (six-sound b q.0.sound));
-            same = done-length h;
-          })
+      pub took-done : r₀.count ≡ 0 → r₀.space.now ≡ s → {value : ℕ} → value ≡ value_of b e → Took b e s r₁.space.now d (Ok (record { value = value; records = r₁.count }))
+      took-done z l i = took w.state (omega (arith, w.wrote.count, z)) (rw (← z, ← l) w.wrote.space) i
 
 -- the entry: a short space, a frame that carries no event, and one that does
 pub stepped-short : (b : State) (f : List ℕ) (s : List ℤ) → length s < 15_360 → Stepped b f s s b (Err F.ShortSpace)

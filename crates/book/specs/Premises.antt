@@ -43,7 +43,8 @@ use Rattle.sweeps.specs.Sweeps.{MayEnter}
 use Rattle.complex_orders.specs.Slots.{order-slot}
 use Rattle.rules.specs.declared.Accepted.{Accepted}
 use Rattle.book.specs.Books.{Took}
-use Rattle.book.specs.Outcomes.{took, took-valid, room-event}
+use Rattle.records.specs.declared.Records.{Records}
+use Rattle.book.specs.Outcomes.{took, took-valid, room-event, took-done}
 
 -- a definition by what the code has found: ill-formed, held already, no slot left, or a new one
 pub strategy-ill : (b : State) (e : GivenStrategy) → ill_formed e ≡ true → 5 ≡ first_cause (causes b (E.Strategy e))
@@ -182,44 +183,44 @@ number-most b t g h = omega (arith, g, first-le (same_at b t) b.defined)
 
 -- an order that nothing refuses, as a row: its slot, the ranges and the room; and what it leaves after its rule
 module _ (b : State) (e : GivenOrder) (s : List ℤ) (q : Valid b × FitOrderGiven e × (15_360 ≤ length s)) (c : 0 ≡ first_cause (causes b (E.Order e))) {r : Entry} (g : r ≡ order_given b e) where
-  pub order-asks : ((free_slot b < 32) × FitEntry r × (0 < r.units) × (0 < (strategy_at b r.strategy).count) × Fit b) × Room s 0 (on_order r b).records
+  pub order-asks : ((free_slot b < 32) × FitEntry r × (0 < r.units) × (0 < (strategy_at b r.strategy).count) × Fit b) × ({r₀ : Records} → r₀.count ≡ 0 → r₀.space.now ≡ s → Room r₀ (on_order r b).records)
   order-asks =
       let k = order-clear b e q.0.sound q.1 (sym c) in
       ((order-slot b _ q.0.sound k, rw g k.fit, rw g k.live, rw g (let l = q.0.sound.legs _ k.strategy in omega arith), fit-sound q.0.sound), room-event b (E.Order e) s q c (order-accepts b e g))
 
-  module _ {t : List ℤ} {m : ℕ} {d : State} (w : Done s t 0 m d (on_order r b)) where
+  module _ {r₀ r₁ : Records} {d : State} (w : Done r₀ r₁ d (on_order r b)) where
     pub order-valid : Valid d
     order-valid = took-valid b (E.Order e) s q c (order-accepts b e g) w
 
-    pub order-took : {d' : State} {x : Accepted} → (d' ≡ d) × (x.value ≡ r.number) × (x.records ≡ m) → Took b (E.Order e) s t d' (Ok x)
-    order-took h = took b (E.Order e) s q c (order-accepts b e g) w (order_value b e g) h
+    pub order-took : r₀.count ≡ 0 → r₀.space.now ≡ s → Took b (E.Order e) s r₁.space.now d (Ok (record { value = r.number; records = r₁.count }))
+    order-took z l = took-done b (E.Order e) s q c (order-accepts b e g) w z l (order_value b e g)
 
 -- the same of a sweep, which enters if it has units
 module _ (b : State) (e : GivenSweep) (s : List ℤ) (q : Valid b × FitSweepGiven e × (15_360 ≤ length s)) (c : 0 ≡ first_cause (causes b (E.Sweep e))) {r : Entry} (g : r ≡ sweep_given b e) where
-  pub sweep-asks : (MayEnter r × Fit b) × Room s 0 (on_sweep r b).records
+  pub sweep-asks : (MayEnter r × Fit b) × ({r₀ : Records} → r₀.count ≡ 0 → r₀.space.now ≡ s → Room r₀ (on_sweep r b).records)
   unfolding sweep_given
   sweep-asks =
       let k = sweep-clear b e q.1 (sym c) in
       ((rw g (record { fit = λ l. (k.1 (live_pos (sweep_given b e) l)).fit }), fit-sound q.0.sound), room-event b (E.Sweep e) s q c (sweep-accepts b e g))
 
-  module _ {t : List ℤ} {m : ℕ} {d : State} (w : Done s t 0 m d (on_sweep r b)) where
+  module _ {r₀ r₁ : Records} {d : State} (w : Done r₀ r₁ d (on_sweep r b)) where
     pub sweep-valid : Valid d
     sweep-valid = took-valid b (E.Sweep e) s q c (sweep-accepts b e g) w
 
-    pub sweep-took : {number : ℕ} {d' : State} {x : Accepted} → number ≡ pick (eqb r.units 0) 0 r.number → (d' ≡ d) × (x.value ≡ number) × (x.records ≡ m) → Took b (E.Sweep e) s t d' (Ok x)
-    sweep-took i h = took b (E.Sweep e) s q c (sweep-accepts b e g) w (sweep-value b e g i) h
+    pub sweep-took : r₀.count ≡ 0 → r₀.space.now ≡ s → {number : ℕ} → number ≡ pick (eqb r.units 0) 0 r.number → Took b (E.Sweep e) s r₁.space.now d (Ok (record { value = number; records = r₁.count }))
+    sweep-took z l i = took-done b (E.Sweep e) s q c (sweep-accepts b e g) w z l (sweep-value b e g i)
 
 -- the same of a leg order
 module _ (b : State) (e : GivenLegOrder) (s : List ℤ) (q : Valid b × FitLegOrderGiven e × (15_360 ≤ length s)) (c : 0 ≡ first_cause (causes b (E.LegOrder e))) {r : LegOrder} (g : r ≡ leg_order_given b e) where
-  pub leg-asks : ((free_order_slot b < 32) × FitOrder r × Priced r × Fit b) × Room s 0 (on_leg_order r b).records
+  pub leg-asks : ((free_order_slot b < 32) × FitOrder r × Priced r × Fit b) × ({r₀ : Records} → r₀.count ≡ 0 → r₀.space.now ≡ s → Room r₀ (on_leg_order r b).records)
   unfolding free_order_slot
   leg-asks =
       let k = leg_order-clear b e q.1 (sym c) in
       ((enter_order-room b _ q.0.sound k, rw g k.fit, rw g (record { price = λ h. k.price }), fit-sound q.0.sound), room-event b (E.LegOrder e) s q c (leg-accepts b e g))
 
-  module _ {t : List ℤ} {m : ℕ} {d : State} (w : Done s t 0 m d (on_leg_order r b)) where
+  module _ {r₀ r₁ : Records} {d : State} (w : Done r₀ r₁ d (on_leg_order r b)) where
     pub leg-valid : Valid d
     leg-valid = took-valid b (E.LegOrder e) s q c (leg-accepts b e g) w
 
-    pub leg-took : {d' : State} {x : Accepted} → (d' ≡ d) × (x.value ≡ r.number) × (x.records ≡ m) → Took b (E.LegOrder e) s t d' (Ok x)
-    leg-took h = took b (E.LegOrder e) s q c (leg-accepts b e g) w (leg-value b e g) h
+    pub leg-took : r₀.count ≡ 0 → r₀.space.now ≡ s → Took b (E.LegOrder e) s r₁.space.now d (Ok (record { value = r.number; records = r₁.count }))
+    leg-took z l = took-done b (E.LegOrder e) s q c (leg-accepts b e g) w z l (leg-value b e g)

@@ -25,6 +25,7 @@ use given::{
 };
 use leg_orders::on_leg_order;
 use national::{set_prices, set_range};
+use records::Records;
 use refusals::{
     cancel_refusal, clock_refusal, leg_order_refusal, national_refusal, order_refusal,
     specialist_refusal, sweep_refusal,
@@ -48,6 +49,13 @@ fn number_taken(e: Entry) -> u32
     ensures { result ≡ pick (eqb e.units 0) 0 e.number }
 {
     if e.units == 0 { 0 } else { e.number }
+}
+
+// What an accepted event answers.
+fn accepted(value: u32, records: usize) -> Accepted
+    ensures { result ≡ record { value = value; records = records } }
+{
+    Accepted { value, records }
 }
 
 impl Book {
@@ -82,15 +90,6 @@ impl Book {
         Book { state: fresh(5000) }
     }
 
-    // An accepted event: the state after it, its value, and the number of its records.
-    fn admit(&mut self, state: State, value: u32, records: usize) -> Accepted
-        requires { Valid state }
-        ensures { (self.new.state ≡ state) × (result.value ≡ value) × (result.records ≡ records) }
-    {
-        self.state = state;
-        Accepted { value, records }
-    }
-
     // Kind 1: a strategy.
     fn strategy(&mut self, e: events::Strategy) -> Result<Accepted, Refusal>
         requires { FitGiven e }
@@ -103,12 +102,13 @@ impl Book {
         let k = number_of(self.state, s);
         let n = self.state.defined as usize;
         if k < n {
-            return Ok(self.admit(self.state, k as u32, 0));
+            return Ok(accepted(k as u32, 0));
         }
         if Book::STRATEGIES <= n {
             return Err(Refusal::TableFull);
         }
-        Ok(self.admit(add(s, self.state), k as u32, 0))
+        self.state = add(s, self.state);
+        Ok(accepted(k as u32, 0))
     }
 
     // Kind 2: a complex order.
@@ -118,8 +118,9 @@ impl Book {
     {
         order_refusal(self.state, e)?;
         let row = order_given(self.state, e);
-        let t = on_order(row, self.state, space, 0);
-        Ok(self.admit(t.state, row.number, t.count))
+        let mut records = Records { space, count: 0 };
+        on_order(row, &mut self.state, &mut records);
+        Ok(accepted(row.number, records.count))
     }
 
     // Kind 3: a sweep.
@@ -129,8 +130,9 @@ impl Book {
     {
         sweep_refusal(self.state, e)?;
         let row = sweep_given(self.state, e);
-        let t = on_sweep(row, self.state, space, 0);
-        Ok(self.admit(t.state, number_taken(row), t.count))
+        let mut records = Records { space, count: 0 };
+        on_sweep(row, &mut self.state, &mut records);
+        Ok(accepted(number_taken(row), records.count))
     }
 
     // Kind 4: a leg order.
@@ -140,8 +142,9 @@ impl Book {
     {
         leg_order_refusal(self.state, e)?;
         let row = leg_order_given(self.state, e);
-        let t = on_leg_order(self.state, row, space, 0);
-        Ok(self.admit(t.state, row.number, t.count))
+        let mut records = Records { space, count: 0 };
+        on_leg_order(&mut self.state, row, &mut records);
+        Ok(accepted(row.number, records.count))
     }
 
     // Kind 5: a cancel.
@@ -150,8 +153,9 @@ impl Book {
         ensures { Took self.old.state (E.Cancel e) space.old space.new self.new.state result }
     {
         cancel_refusal(self.state, e)?;
-        let t = cancel_number(self.state, e.number, space, 0);
-        Ok(self.admit(t.state, 0, t.count))
+        let mut records = Records { space, count: 0 };
+        cancel_number(&mut self.state, e.number, &mut records);
+        Ok(accepted(0, records.count))
     }
 
     // Kind 6: a series opens or shuts.
@@ -159,8 +163,9 @@ impl Book {
         requires { (e.series < 32) × (record_space ≤ length space.old) }
         ensures { Took self.old.state (E.Series e) space.old space.new self.new.state result }
     {
-        let t = on_series(self.state, e.series as u8, e.state, space, 0);
-        Ok(self.admit(t.state, 0, t.count))
+        let mut records = Records { space, count: 0 };
+        on_series(&mut self.state, e.series as u8, e.state, &mut records);
+        Ok(accepted(0, records.count))
     }
 
     // Kind 7: the clock.
@@ -169,8 +174,9 @@ impl Book {
         ensures { Took self.old.state (E.Clock e) space.old space.new self.new.state result }
     {
         clock_refusal(self.state, e)?;
-        let t = on_clock(self.state, e.time, space, 0);
-        Ok(self.admit(t.state, 0, t.count))
+        let mut records = Records { space, count: 0 };
+        on_clock(&mut self.state, e.time, &mut records);
+        Ok(accepted(0, records.count))
     }
 
     // Kind 8: the day's end.
@@ -178,8 +184,9 @@ impl Book {
         requires { ((1 ≤ e.timer) × (e.timer ≤ 5000)) × (record_space ≤ length space.old) }
         ensures { Took self.old.state (E.DayEnd e) space.old space.new self.new.state result }
     {
-        let t = on_day_end(self.state, e.timer, space, 0);
-        Ok(self.admit(t.state, 0, t.count))
+        let mut records = Records { space, count: 0 };
+        on_day_end(&mut self.state, e.timer, &mut records);
+        Ok(accepted(0, records.count))
     }
 
     // Kind 9: the national prices of a series.
@@ -188,8 +195,8 @@ impl Book {
         ensures { (s : List ℤ) → record_space ≤ length s → Took self.old.state (E.National e) s s self.new.state result }
     {
         national_refusal(e)?;
-        let c = set_prices(self.state, e.series as u8, quote_given(e));
-        Ok(self.admit(c, 0, 0))
+        set_prices(&mut self.state, e.series as u8, quote_given(e));
+        Ok(accepted(0, 0))
     }
 
     // Kind 10: the execution range.
@@ -197,8 +204,8 @@ impl Book {
         requires { e.range ≤ 9999 }
         ensures { (s : List ℤ) → record_space ≤ length s → Took self.old.state (E.Range e) s s self.new.state result }
     {
-        let c = set_range(self.state, e.range);
-        Ok(self.admit(c, 0, 0))
+        set_range(&mut self.state, e.range);
+        Ok(accepted(0, 0))
     }
 
     // Kind 11: the specialist of a strategy.
@@ -207,8 +214,8 @@ impl Book {
         ensures { (s : List ℤ) → record_space ≤ length s → Took self.old.state (E.Specialist e) s s self.new.state result }
     {
         specialist_refusal(self.state, e)?;
-        let c = set_specialist(self.state, e.strategy as u8, specialist_given(e));
-        Ok(self.admit(c, 0, 0))
+        set_specialist(&mut self.state, e.strategy as u8, specialist_given(e));
+        Ok(accepted(0, 0))
     }
 
     // A frame of any bytes, with a record space of any length: the answer, the book, and the records in the space. A refused

@@ -1,17 +1,18 @@
 -- proofs/Book/clock/Answers.antt
+use Rattle.std.proofs.Common.{refl}
 use Rattle.auctions.specs.Ranged.{ranged-sound}
-use Rattle.book.specs.Outcomes.{took, took-exit, took-valid, room-event}
+use Rattle.book.specs.Outcomes.{took-exit, took-valid, took-done, room-event}
 use Rattle.book.specs.Premises.{clock-accepts, clock-value}
 use Rattle.book.proofs.Book.clock.Goals as goal
 
 pub returns-in_err-clock_refusal : goal.returns-in_err-clock_refusal
 returns-in_err-clock_refusal c = took-exit _ _ _ (c.args.self.now.valid, c.requires.0, c.requires.1) _ c.from_residual.ensures.1 c.in_err-clock_refusal.ensures
 
-pub on_clock-t-requires : goal.on_clock-t-requires
-on_clock-t-requires c = record { t_bound = (c.requires.0, ranged-sound c.args.self.now.valid.sound); room = room-event _ _ _ (c.args.self.now.valid, c.requires.0, c.requires.1) c.in_ok-clock_refusal.ensures (clock-accepts _ _) }
+pub on_clock-requires : goal.on_clock-requires
+on_clock-requires c = record { t_bound = (c.requires.0, ranged-sound c.args.self.now.valid.sound); room = room-event _ _ c.args.space.now (c.args.self.now.valid, c.requires.0, c.requires.1) c.in_ok-clock_refusal.ensures (clock-accepts _ _) refl refl }
 
-pub admit-requires : goal.admit-requires
-admit-requires c = took-valid _ _ _ (c.args.self.now.valid, c.requires.0, c.requires.1) c.in_ok-clock_refusal.ensures (clock-accepts _ _) c.on_clock-t.ensures
+pub invariant_of-self : goal.invariant_of-self
+invariant_of-self c = record { valid = took-valid _ _ c.args.space.now (c.args.self.now.valid, c.requires.0, c.requires.1) c.in_ok-clock_refusal.ensures (clock-accepts _ _) c.on_clock.ensures }
 
 pub returns : goal.returns
-returns c = took _ _ _ (c.args.self.now.valid, c.requires.0, c.requires.1) c.in_ok-clock_refusal.ensures (clock-accepts _ _) c.on_clock-t.ensures (clock-value _ _) c.admit.ensures
+returns c = rw c.accepted.ensures (took-done _ _ c.args.space.now (c.args.self.now.valid, c.requires.0, c.requires.1) c.in_ok-clock_refusal.ensures (clock-accepts _ _) c.on_clock.ensures refl refl (clock-value _ _))

@@ -1,4 +1,5 @@
 -- proofs/Book/order/Answers.antt
+use Rattle.std.proofs.Common.{refl}
 use Rattle.book.specs.Outcomes.{took-exit}
 use Rattle.book.specs.Premises.{order-asks, order-valid, order-took}
 use Rattle.book.proofs.Book.order.Goals as goal
@@ -6,11 +7,11 @@ use Rattle.book.proofs.Book.order.Goals as goal
 pub returns-in_err-order_refusal : goal.returns-in_err-order_refusal
 returns-in_err-order_refusal c = took-exit _ _ _ (c.args.self.now.valid, c.requires.0, c.requires.1) _ c.from_residual.ensures.1 c.in_err-order_refusal.ensures
 
-pub on_order-t-requires : goal.on_order-t-requires
-on_order-t-requires c = let p = order-asks _ _ _ (c.args.self.now.valid, c.requires.0, c.requires.1) c.in_ok-order_refusal.ensures c.order_given-row.ensures in record { b_bound = p.0; room = p.1 }
+pub on_order-requires : goal.on_order-requires
+on_order-requires c = let p = order-asks _ _ c.args.space.now (c.args.self.now.valid, c.requires.0, c.requires.1) c.in_ok-order_refusal.ensures c.order_given-row.ensures in record { b_bound = p.0; room = p.1 refl refl }
 
-pub admit-requires : goal.admit-requires
-admit-requires c = order-valid _ _ _ (c.args.self.now.valid, c.requires.0, c.requires.1) c.in_ok-order_refusal.ensures c.order_given-row.ensures c.on_order-t.ensures
+pub invariant_of-self : goal.invariant_of-self
+invariant_of-self c = record { valid = order-valid _ _ c.args.space.now (c.args.self.now.valid, c.requires.0, c.requires.1) c.in_ok-order_refusal.ensures c.order_given-row.ensures c.on_order.ensures }
 
 pub returns : goal.returns
-returns c = order-took _ _ _ (c.args.self.now.valid, c.requires.0, c.requires.1) c.in_ok-order_refusal.ensures c.order_given-row.ensures c.on_order-t.ensures c.admit.ensures
+returns c = rw c.accepted.ensures (order-took _ _ c.args.space.now (c.args.self.now.valid, c.requires.0, c.requires.1) c.in_ok-order_refusal.ensures c.order_given-row.ensures c.on_order.ensures refl refl)

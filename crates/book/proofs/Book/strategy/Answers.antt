@@ -1,7 +1,7 @@
 -- proofs/Book/strategy/Answers.antt
+use Rattle.std.proofs.Common.{refl}
 use Rattle.base.specs.Pick.{told}
-use Rattle.records.specs.Done.{done-still}
-use Rattle.book.specs.Outcomes.{took, took-refused, rule-valid}
+use Rattle.book.specs.Outcomes.{took-still, took-refused, rule-valid}
 use Rattle.book.specs.Premises.{number-most, strategy-ill, strategy-held, strategy-full, strategy-new, strategy-value, strategy-legs}
 use Rattle.book.proofs.Book.strategy.Goals as goal
 
@@ -11,27 +11,24 @@ returns-then-ill_formed c = λ s l. took-refused _ _ s (c.args.self.now.valid, c
 pub returns-then-k-n : goal.returns-then-k-n
 returns-then-k-n c = λ s l.
     let h = strategy-held _ _ (told c.ill_formed.ensures c.if-ill_formed.false) c.strategy_given-s.ensures c.number_of-k.ensures c.if-k-n.true in
-    took _ _ s (c.args.self.now.valid, c.requires, l) h.0 h.1 (done-still _ _ _) (strategy-value _ _ c.strategy_given-s.ensures c.number_of-k.ensures) c.admit.ensures
+    rw c.accepted.ensures (took-still _ _ s (c.args.self.now.valid, c.requires, l) h.0 h.1 refl (strategy-value _ _ c.strategy_given-s.ensures c.number_of-k.ensures))
 
 pub returns-then-n-ge-STRATEGIES : goal.returns-then-n-ge-STRATEGIES
 returns-then-n-ge-STRATEGIES c = λ s l.
     took-refused _ _ s (c.args.self.now.valid, c.requires, l) (strategy-full _ _ (told c.ill_formed.ensures c.if-ill_formed.false) c.strategy_given-s.ensures c.number_of-k.ensures c.if-k-n.false c.if-n-ge-STRATEGIES.true)
 
-pub admit-requires : goal.admit-requires
-admit-requires c = c.args.self.now.valid
-
 pub add-requires : goal.add-requires
 add-requires c = (c.args.self.now.valid, strategy-legs _ c.requires (told c.ill_formed.ensures c.if-ill_formed.false) c.strategy_given-s.ensures)
 
-pub overflow_cast-k-2 : goal.overflow_cast-k-2
-overflow_cast-k-2 c = record { fits = number-most _ _ c.number_of-k.ensures c.args.self.now.valid.sound.defined }
+pub overflow_cast-accepted-2 : goal.overflow_cast-accepted-2
+overflow_cast-accepted-2 c = record { fits = number-most _ _ c.number_of-k.ensures c.args.self.now.valid.sound.defined }
 
-pub admit-requires-2 : goal.admit-requires-2
-admit-requires-2 c =
+pub invariant_of-self : goal.invariant_of-self
+invariant_of-self c =
     let h = strategy-new _ _ (told c.ill_formed.ensures c.if-ill_formed.false) c.strategy_given-s.ensures c.number_of-k.ensures c.if-k-n.false c.if-n-ge-STRATEGIES.false c.add.ensures in
-    rule-valid _ _ c.args.self.now.valid c.requires h.0 h.1
+    record { valid = rule-valid _ _ c.args.self.now.valid c.requires h.0 h.1 }
 
 pub returns : goal.returns
 returns c = λ s l.
     let h = strategy-new _ _ (told c.ill_formed.ensures c.if-ill_formed.false) c.strategy_given-s.ensures c.number_of-k.ensures c.if-k-n.false c.if-n-ge-STRATEGIES.false c.add.ensures in
-    took _ _ s (c.args.self.now.valid, c.requires, l) h.0 h.1 (done-still _ _ _) (strategy-value _ _ c.strategy_given-s.ensures c.number_of-k.ensures) c.admit-2.ensures
+    rw c.accepted-2.ensures (took-still _ _ s (c.args.self.now.valid, c.requires, l) h.0 h.1 refl (strategy-value _ _ c.strategy_given-s.ensures c.number_of-k.ensures))

@@ -1,4 +1,5 @@
 -- proofs/Book/sweep/Answers.antt
+use Rattle.std.proofs.Common.{refl}
 use native.Mathlib.Omega.{arith}
 use Rattle.book.specs.Outcomes.{took-exit}
 use Rattle.book.specs.Premises.{sweep-asks, sweep-valid, sweep-took}
@@ -10,11 +11,11 @@ sweep_refusal-requires c = (c.requires.0, omega (arith, c.args.self.now.valid.so
 pub returns-in_err-sweep_refusal : goal.returns-in_err-sweep_refusal
 returns-in_err-sweep_refusal c = took-exit _ _ _ (c.args.self.now.valid, c.requires.0, c.requires.1) _ c.from_residual.ensures.1 c.in_err-sweep_refusal.ensures
 
-pub on_sweep-t-requires : goal.on_sweep-t-requires
-on_sweep-t-requires c = let p = sweep-asks _ _ _ (c.args.self.now.valid, c.requires.0, c.requires.1) c.in_ok-sweep_refusal.ensures c.sweep_given-row.ensures in record { may_enter = p.0; room = p.1 }
+pub on_sweep-requires : goal.on_sweep-requires
+on_sweep-requires c = let p = sweep-asks _ _ c.args.space.now (c.args.self.now.valid, c.requires.0, c.requires.1) c.in_ok-sweep_refusal.ensures c.sweep_given-row.ensures in record { may_enter = p.0; room = p.1 refl refl }
 
-pub admit-requires : goal.admit-requires
-admit-requires c = sweep-valid _ _ _ (c.args.self.now.valid, c.requires.0, c.requires.1) c.in_ok-sweep_refusal.ensures c.sweep_given-row.ensures c.on_sweep-t.ensures
+pub invariant_of-self : goal.invariant_of-self
+invariant_of-self c = record { valid = sweep-valid _ _ c.args.space.now (c.args.self.now.valid, c.requires.0, c.requires.1) c.in_ok-sweep_refusal.ensures c.sweep_given-row.ensures c.on_sweep.ensures }
 
 pub returns : goal.returns
-returns c = sweep-took _ _ _ (c.args.self.now.valid, c.requires.0, c.requires.1) c.in_ok-sweep_refusal.ensures c.sweep_given-row.ensures c.on_sweep-t.ensures c.number_taken.ensures c.admit.ensures
+returns c = rw c.accepted.ensures (sweep-took _ _ c.args.space.now (c.args.self.now.valid, c.requires.0, c.requires.1) c.in_ok-sweep_refusal.ensures c.sweep_given-row.ensures c.on_sweep.ensures refl refl c.number_taken.ensures)
