@@ -5,7 +5,7 @@ ghost use Rattle.std.specs.Prelude.{◌≡◌, ◌<◌, position};
 ghost use Rattle.base.specs.Chains.{found};
 ghost use Rattle.rules.specs.Sizes.{strategy_slots, table_rows};
 ghost use Rattle.rules.specs.Moves.{each};
-ghost use Rattle.rules.specs.Auctions.{with_auction, put_auction, begin, close, lapses, cancel_lapsed, end_unfilled};
+ghost use Rattle.rules.specs.Auctions.{put_auction, begin, close, lapses, cancel_lapsed, end_unfilled};
 ghost use Rattle.records.specs.Space.{Room};
 ghost use Rattle.records.specs.Done.{Done};
 ghost use Rattle.ranges.specs.Fit.{Fit};
@@ -40,24 +40,17 @@ pub fn starter_slot(es: [Entry; State::ROWS], k: usize, n: u32) -> Option<usize>
     slot_of(es, k, n)
 }
 
-// The auction of a strategy, changed: its starter, the clock at its start, whether it was answered.
-pub fn with_auction(s: Strategy, n: u32, t: u32, a: bool) -> Strategy
-    ensures { result ≡ with_auction s n t a }
-{
-    Strategy {
-        starter: n,
-        begun: t,
-        answered: a,
-        ..s
-    }
-}
-
-// The same of strategy k.
+// The auction of strategy k, changed: its starter, the clock at its start, whether it was answered.
 fn put_auction(b: &mut State, k: usize, n: u32, t: u32, a: bool)
     requires { k < strategy_slots }
     ensures { b.new ≡ put_auction b.old k n t a }
 {
-    b.strategies[k] = with_auction(b.strategies[k], n, t, a);
+    b.strategies[k] = Strategy {
+        starter: n,
+        begun: t,
+        answered: a,
+        ..b.strategies[k]
+    };
 }
 
 fn begun_record(e: Entry) -> Record

@@ -1,5 +1,5 @@
 -- What a complex order does that has entered, by what the code reads and tests.
-use Rattle.std.specs.Prelude.{◌≡◌, false, not, List, [], ◌∷◌, ℕ, ◌≤◌, ◌<◌, eqb, length, Option}
+use Rattle.std.specs.Prelude.{◌≡◌, false, not, List, ℕ, ◌≤◌, ◌<◌, eqb, length, Option}
 use Rattle.base.specs.Chains.{unless_zero}
 use Rattle.nets.specs.Nets.{betters_net, betters-net}
 use Rattle.std.proofs.Math.Path.{refl, sym, ap}
@@ -11,7 +11,6 @@ use Rattle.base.specs.Sets.{minus}
 use Rattle.rules.specs.declared.Entry.{Entry}
 use Rattle.rules.specs.declared.LegOrder.{LegOrder}
 use Rattle.rules.specs.declared.Strategy.{Strategy}
-use Rattle.rules.specs.declared.Record.{Record}
 use Rattle.rules.specs.declared.LegNets.{LegNets}
 use Rattle.rules.specs.declared.State.{State}
 use Rattle.rules.specs.declared.Allocation.TheVariants.{Shared}
@@ -21,14 +20,11 @@ use Rattle.rules.specs.Sides.{other}
 use Rattle.rules.specs.Nets.{prices, net_of, betters}
 use Rattle.rules.specs.Strategies.{shut_set, all_open}
 use Rattle.rules.specs.Passes.{turn_at}
-use Rattle.rules.specs.Fills.{cancel_record, cut_entry, cancel_entry}
+use Rattle.rules.specs.Fills.{cancel_entry}
 use Rattle.rules.specs.Auctions.{running, with_auction, put_auction, begin, answer}
 use Rattle.rules.specs.Events.{live, keep, behind, free_slot, rest_or_cancel, may_start, starts, waits, trades, arrive, on_order}
 use Rattle.rules.specs.Valid.{FitEntry}
 use Rattle.rules.proofs.Tables.{behind-slot}
-use Rattle.records.specs.Space.{Appended, Room}
-use Rattle.records.specs.Done.{Done}
-use Rattle.fills.specs.Fills.{with_entry, cancel-room, cancel-stores}
 use Rattle.auctions.specs.Auctions.{answers_in, answer-by, auctioned, put_is}
 use Rattle.entries.specs.Entered.{entered, entered-is}
 use Rattle.ranges.specs.Fit.{Fit}
@@ -37,7 +33,6 @@ use Rattle.stored_nets.specs.Laws.{net-stored}
 use Rattle.passes.specs.Passes.{stops_at, opposite_in, net_in, net_over, legs_met, turn-met, pass-still, ready_level}
 use Rattle.complex_orders.specs.declared.Arrival.{Arrival}
 use Rattle.complex_orders.specs.declared.Arrival.TheVariants as A
-use Rattle.records.specs.declared.Records.{Records}
 
 -- whether an order of strategy s starts an auction, by the leg orders
 unfoldable pub starts_in : Entry → Strategy → List LegOrder → Bool
@@ -204,21 +199,6 @@ module _ (e : Entry) (b : State) {i : ℕ} {rows : List Entry} (p : rows ≡ beh
   pub slot-within : free_slot b < 32 → i < 32
   unfolding free_slot
   slot-within h = rw q h
-
-  -- cancelled in place
-  module _ (h : free_slot b < 32) (l : 0 < e.units) {r : Record} (w : r ≡ cancel_record e) where
-    stands : ¬ ((entry_at (entered e rows b) i).units ≡ 0)
-    stands = rw (enters-at h) (omega arith)
-
-    told_of : r ≡ cancel_record (entry_at (entered e rows b) i)
-    told_of = rw (enters-at h) w
-
-    pub cancels-room : {r₀ : Records} → Room r₀ (cancel_entry i (entered e rows b)).records → Room r₀ (r ∷ [])
-    cancels-room x = cancel-room i (entered e rows b) stands told_of x
-
-    pub cancels-done : {f : Entry} → f ≡ cut_entry e e.units → {r₀ r₁ : Records} → Appended r₀ r₁ (r ∷ [])
-        → Done r₀ r₁ (with_entry (entered e rows b) i f) (cancel_entry i (entered e rows b))
-    cancels-done g x = cancel-stores i (entered e rows b) stands told_of (rw (enters-at h) g) x
 
   -- an answer
   pub answers-is : free_slot b < 32 → {s : Strategy} → s ≡ with_auction (strategy_of b e) (strategy_of b e).starter (strategy_of b e).begun true

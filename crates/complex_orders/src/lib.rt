@@ -13,8 +13,8 @@ ghost use Rattle.records.specs.Done.{Done};
 ghost use Rattle.ranges.specs.Fit.{FitLegs, Fit};
 ghost use Rattle.complex_orders.specs.ComplexOrders.{starts_by, NetsAre, rests_as, waits_as, arrival_of};
 
-use auctions::{answers, begin, with_auction};
-use fills::{cancel_entry, cancel_record, cut_entry};
+use auctions::{answers, begin};
+use fills::cancel_entry;
 use nets::betters;
 use passes::{idle, pass};
 use records::Records;
@@ -137,12 +137,9 @@ pub fn on_order(e: Entry, b: &mut State, records: &mut Records)
     let s = b.strategies[k];
     match arrives(e, s, b.opened, rows, b.orders, b.nets[k]) {
         Arrival::Rests => {}
-        Arrival::Cancelled => {
-            records.push(cancel_record(e));
-            b.entries[i] = cut_entry(e, e.units as u32);
-        }
+        Arrival::Cancelled => cancel_entry(b, i, records),
         Arrival::Answers => {
-            b.strategies[k] = with_auction(s, s.starter, s.begun, true);
+            b.strategies[k].answered = true;
         }
         Arrival::Starts => begin(b, i, records),
         Arrival::Passes => trades(b, i, records),

@@ -19,8 +19,8 @@ use states::runs;
 use tables::fresh;
 
 // The lowest number that is live, if any is.
-fn lowest_live(b: State) -> Option<u32>
-    ensures { result ≡ reduce min (live_numbers b) }
+fn lowest_live(b: &State) -> Option<u32>
+    ensures { result ≡ reduce min (live_numbers b.now) }
 {
     let entries = b.entries.iter().filter(|e| e.units != 0).map(|e| e.number);
     let orders = b
@@ -38,7 +38,7 @@ fn cancel_all(b: &mut State, records: &mut Records)
     ensures { Done records.old records.new b.new (each cancel_lowest (table_rows + table_rows) b.old) }
 {
     for _ in 0..State::LIVE {
-        match lowest_live(*b) {
+        match lowest_live(b) {
             Some(n) => cancel_number(b, n, records),
             None => return,
         }

@@ -1,9 +1,8 @@
-use native.Mathlib.Omega.{arith}
-use mathlib.Core.Path.{sym, ◌∙◌}
+use mathlib.Core.Path.{refl, sym, ◌∙◌}
 use Rattle.ranges.specs.Fit.{fit-legs}
 use Rattle.entries.specs.Entered.{entered-is, fit-enter}
 use Rattle.records.specs.Done.{done-of, done-still, room_of}
-use Rattle.complex_orders.specs.ComplexOrders.{does, order_is, slot-within, cancels-room, cancels-done, answers-is, nets-are}
+use Rattle.complex_orders.specs.ComplexOrders.{does, order_is, slot-within, answers-is, nets-are}
 use Rattle.complex_orders.proofs.on_order.Goals as goal
 
 pub bounds-b-k : goal.bounds-b-k
@@ -12,15 +11,9 @@ bounds-b-k c = c.requires.b_bound.1.strategy
 pub arrives-requires : goal.arrives-requires
 arrives-requires c = (c.requires.b_bound.4.orders, c.requires.b_bound.4.priced, fit-legs c.requires.b_bound.4.strategies _, nets-are _ _ c.requires.b_bound.4 c.requires.b_bound.1 c.requires.b_bound.3)
 
-pub push-requires : goal.push-requires
+pub cancel_entry-requires : goal.cancel_entry-requires
 unfolding does
-push-requires c = cancels-room _ _ c.insert-i.ensures.0 c.insert-i.ensures.1 c.requires.b_bound.0 c.requires.b_bound.2 c.cancel_record.ensures (room_of (order_is _ _ c.insert-i.ensures.0 c.insert-i.ensures.1 c.requires.b_bound.0 (sym c.in-Cancelled.is ∙ c.arrives.ensures)) c.requires.room)
-
-pub offset_bounds-b-i : goal.offset_bounds-b-i
-offset_bounds-b-i c = let k = slot-within _ _ c.insert-i.ensures.0 c.insert-i.ensures.1 c.requires.b_bound.0 in omega arith
-
-pub bounds-b-i : goal.bounds-b-i
-bounds-b-i c = slot-within _ _ c.insert-i.ensures.0 c.insert-i.ensures.1 c.requires.b_bound.0
+cancel_entry-requires c = record { i_lt_table_rows = slot-within _ _ c.insert-i.ensures.0 c.insert-i.ensures.1 c.requires.b_bound.0; room = room_of (order_is _ _ c.insert-i.ensures.0 c.insert-i.ensures.1 c.requires.b_bound.0 (sym c.in-Cancelled.is ∙ c.arrives.ensures)) c.requires.room }
 
 pub begin-requires : goal.begin-requires
 unfolding does
@@ -44,7 +37,7 @@ returns-in-Rests c = done-of (order_is _ _ c.insert-i.ensures.0 c.insert-i.ensur
 
 pub returns-in-Cancelled : goal.returns-in-Cancelled
 unfolding does
-returns-in-Cancelled c = done-of (order_is _ _ c.insert-i.ensures.0 c.insert-i.ensures.1 c.requires.b_bound.0 (sym c.in-Cancelled.is ∙ c.arrives.ensures)) (cancels-done _ _ c.insert-i.ensures.0 c.insert-i.ensures.1 c.requires.b_bound.0 c.requires.b_bound.2 c.cancel_record.ensures c.cut_entry.ensures c.push.ensures)
+returns-in-Cancelled c = done-of (order_is _ _ c.insert-i.ensures.0 c.insert-i.ensures.1 c.requires.b_bound.0 (sym c.in-Cancelled.is ∙ c.arrives.ensures)) c.cancel_entry.ensures
 
 pub returns-in-Answers : goal.returns-in-Answers
-returns-in-Answers c = done-of (order_is _ _ c.insert-i.ensures.0 c.insert-i.ensures.1 c.requires.b_bound.0 (sym c.in-Answers.is ∙ c.arrives.ensures) ∙ answers-is _ _ c.insert-i.ensures.0 c.insert-i.ensures.1 c.requires.b_bound.0 c.with_auction.ensures) (done-still _ _)
+returns-in-Answers c = done-of (order_is _ _ c.insert-i.ensures.0 c.insert-i.ensures.1 c.requires.b_bound.0 (sym c.in-Answers.is ∙ c.arrives.ensures) ∙ answers-is _ _ c.insert-i.ensures.0 c.insert-i.ensures.1 c.requires.b_bound.0 refl) (done-still _ _)
