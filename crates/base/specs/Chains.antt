@@ -26,7 +26,7 @@ unfolding table
 table-front f zero = refl
 table-front {A} f (suc k) = ap (λ (l : List A). l ++ (f (suc k) ∷ [])) (table-front f k)
 
-all-front : (f : ℕ → Bool) (k : ℕ) → all_n f (suc k) ≡ (f 0 && all_n (λ (i : ℕ). f (suc i)) k)
+pub all-front : (f : ℕ → Bool) (k : ℕ) → all_n f (suc k) ≡ (f 0 && all_n (λ (i : ℕ). f (suc i)) k)
 unfolding all_n
 all-front f zero = by (f 0)
   where

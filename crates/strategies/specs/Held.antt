@@ -1,9 +1,14 @@
 -- The comparison with held strategies: the loops' invariants.
-use Rattle.std.specs.Prelude.{◌≡◌, refl, Bool, true, false, List, ℕ, ◌+◌, ◌≤◌, ◌<◌, length, get_or, set}
+use Rattle.std.specs.Prelude.{◌≡◌, refl, Bool, true, false, List, [], ◌∷◌, ℕ, zero, suc, ◌+◌, ◌≤◌, ◌&&◌, eqb, length, get_or, set, take, Option, unwrap_or}
+use Rattle.std.specs.Cmp.Lexicographic.{pointwise}
+use Rattle.std.specs.List.{position}
 use Rattle.std.proofs.Math.Path.{sym, ap}
-use Rattle.std.proofs.Common.{◌∙◌, arith}
+use Rattle.std.proofs.Common.{◌∙◌, ⊎_elim, arith, lt-ltb, le-ltb}
+use Rattle.std.proofs.lemmas.List.{length-take-le, get_or-take}
 use Rattle.std.proofs.Math.Seq.{set_out}
-use Rattle.base.specs.Walks.{all_n, all_none, all_more, all-stop, first-is, first-none}
+use Rattle.base.specs.Pick.{pick}
+use Rattle.base.specs.Walks.{all_n, first_n, first-le, first-same, lt-or-le}
+use Rattle.base.specs.Chains.{found, all-front, position-slots}
 use Rattle.rules.specs.declared.Leg.{Leg}
 use Rattle.rules.specs.declared.Strategy.{Strategy}
 use Rattle.rules.specs.declared.LegNets.{LegNets}
@@ -11,55 +16,48 @@ use Rattle.rules.specs.declared.State.{State}
 use Rattle.rules.specs.State.{no_leg, no_strategy, with_strategies, with_nets}
 use Rattle.rules.specs.Nets.{nets_in}
 use Rattle.rules.specs.Strategies.{same_leg, same_legs, number_of, added}
-use Rattle.terms.specs.Terms.{none_more}
 
--- legs that agree at a place
-abbrev pub agree_at : List Leg → List Leg → ℕ → Bool
-agree_at xs ys i = same_leg (get_or xs i no_leg) (get_or ys i no_leg)
+-- two legs are equal, as the derived test has it
+abbrev pub leg_eq : Leg → Leg → Bool
+leg_eq x y = eqb x.series y.series && (eqb x.side y.side && eqb x.ratio y.ratio)
 
--- whether the strategy at k has these legs
-abbrev pub agrees_at : List Strategy → List Leg → ℕ → Bool
-agrees_at rows legs k = all_n (agree_at (get_or rows k no_strategy).legs legs) 6
+leg-same : (x y : Leg) → leg_eq x y ≡ same_leg x y
+unfolding same_leg pick
+leg-same x y = by (eqb x.series y.series) (eqb x.side y.side) (eqb x.ratio y.ratio)
+  where
+    by : (t u v : Bool) → (t && (u && v)) ≡ pick t (pick u v false) false
+    by true true v = refl
+    by true false v = refl
+    by false u v = refl
 
--- none of the first k of n strategies has these legs
-pub record Looking (rows : List Strategy) (legs : List Leg) (n k : ℕ) : Type 0 where
-  pub low : k ≤ n
-  pub none : (j : ℕ) → j < k → agrees_at rows legs j ≡ false
+-- two lists of one length, slot by slot
+pointwise-slots : (n : ℕ) (xs ys : List Leg) → length xs ≡ n → length ys ≡ n → pointwise leg_eq xs ys ≡ all_n (λ (i : ℕ). same_leg (get_or xs i no_leg) (get_or ys i no_leg)) n
+unfolding all_n
+pointwise-slots zero [] [] p q = refl
+pointwise-slots (suc n) (x ∷ xs) (y ∷ ys) p q =
+    rw (leg-same x y, pointwise-slots n xs ys (omega arith) (omega arith)) (sym (all-front (λ (i : ℕ). same_leg (get_or (x ∷ xs) i no_leg) (get_or (y ∷ ys) i no_leg)) n))
+pointwise-slots zero (x ∷ xs) ys p q = absurd (omega arith)
+pointwise-slots zero [] (y ∷ ys) p q = absurd (omega arith)
+pointwise-slots (suc n) [] ys p q = absurd (omega arith)
+pointwise-slots (suc n) (x ∷ xs) [] p q = absurd (omega arith)
 
--- .. and the first i legs of strategy k agree
-pub record Comparing (rows : List Strategy) (legs theirs : List Leg) (n k i : ℕ) : Type 0 where
-  pub outer : Looking rows legs n k
-  pub below : k < n
-  pub these : theirs ≡ (get_or rows k no_strategy).legs
-  pub few : i ≤ 6
-  pub same : all_n (agree_at theirs legs) i ≡ true
+pub legs-compared : (t s : Strategy) → length t.legs ≡ 6 → length s.legs ≡ 6 → pointwise leg_eq t.legs s.legs ≡ same_legs t s
+unfolding same_legs
+legs-compared t s h k = pointwise-slots 6 t.legs s.legs h k
 
-pub look-first : (rows : List Strategy) (legs : List Leg) (n : ℕ) → Looking rows legs n 0
-look-first rows legs n = record { low = omega arith; none = λ j h. absurd (omega arith) }
+-- the first of those held that has the legs, else the next number
+first-or : (f : ℕ → Bool) (n : ℕ) → unwrap_or (found n (first_n f n)) n ≡ first_n f n
+first-or f n = ⊎_elim (λ h. rw (lt-ltb (first_n f n) n h) refl) (λ h. rw (le-ltb (first_n f n) n h) (omega (arith, first-le f n))) (lt-or-le (first_n f n) n)
 
-pub look-end : (b : State) (s : Strategy) (k : ℕ) → Looking b.strategies s.legs b.defined k → b.defined ≤ k → k ≡ number_of b s
-unfolding number_of same_legs
-look-end b s k g h = let e : k ≡ b.defined = omega (arith, g.low) in e ∙ sym (first-none _ b.defined (λ j l. g.none j (omega arith)))
-
-pub compare-first : (rows : List Strategy) (legs : List Leg) (n k : ℕ) → Looking rows legs n k → k < n → Comparing rows legs (get_or rows k no_strategy).legs n k 0
-compare-first rows legs n k g h = record { outer = g; below = h; these = refl; few = omega arith; same = all_none _ }
-
-module _ {rows : List Strategy} {legs theirs : List Leg} {n k i : ℕ} (g : Comparing rows legs theirs n k i) where
-  pub compare-more : i < 6 → agree_at theirs legs i ≡ true → Comparing rows legs theirs n k (i + 1)
-  compare-more h t = record { outer = g.outer; below = g.below; these = g.these; few = omega arith; same = all_more _ i g.same t }
-
-  pub compare-stop : i < 6 → agree_at theirs legs i ≡ false → Looking rows legs n (k + 1)
-  compare-stop h t = record {
-    low = omega (arith, g.below);
-    none = none_more (agrees_at rows legs) k g.outer.none (rw g.these at (all-stop (agree_at theirs legs) i 6 h t));
-  }
-
-pub compare-all : (b : State) (s : Strategy) (theirs : List Leg) (k i : ℕ) → Comparing b.strategies s.legs theirs b.defined k i → 6 ≤ i → k ≡ number_of b s
-unfolding number_of same_legs
-compare-all b s theirs k i g h =
-    let e : i ≡ 6 = omega (arith, g.few) in
-    let t : all_n (agree_at theirs s.legs) 6 ≡ true = rw e at g.same in
-    sym (first-is _ b.defined k g.below (rw g.these at t) g.outer.none)
+pub number-found : (b : State) (s : Strategy) {r : Option ℕ} → b.defined ≤ length b.strategies → r ≡ position (λ (t : Strategy). same_legs t s) (take b.defined b.strategies) → unwrap_or r b.defined ≡ number_of b s
+unfolding number_of
+number-found b s {r} h e =
+    let p : Strategy → Bool = λ (t : Strategy). same_legs t s in
+    let ts : List Strategy = take b.defined b.strategies in
+    let g : position p ts ≡ found b.defined (first_n (λ (i : ℕ). p (get_or b.strategies i no_strategy)) b.defined) =
+    position-slots no_strategy p ts ∙ ap (λ (n : ℕ). found n (first_n (λ (i : ℕ). p (get_or ts i no_strategy)) n)) (length-take-le b.defined b.strategies h)
+    ∙ ap (found b.defined) (first-same _ _ b.defined (λ i l. ap p (get_or-take b.defined b.strategies i no_strategy l))) in
+    ap (λ (x : Option ℕ). unwrap_or x b.defined) (e ∙ g) ∙ first-or _ b.defined
 
 -- the state with one strategy more, by whether a slot is left
 module _ (s : Strategy) (b : State) where

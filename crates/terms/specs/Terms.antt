@@ -1,5 +1,5 @@
 -- Laws of a definition's ratios and places.
-use Rattle.std.specs.Prelude.{◌≡◌, Bool, true, false, List, ℕ, zero, suc, ◌%◌, ◌≤◌, ◌<◌, ltb, get_or}
+use Rattle.std.specs.Prelude.{◌≡◌, Bool, true, false, List, ℕ, zero, suc, ◌%◌, ◌≤◌, ◌<◌, ltb, get_or, Option}
 use Rattle.std.specs.List.{list_any, position, range_with_len}
 use Rattle.std.specs.Option.{is_some}
 use Rattle.std.proofs.Common.{refl, sym, ◌∙◌, ap, zero-add, arith, ne_eqb, cond, Some, None}
@@ -43,6 +43,21 @@ module _ (f : ℕ → Bool) (n : ℕ) where
       position-slots 0 f (range_with_len 0 n)
       ∙ ap (λ (k : ℕ). found k (first_n (λ (i : ℕ). f (get_or (range_with_len 0 n) i 0)) k)) (length-range_with_len 0 n)
       ∙ ap (found n) (first-same _ _ n (λ i h. ap f (get_or-range_with_len 0 n i 0 h ∙ zero-add i)))
+
+-- the place that is found, or none
+pub found-at : (n k : ℕ) {i : ℕ} → Some i ≡ found n k → (ltb k n ≡ true) × (i ≡ k)
+found-at n k {i} h = by (ltb k n) h
+  where
+    by : (t : Bool) → Some i ≡ cond t (Some k) None → (t ≡ true) × (i ≡ k)
+    by true e = (refl, cc)
+    by false e = absurd (cc)
+
+pub found-none : (n k : ℕ) → None ≡ found n k → ltb k n ≡ false
+found-none n k h = by (ltb k n) h
+  where
+    by : (t : Bool) → ◌≡◌ {A = Option ℕ} None (cond t (Some k) None) → t ≡ false
+    by true e = absurd (cc)
+    by false e = refl
 
 -- whether a place is found
 pub found-some : (n k : ℕ) → is_some (found n k) ≡ ltb k n

@@ -1,16 +1,18 @@
 use Rattle.base.specs.Pick.{told}
-use Rattle.strategies.specs.Order.{add-past, add-held, add-new, add-fits}
 use Rattle.base.specs.SetLaws.{shifted}
+use Rattle.strategies.specs.Order.{add-past, add-held, add-new, add-fits}
+use Rattle.strategies.proofs.add_series.Goals.{else-s-lt32-via-then-s-lt32+else-not-has, else-s-lt32-via-else-s-lt32}
 use Rattle.strategies.proofs.add_series.Goals as goal
 
-pub returns-then-s-ge32 : goal.returns-then-s-ge32
-returns-then-s-ge32 c = add-past _ _ c.if-s-ge32.true
-
-pub returns-then-has : goal.returns-then-has
-returns-then-has c = add-held _ _ c.if-s-ge32.false (told c.has.ensures c.if-has.true)
-
 pub overflow_add-result : goal.overflow_add-result
-overflow_add-result c = record { fits = add-fits _ _ c.ranges.x.fits c.if-s-ge32.false (told c.has.ensures c.if-has.false) (shifted _ c.if-s-ge32.false) }
+overflow_add-result c = record { fits = add-fits _ _ c.ranges.x.fits c.if-s-lt32.true (told c.has.ensures c.if-not-has.true) (shifted _ c.if-s-lt32.true) }
 
-pub returns : goal.returns
-returns c = add-new _ _ c.if-s-ge32.false (told c.has.ensures c.if-has.false) (shifted _ c.if-s-ge32.false)
+pub returns-then-not-has : goal.returns-then-not-has
+returns-then-not-has c = add-new _ _ c.if-s-lt32.true (told c.has.ensures c.if-not-has.true) (shifted _ c.if-s-lt32.true)
+
+pub returns-else-s-lt32 : goal.returns-else-s-lt32
+returns-else-s-lt32 c =
+    elim c.else-s-lt32.branch [
+      | else-s-lt32-via-then-s-lt32+else-not-has w ↦ add-held _ _ w.if-s-lt32.true (told w.has.ensures w.if-not-has.false)
+      | else-s-lt32-via-else-s-lt32 w ↦ add-past _ _ w.if-s-lt32.false
+    ]

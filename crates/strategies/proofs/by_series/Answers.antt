@@ -1,36 +1,21 @@
-use mathlib.Core.Path.{refl}
-use Rattle.base.specs.Sets.{lowest_of}
-use Rattle.strategies.specs.Order.{lowest-in, walking-first, walking-next, walking-last, left-fits}
-use Rattle.base.specs.SetLaws.{shifted}
-use native.Mathlib.Omega.{arith}
+use Rattle.std.proofs.Common.{arith}
+use Rattle.strategies.specs.Order.{order_first, order_put, order_full, order_pass, order_all}
+use Rattle.terms.specs.Terms.{found-at, found-none}
+use Rattle.strategies.proofs.by_series.Goals.{in-Some+then-used-lt6, in-Some+else-used-lt6, in_default}
 use Rattle.strategies.proofs.by_series.Goals as goal
 
-pub loop-left-init : goal.loop-left-init
-loop-left-init c = walking-first _ _ c.requires
+pub loop-s-init : goal.loop-s-init
+loop-s-init c = order_first _ _
 
-pub overflow_cast-s : goal.overflow_cast-s
-unfolding lowest_of
-overflow_cast-s c = let h = (lowest-in c.loop-left.left c.loop-left.invariant.small c.loop-left-test.true refl).0 in omega arith
-
-pub overflow_cast-left : goal.overflow_cast-left
-unfolding lowest_of
-overflow_cast-left c = let h = (lowest-in c.loop-left.left c.loop-left.invariant.small c.loop-left-test.true refl).0 in omega arith
-
-pub overflow_shl-left : goal.overflow_shl-left
-unfolding lowest_of
-overflow_shl-left c = let h = (lowest-in c.loop-left.left c.loop-left.invariant.small c.loop-left-test.true refl).0 in omega arith
-
-pub overflow_sub-left : goal.overflow_sub-left
-unfolding lowest_of
-overflow_sub-left c = let h = (lowest-in c.loop-left.left c.loop-left.invariant.small c.loop-left-test.true refl).0 in (left-fits c.loop-left.left c.loop-left.invariant.small c.loop-left-test.true refl (shifted _ h)).1
-
-pub loop-left-smaller : goal.loop-left-smaller
-unfolding lowest_of
-loop-left-smaller c = let h = (lowest-in c.loop-left.left c.loop-left.invariant.small c.loop-left-test.true refl).0 in omega (arith, left-fits c.loop-left.left c.loop-left.invariant.small c.loop-left-test.true refl (shifted _ h))
-
-pub loop-left-preserved : goal.loop-left-preserved
-unfolding lowest_of
-loop-left-preserved c = let h = (lowest-in c.loop-left.left c.loop-left.invariant.small c.loop-left-test.true refl).0 in walking-next _ _ c.loop-left.invariant c.loop-left-test.true refl c.put_series-o.ensures (shifted _ h)
+pub loop-s-preserved : goal.loop-s-preserved
+loop-s-preserved c =
+    elim c.match-place_of.branch [
+      | in-Some+then-used-lt6 w ↦
+          let f = found-at _ _ w.in-Some.ensures in
+          rw (w.rows-is, w.used-is) (order_put _ _ _ c.loop-s.invariant f.0 w.if-used-lt6.true (rw f.1 at w.leg_at.ensures))
+      | in-Some+else-used-lt6 w ↦ rw (w.rows-is, w.used-is) (order_full _ _ _ c.loop-s.invariant (found-at _ _ w.in-Some.ensures).0 w.if-used-lt6.false)
+      | in_default w ↦ rw (w.rows-is, w.used-is) (order_pass _ _ _ c.loop-s.invariant (found-none _ _ w.in_default.ensures))
+    ]
 
 pub returns : goal.returns
-returns c = walking-last _ _ c.loop-left.invariant c.loop-left-test.false
+returns c = order_all _ _ _ (omega arith) c.loop-s.invariant

@@ -1,8 +1,5 @@
-use Rattle.strategies.specs.Order.{Walking}
+use Rattle.strategies.specs.Order.{Ordering}
 use Rattle.strategies.proofs.by_series.Given as goal
 
-abbrev pub invariant-loop-left : goal.invariant-loop-left
-invariant-loop-left l = Walking l.legs l.count l.left l.o
-
-abbrev pub decreases-loop-left : goal.decreases-loop-left
-decreases-loop-left l = l.left
+abbrev pub invariant-loop-s : goal.invariant-loop-s
+invariant-loop-s l = Ordering l.legs l.count l.s l.rows l.used

@@ -1,11 +1,7 @@
-use Prim.Native.Nat.{◌≤◌, ◌-◌}
 use mathlib.Core.Path.{◌≡◌}
 use Rattle.base.specs.Sets.{set_n}
 use Rattle.rules.specs.Strategies.{present}
 use Rattle.strategies.proofs.series_set.Given as goal
 
 abbrev pub invariant-loop-i : goal.invariant-loop-i
-invariant-loop-i l = (l.i ≤ l.count) × (l.x ≡ set_n (present l.legs l.i) 32)
-
-abbrev pub decreases-loop-i : goal.decreases-loop-i
-decreases-loop-i l = l.count - l.i
+invariant-loop-i l = l.x ≡ set_n (present l.legs l.i) 32
