@@ -1,5 +1,6 @@
 // What the events of kinds 1 to 4, 9 and 11 bring: the row that enters, the strategy defined, whether its definition is
-// ill-formed, the national prices, and the specialist.
+// ill-formed, the national prices, and the specialist. These are functions and no `From`: each but quote_given requires that the
+// fields fit their types, which the contract of `From` does not ask, and its two types are of other crates than this.
 #![tactic(auto)]
 
 ghost use Rattle.std.specs.Prelude.{◌≡◌, ◌<◌};
@@ -100,6 +101,7 @@ fn legs_given(e: events::Strategy) -> [Leg; 6]
     ensures { result ≡ legs_given e }
 {
     let l = e.legs;
+    // Six calls and no `map`: that it may call leg_given at each leg was tried and did not prove (`map-requires`).
     [
         leg_given(l.0),
         leg_given(l.1),
@@ -115,8 +117,7 @@ pub fn strategy_given(e: events::Strategy) -> Strategy
     requires { FitGiven e }
     ensures { result ≡ strategy_given e }
 {
-    let legs = legs_given(e);
-    defined(legs, e.count as usize)
+    defined(legs_given(e), e.count as usize)
 }
 
 // 5: a series twice, or the largest ratio over 3 × the smallest.
@@ -126,8 +127,5 @@ pub fn ill_formed(e: events::Strategy) -> bool
 {
     let legs = legs_given(e);
     let count = e.count as usize;
-    if twice(legs, count) {
-        return true;
-    }
-    over_threefold(legs, count)
+    twice(legs, count) || over_threefold(legs, count)
 }

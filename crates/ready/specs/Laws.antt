@@ -1,5 +1,5 @@
 -- The legs of a strategy are ready by the contracts at the best prices exactly where the rules give a unit of them.
-use Rattle.std.specs.Prelude.{◌≡◌, Bool, false, ◌&&◌, List, eqb, leb}
+use Rattle.std.specs.Prelude.{◌≡◌, Bool, false, ◌&&◌, List, eqb, leb, unwrap_or}
 use Rattle.std.proofs.Math.Path.{refl, sym}
 use Rattle.std.proofs.Common.{◌∙◌, arith, leb-true, leb-false}
 use Rattle.std.proofs.Math.Bool.{true}
@@ -91,6 +91,6 @@ module _ (os : List LegOrder) (side : ℕ) where
 
 -- the net at which the legs give a unit, by the contracts at the best prices
 pub ready-net : (os : List LegOrder) (side : ℕ) (t : Strategy) → FitLegs t
-    → net_where (leg_bests os side t) ≡ pick (ready_by (lot_table os) side t) (net_of t (prices os side t.legs)) 0
+    → unwrap_or (net_where (leg_bests os side t)) 0 ≡ pick (ready_by (lot_table os) side t) (net_of t (prices os side t.legs)) 0
 unfolding net_ready
-ready-net os side t f = net-where os side t refl ∙ rw (ready-unit os side t f) (net-turned _ _)
+ready-net os side t f = net-where os side t ∙ rw (ready-unit os side t f) (net-turned _ _)

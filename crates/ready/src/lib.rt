@@ -21,27 +21,21 @@ fn best_by(p: u32, n: u32, o: LegOrder) -> Best
     requires { (n ≤ 319968) × (o.contracts ≤ 9999) × (0 < o.contracts) }
     ensures { result ≡ best_with o.series o.side (pair p n) o }
 {
-    if p == 0 {
-        return Best {
+    if p == 0 || better(o.side, p, o.price) {
+        Best {
             price: o.price,
             contracts: o.contracts,
-        };
-    }
-    if better(o.side, p, o.price) {
-        return Best {
-            price: o.price,
-            contracts: o.contracts,
-        };
-    }
-    if o.price == p {
-        return Best {
+        }
+    } else if o.price == p {
+        Best {
             price: p,
             contracts: n + o.contracts,
-        };
-    }
-    Best {
-        price: p,
-        contracts: n,
+        }
+    } else {
+        Best {
+            price: p,
+            contracts: n,
+        }
     }
 }
 
@@ -53,16 +47,13 @@ pub fn lots_of(os: [LegOrder; State::LEG_ORDERS]) -> [u32; SERIES_SIDES]
 {
     let mut ps: [u32; SERIES_SIDES] = [0; SERIES_SIDES];
     let mut ls: [u32; SERIES_SIDES] = [0; SERIES_SIDES];
-    let mut i: usize = 0;
-    while i < State::LEG_ORDERS {
-        let o = os[i];
+    for o in &os {
         if 0 < o.contracts {
             let at = o.series as usize * 2 + o.side as usize;
-            let b = best_by(ps[at], ls[at], o);
+            let b = best_by(ps[at], ls[at], *o);
             ps[at] = b.price;
             ls[at] = b.contracts;
         }
-        i += 1;
     }
     ls
 }
@@ -72,17 +63,12 @@ pub fn ready(ls: &[u32; SERIES_SIDES], side: u8, t: Strategy) -> bool
     requires { FitLegs t }
     ensures { result ≡ ready_by ls.now side t }
 {
-    let count = t.count as usize;
-    let legs = t.legs;
-    let mut i: usize = 0;
-    while i < count {
-        let l = legs[i];
+    for i in 0..t.count as usize {
+        let l = t.legs[i];
         let on = other(leg_side(side, l));
-        let at = l.series as usize * 2 + on as usize;
-        if ls[at] < l.ratio as u32 {
+        if ls[l.series as usize * 2 + on as usize] < l.ratio as u32 {
             return false;
         }
-        i += 1;
     }
     true
 }

@@ -1,9 +1,5 @@
 use Rattle.ready.specs.Lots.{Walked}
-use Prim.Native.Nat.{◌≤◌, ◌-◌}
 use Rattle.ready.proofs.lots_of.Given as goal
 
-abbrev pub invariant-loop-i : goal.invariant-loop-i
-invariant-loop-i l = (l.i ≤ 32) × Walked l.os l.i l.ps l.ls
-
-abbrev pub decreases-loop-i : goal.decreases-loop-i
-decreases-loop-i l = 32 - l.i
+abbrev pub invariant-loop-o : goal.invariant-loop-o
+invariant-loop-o l = Walked l.fn.os l.o-index l.ps l.ls
