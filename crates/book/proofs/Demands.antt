@@ -34,7 +34,8 @@ use Rattle.rules.proofs.Refusals.{refusals-exact, refused-still}
 use Rattle.rules.proofs.Room.{room}
 use Rattle.rules.proofs.StoredNets.{valid-nets}
 use Rattle.rules.proofs.Totals.{totals}
-use Rattle.records.specs.Space.{laid, numbers, length-numbers, wrote-nil}
+use Rattle.book.specs.Outcomes.{laid-nil}
+use Rattle.records.specs.Space.{laid, numbers, length-numbers}
 use Rattle.book.specs.declared.Book.{Book}
 use Rattle.book.specs.Books.{Stepped}
 use Rattle.book.specs.Calls.{First, Call, Calls, no_call, a_call, lines_in, numbers_in, ReadWhole, seen, Answers, Exact, TotalsHold}
@@ -54,7 +55,7 @@ module _ (b : State) (frame : List ℕ) (s t : List ℤ) (c : State) (x : Result
   some-given r g = sym w.number ∙ ap answer_number g
 
   left_alone : came.moved ≡ still b → (c ≡ b) × (t ≡ s)
-  left_alone m = (w.state ∙ ap (λ (y : Moved). y.state) m, w.space ∙ (ap (λ (y : Moved). laid s 0 y.records) m ∙ sym (wrote-nil s 0).space))
+  left_alone m = (w.state ∙ ap (λ (y : Moved). y.state) m, w.space ∙ (ap (λ (y : Moved). laid s 0 y.records) m ∙ sym (laid-nil s)))
 
   pub every-frame-answered : Answers b frame s t c x
   every-frame-answered =

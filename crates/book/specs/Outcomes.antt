@@ -3,7 +3,6 @@ use Rattle.std.specs.Prelude.{◌≡◌, refl, List, [], ℕ, ◌≤◌, ◌<◌
 use Rattle.std.proofs.Common.{ap, sym, subst, ◌∙◌, arith, eq-eqb, ne_eqb, lt-ltb, le-ltb}
 use Rattle.std.specs.Result.{IsErrAnd}
 use Rattle.std.proofs.lemmas.Result.{err_from_is_err_and}
-use Rattle.std.proofs.Math.Nat.{zero-add}
 use Rattle.std.proofs.Math.ListN.{length}
 use Rattle.base.specs.Pick.{pick, pick_true, pick-false}
 use Rattle.events.specs.declared.Event.{Event}
@@ -42,7 +41,7 @@ unfolding refusal table_of read_causes first_cause pick
 refusal-read b f space h = rw (le-ltb space 15_360 h)
 
 -- no records
-laid-nil : (s : List ℤ) → s ≡ laid s 0 []
+pub laid-nil : (s : List ℤ) → s ≡ laid s 0 []
 unfolding laid numbers
 laid-nil s = refl
 

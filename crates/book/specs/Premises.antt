@@ -41,10 +41,9 @@ use Rattle.records.specs.Space.{Room}
 use Rattle.records.specs.Done.{Done}
 use Rattle.sweeps.specs.Sweeps.{MayEnter}
 use Rattle.complex_orders.specs.Slots.{order-slot}
-use Rattle.rules.specs.declared.Accepted.{Accepted}
 use Rattle.book.specs.Books.{Took}
 use Rattle.records.specs.declared.Records.{Records}
-use Rattle.book.specs.Outcomes.{took, took-valid, room-event, took-done}
+use Rattle.book.specs.Outcomes.{took-valid, room-event, took-done}
 
 -- a definition by what the code has found: ill-formed, held already, no slot left, or a new one
 pub strategy-ill : (b : State) (e : GivenStrategy) → ill_formed e ≡ true → 5 ≡ first_cause (causes b (E.Strategy e))
@@ -183,10 +182,10 @@ number-most b t g h = omega (arith, g, first-le (same_at b t) b.defined)
 
 -- an order that nothing refuses, as a row: its slot, the ranges and the room; and what it leaves after its rule
 module _ (b : State) (e : GivenOrder) (s : List ℤ) (q : Valid b × FitOrderGiven e × (15_360 ≤ length s)) (c : 0 ≡ first_cause (causes b (E.Order e))) {r : Entry} (g : r ≡ order_given b e) where
-  pub order-asks : ((free_slot b < 32) × FitEntry r × (0 < r.units) × (0 < (strategy_at b r.strategy).count) × Fit b) × ({r₀ : Records} → r₀.count ≡ 0 → r₀.space.now ≡ s → Room r₀ (on_order r b).records)
+  pub order-asks : ((free_slot b < 32) × FitEntry r × (0 < r.units) × (0 < (strategy_at b r.strategy).count) × Fit b) × ((r₀ : Records) → r₀.count ≡ 0 → r₀.space.now ≡ s → Room r₀ (on_order r b).records)
   order-asks =
       let k = order-clear b e q.0.sound q.1 (sym c) in
-      ((order-slot b _ q.0.sound k, rw g k.fit, rw g k.live, rw g (let l = q.0.sound.legs _ k.strategy in omega arith), fit-sound q.0.sound), room-event b (E.Order e) s q c (order-accepts b e g))
+      ((order-slot b _ q.0.sound k, rw g k.fit, rw g k.live, rw g (let l = q.0.sound.legs _ k.strategy in omega arith), fit-sound q.0.sound), λ r₀ z l. room-event b (E.Order e) s q c (order-accepts b e g) z l)
 
   module _ {r₀ r₁ : Records} {d : State} (w : Done r₀ r₁ d (on_order r b)) where
     pub order-valid : Valid d
@@ -197,11 +196,11 @@ module _ (b : State) (e : GivenOrder) (s : List ℤ) (q : Valid b × FitOrderGiv
 
 -- the same of a sweep, which enters if it has units
 module _ (b : State) (e : GivenSweep) (s : List ℤ) (q : Valid b × FitSweepGiven e × (15_360 ≤ length s)) (c : 0 ≡ first_cause (causes b (E.Sweep e))) {r : Entry} (g : r ≡ sweep_given b e) where
-  pub sweep-asks : (MayEnter r × Fit b) × ({r₀ : Records} → r₀.count ≡ 0 → r₀.space.now ≡ s → Room r₀ (on_sweep r b).records)
+  pub sweep-asks : (MayEnter r × Fit b) × ((r₀ : Records) → r₀.count ≡ 0 → r₀.space.now ≡ s → Room r₀ (on_sweep r b).records)
   unfolding sweep_given
   sweep-asks =
       let k = sweep-clear b e q.1 (sym c) in
-      ((rw g (record { fit = λ l. (k.1 (live_pos (sweep_given b e) l)).fit }), fit-sound q.0.sound), room-event b (E.Sweep e) s q c (sweep-accepts b e g))
+      ((rw g (record { fit = λ l. (k.1 (live_pos (sweep_given b e) l)).fit }), fit-sound q.0.sound), λ r₀ z l. room-event b (E.Sweep e) s q c (sweep-accepts b e g) z l)
 
   module _ {r₀ r₁ : Records} {d : State} (w : Done r₀ r₁ d (on_sweep r b)) where
     pub sweep-valid : Valid d
@@ -212,11 +211,11 @@ module _ (b : State) (e : GivenSweep) (s : List ℤ) (q : Valid b × FitSweepGiv
 
 -- the same of a leg order
 module _ (b : State) (e : GivenLegOrder) (s : List ℤ) (q : Valid b × FitLegOrderGiven e × (15_360 ≤ length s)) (c : 0 ≡ first_cause (causes b (E.LegOrder e))) {r : LegOrder} (g : r ≡ leg_order_given b e) where
-  pub leg-asks : ((free_order_slot b < 32) × FitOrder r × Priced r × Fit b) × ({r₀ : Records} → r₀.count ≡ 0 → r₀.space.now ≡ s → Room r₀ (on_leg_order r b).records)
+  pub leg-asks : ((free_order_slot b < 32) × FitOrder r × Priced r × Fit b) × ((r₀ : Records) → r₀.count ≡ 0 → r₀.space.now ≡ s → Room r₀ (on_leg_order r b).records)
   unfolding free_order_slot
   leg-asks =
       let k = leg_order-clear b e q.1 (sym c) in
-      ((enter_order-room b _ q.0.sound k, rw g k.fit, rw g (record { price = λ h. k.price }), fit-sound q.0.sound), room-event b (E.LegOrder e) s q c (leg-accepts b e g))
+      ((enter_order-room b _ q.0.sound k, rw g k.fit, rw g (record { price = λ h. k.price }), fit-sound q.0.sound), λ r₀ z l. room-event b (E.LegOrder e) s q c (leg-accepts b e g) z l)
 
   module _ {r₀ r₁ : Records} {d : State} (w : Done r₀ r₁ d (on_leg_order r b)) where
     pub leg-valid : Valid d

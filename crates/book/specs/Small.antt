@@ -34,7 +34,7 @@ use Rattle.ranges.specs.Most.{AtMost, table-most, zeros-most, under-most}
 use Rattle.ranges.specs.Fit.{FitLegs, fit-leg, fit-legs, fit-entry, fit-order}
 use Rattle.nets.specs.Nets.{net-most, prices-most, lot-most}
 use Rattle.auctions.specs.Ranged.{Ranged, ranged-kept, ranged-sound}
-use Rattle.series.specs.Series.{ranged-opened}
+use Rattle.series.specs.Series.{opened-ranged}
 
 one-small : (r : Record) → r.number < 2_147_483_648 → r.quantity < 2_147_483_648 → r.level < 2_147_483_648 → All Small (r ∷ [])
 one-small r n q l = all_cons (record { number = n; quantity = q; level = l }) all_nil
@@ -153,7 +153,7 @@ starts b (E.Order e) v f c = ranged-sound (sound-enter b _ v.sound (order-clear 
 starts b (E.Sweep e) v f c = ranged-sound v.sound
 starts b (E.LegOrder e) v f c = ranged-sound (sound-enter_order b _ v.sound (leg_order-clear b e f c))
 starts b (E.Cancel e) v f c = ranged-sound v.sound
-starts b (E.Series e) v f c = λ x. ranged-opened b x refl (ranged-sound v.sound)
+starts b (E.Series e) v f c = λ x. opened-ranged b x (ranged-sound v.sound)
 starts b (E.Clock e) v f c = ranged-sound (sound-clock b e.time v.sound f)
 starts b (E.DayEnd e) v f c = ranged-sound v.sound
 starts b (E.National e) v f c = tt

@@ -1,5 +1,5 @@
 // The causes of refusals, each by what the book holds, and the refusal of each kind of event by the first cause that applies.
-#![tactic(auto)]
+#![tactic(auto, unfolding(base::specs::Pick::pick, rules::specs::Refusals::undefined, rules::specs::Refusals::is_order_of, rules::specs::Refusals::is_leg_order_of, rules::specs::Refusals::unanswerable, rules::specs::Refusals::numbers_out, rules::specs::Refusals::orders_full, rules::specs::Refusals::sweeps_full, rules::specs::Refusals::removes_none, rules::specs::Refusals::no_room, rules::specs::Refusals::sweep_numbers_out, rules::specs::Refusals::bid_above_offer, rules::specs::Refusals::first_cause, rules::specs::Refusals::causes, rules::specs::Events::live, rules::specs::Events::live_order, rules::specs::Events::old_sweep))]
 
 ghost use Rattle.std.specs.Prelude.{◌≡◌, not, ◌<◌};
 ghost use Rattle.events.specs.declared.Event.TheVariants as E;
@@ -24,14 +24,12 @@ use states::{is_open, running};
 use stored_nets::net_for;
 
 // A refusal, if its cause applies.
-#[tactic(auto, unfolding(base::specs::Pick::pick))]
 fn refuse_if(cause: bool, r: Refusal) -> Result<(), Refusal>
     ensures { result ≡ refuse_if cause r }
 {
     if cause { Err(r) } else { Ok(()) }
 }
 
-#[tactic(auto, unfolding(rules::specs::Refusals::undefined))]
 fn undefined(b: State, k: u32) -> bool
     ensures { result ≡ undefined b k }
 {
@@ -45,14 +43,12 @@ fn not_open(b: State, s: u8) -> bool
     !is_open(b, s)
 }
 
-#[tactic(auto, unfolding(base::specs::Pick::pick, rules::specs::Refusals::is_order_of, rules::specs::Events::live))]
 fn is_order_of(m: u32, n: u32, e: Entry) -> bool
     ensures { result ≡ is_order_of m n e }
 {
     e.units != 0 && e.life != 4 && e.member as u32 == m && e.number == n
 }
 
-#[tactic(auto, unfolding(base::specs::Pick::pick, rules::specs::Refusals::is_leg_order_of, rules::specs::Events::live_order))]
 fn is_leg_order_of(m: u32, n: u32, o: LegOrder) -> bool
     ensures { result ≡ is_leg_order_of m n o }
 {
@@ -67,7 +63,6 @@ fn no_auction(b: State, k: usize) -> bool
     !running(b, k)
 }
 
-#[tactic(auto, unfolding(base::specs::Pick::pick, rules::specs::Refusals::unanswerable))]
 fn unanswerable(b: State, life: u32, k: usize) -> bool
     requires { k < strategy_slots }
     ensures { result ≡ unanswerable b life k }
@@ -75,7 +70,6 @@ fn unanswerable(b: State, life: u32, k: usize) -> bool
     life == 2 && no_auction(b, k)
 }
 
-#[tactic(auto, unfolding(rules::specs::Refusals::numbers_out))]
 fn numbers_out(b: State) -> bool
     ensures { result ≡ numbers_out b }
 {
@@ -83,7 +77,6 @@ fn numbers_out(b: State) -> bool
 }
 
 // Whether no live order or leg order is of that member and number.
-#[tactic(auto, unfolding(base::specs::Pick::pick, rules::specs::Refusals::not_found))]
 fn not_found(b: State, m: u32, n: u32) -> bool
     ensures { result ≡ not_found b m n }
 {
@@ -92,21 +85,18 @@ fn not_found(b: State, m: u32, n: u32) -> bool
 }
 
 // Whether the order of that number started an auction that runs.
-#[tactic(auto, unfolding(rules::specs::Refusals::is_starter))]
 fn is_starter(b: State, n: u32) -> bool
     ensures { result ≡ is_starter b n }
 {
     b.strategies.iter().any(|s| s.starter == n)
 }
 
-#[tactic(auto, unfolding(base::specs::Pick::pick, rules::specs::Refusals::orders_full))]
 fn orders_full(b: State) -> bool
     ensures { result ≡ orders_full b }
 {
     State::ORDERS <= count_of(b.entries, false)
 }
 
-#[tactic(auto, unfolding(base::specs::Pick::pick, rules::specs::Refusals::sweeps_full))]
 fn sweeps_full(b: State) -> bool
     ensures { result ≡ sweeps_full b }
 {
@@ -121,7 +111,6 @@ fn leg_orders_full(b: State) -> bool
 }
 
 // The refusal of a complex order.
-#[tactic(auto, unfolding(base::specs::Pick::pick, rules::specs::Refusals::first_cause, rules::specs::Refusals::causes))]
 pub fn order_refusal(b: State, e: events::Order) -> Result<(), Refusal>
     requires { FitOrderGiven e }
     ensures { refused_by result ≡ first_cause (causes b (E.Order e)) }
@@ -136,7 +125,6 @@ pub fn order_refusal(b: State, e: events::Order) -> Result<(), Refusal>
 }
 
 // Whether a sweep replaces one.
-#[tactic(auto, unfolding(rules::specs::Events::old_sweep))]
 fn replaces(b: State, e: events::Sweep) -> bool
     requires { FitSweepGiven e × (b.last < 4294967295) }
     ensures { result ≡ replaces b e }
@@ -145,7 +133,6 @@ fn replaces(b: State, e: events::Sweep) -> bool
 }
 
 // Whether a sweep has 0 units and none to remove.
-#[tactic(auto, unfolding(base::specs::Pick::pick, rules::specs::Refusals::removes_none))]
 fn removes_none(b: State, e: events::Sweep) -> bool
     requires { FitSweepGiven e × (b.last < 4294967295) }
     ensures { result ≡ removes_none b e }
@@ -164,7 +151,6 @@ fn betters_nothing(b: State, e: events::Sweep) -> bool
 }
 
 // Whether a sweep needs a slot and none is free.
-#[tactic(auto, unfolding(base::specs::Pick::pick, rules::specs::Refusals::no_room))]
 fn no_room(b: State, e: events::Sweep) -> bool
     requires { FitSweepGiven e × (b.last < 4294967295) }
     ensures { result ≡ no_room b e }
@@ -173,7 +159,6 @@ fn no_room(b: State, e: events::Sweep) -> bool
 }
 
 // Whether a sweep needs a number and none is left.
-#[tactic(auto, unfolding(base::specs::Pick::pick, rules::specs::Refusals::sweep_numbers_out))]
 fn sweep_numbers_out(b: State, e: events::Sweep) -> bool
     ensures { result ≡ sweep_numbers_out b e }
 {
@@ -181,7 +166,6 @@ fn sweep_numbers_out(b: State, e: events::Sweep) -> bool
 }
 
 // The refusal of a sweep.
-#[tactic(auto, unfolding(base::specs::Pick::pick, rules::specs::Refusals::first_cause, rules::specs::Refusals::causes))]
 pub fn sweep_refusal(b: State, e: events::Sweep) -> Result<(), Refusal>
     requires { FitSweepGiven e × (b.last < 4294967295) × Sound b }
     ensures { refused_by result ≡ first_cause (causes b (E.Sweep e)) }
@@ -195,7 +179,6 @@ pub fn sweep_refusal(b: State, e: events::Sweep) -> Result<(), Refusal>
 }
 
 // The refusal of a leg order.
-#[tactic(auto, unfolding(base::specs::Pick::pick, rules::specs::Refusals::first_cause, rules::specs::Refusals::causes))]
 pub fn leg_order_refusal(b: State, e: events::LegOrder) -> Result<(), Refusal>
     requires { FitLegOrderGiven e }
     ensures { refused_by result ≡ first_cause (causes b (E.LegOrder e)) }
@@ -206,7 +189,6 @@ pub fn leg_order_refusal(b: State, e: events::LegOrder) -> Result<(), Refusal>
 }
 
 // The refusal of a cancel.
-#[tactic(auto, unfolding(base::specs::Pick::pick, rules::specs::Refusals::first_cause, rules::specs::Refusals::causes))]
 pub fn cancel_refusal(b: State, e: events::Cancel) -> Result<(), Refusal>
     ensures { refused_by result ≡ first_cause (causes b (E.Cancel e)) }
 {
@@ -215,14 +197,12 @@ pub fn cancel_refusal(b: State, e: events::Cancel) -> Result<(), Refusal>
 }
 
 // The refusal of a clock.
-#[tactic(auto, unfolding(base::specs::Pick::pick, rules::specs::Refusals::first_cause, rules::specs::Refusals::causes))]
 pub fn clock_refusal(b: State, e: events::Clock) -> Result<(), Refusal>
     ensures { refused_by result ≡ first_cause (causes b (E.Clock e)) }
 {
     refuse_if(e.time < b.clock, Refusal::EarlyClock)
 }
 
-#[tactic(auto, unfolding(base::specs::Pick::pick, rules::specs::Refusals::first_cause, rules::specs::Refusals::causes))]
 pub fn specialist_refusal(b: State, e: events::Specialist) -> Result<(), Refusal>
     ensures { refused_by result ≡ first_cause (causes b (E.Specialist e)) }
 {
@@ -230,7 +210,6 @@ pub fn specialist_refusal(b: State, e: events::Specialist) -> Result<(), Refusal
 }
 
 // Whether a national bid is above a national offer, and neither is missing.
-#[tactic(auto, unfolding(base::specs::Pick::pick, rules::specs::Refusals::bid_above_offer))]
 fn bid_above_offer(e: events::National) -> bool
     ensures { result ≡ bid_above_offer e }
 {
@@ -238,7 +217,6 @@ fn bid_above_offer(e: events::National) -> bool
 }
 
 // The refusal of national prices, whatever the book holds.
-#[tactic(auto, unfolding(base::specs::Pick::pick, rules::specs::Refusals::first_cause, rules::specs::Refusals::causes))]
 pub fn national_refusal(e: events::National) -> Result<(), Refusal>
     ensures { (b : State) → refused_by result ≡ first_cause (causes b (E.National e)) }
 {

@@ -5,4 +5,4 @@ use Rattle.refusals.proofs.replaces.Goals as goal
 
 pub returns : goal.returns
 unfolding old_sweep
-returns c = c.is_some.ensures ∙ found-there _ _ c.old_sweep.ensures
+returns c = c.is_some.ensures ∙ found-there _ _ (rw c.sweep_given.ensures at c.old_sweep.ensures)

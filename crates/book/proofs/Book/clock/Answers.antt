@@ -1,5 +1,5 @@
 -- proofs/Book/clock/Answers.antt
-use Rattle.std.proofs.Common.{refl}
+use Rattle.std.proofs.Common.{◌≡◌, rules, refl}
 use Rattle.auctions.specs.Ranged.{ranged-sound}
 use Rattle.book.specs.Outcomes.{took-exit, took-valid, took-done, room-event}
 use Rattle.book.specs.Premises.{clock-accepts, clock-value}
@@ -9,10 +9,12 @@ pub returns-in_err-clock_refusal : goal.returns-in_err-clock_refusal
 returns-in_err-clock_refusal c = took-exit _ _ _ (c.args.self.now.valid, c.requires.0, c.requires.1) _ c.from_residual.ensures.1 c.in_err-clock_refusal.ensures
 
 pub on_clock-requires : goal.on_clock-requires
-on_clock-requires c = record { t_bound = (c.requires.0, ranged-sound c.args.self.now.valid.sound); room = room-event _ _ c.args.space.now (c.args.self.now.valid, c.requires.0, c.requires.1) c.in_ok-clock_refusal.ensures (clock-accepts _ _) refl refl }
+on_clock-requires c = record { t_bound = (c.requires.0, ranged-sound c.args.self.now.valid.sound); room = room-event _ _ c.args.space.now (c.args.self.now.valid, c.requires.0, c.requires.1) c.in_ok-clock_refusal.ensures (clock-accepts c.args.self.now.state c.args.e) refl refl }
 
 pub invariant_of-self : goal.invariant_of-self
-invariant_of-self c = record { valid = took-valid _ _ c.args.space.now (c.args.self.now.valid, c.requires.0, c.requires.1) c.in_ok-clock_refusal.ensures (clock-accepts _ _) c.on_clock.ensures }
+invariant_of-self c = record { valid = took-valid _ _ c.args.space.now (c.args.self.now.valid, c.requires.0, c.requires.1) c.in_ok-clock_refusal.ensures (clock-accepts c.args.self.now.state c.args.e) c.on_clock.ensures }
 
 pub returns : goal.returns
-returns c = rw c.accepted.ensures (took-done _ _ c.args.space.now (c.args.self.now.valid, c.requires.0, c.requires.1) c.in_ok-clock_refusal.ensures (clock-accepts _ _) c.on_clock.ensures refl refl (clock-value _ _))
+returns c =
+    let left : c.space-1.given.0 ≡ c.on_clock.new.records.space.now = search (rules, c.on_clock.ensures.wrote.lent) in
+    rw (c.accepted.ensures, left) (took-done _ _ c.args.space.now (c.args.self.now.valid, c.requires.0, c.requires.1) c.in_ok-clock_refusal.ensures (clock-accepts c.args.self.now.state c.args.e) c.on_clock.ensures refl refl (clock-value c.args.self.now.state c.args.e))

@@ -11,4 +11,4 @@ pub invariant_of-self : goal.invariant_of-self
 invariant_of-self c = record { valid = rule-valid _ _ c.args.self.now.valid c.requires (c.in_ok-national_refusal.ensures _) (national-accepts _ _ c.quote_given.ensures c.set_prices.ensures) }
 
 pub returns : goal.returns
-returns c = λ s l. rw c.accepted.ensures (took-still _ _ s (c.args.self.now.valid, c.requires, l) (c.in_ok-national_refusal.ensures _) (national-accepts _ _ c.quote_given.ensures c.set_prices.ensures) refl (national-value _ _))
+returns c = λ s l. rw c.accepted.ensures (took-still _ _ s (c.args.self.now.valid, c.requires, l) (c.in_ok-national_refusal.ensures _) (national-accepts _ _ c.quote_given.ensures c.set_prices.ensures) refl (national-value c.args.self.now.state c.args.e))

@@ -11,4 +11,4 @@ pub invariant_of-self : goal.invariant_of-self
 invariant_of-self c = record { valid = rule-valid _ _ c.args.self.now.valid c.requires c.in_ok-specialist_refusal.ensures (specialist-accepts _ _ c.specialist_given.ensures c.set_specialist.ensures) }
 
 pub returns : goal.returns
-returns c = λ s l. rw c.accepted.ensures (took-still _ _ s (c.args.self.now.valid, c.requires, l) c.in_ok-specialist_refusal.ensures (specialist-accepts _ _ c.specialist_given.ensures c.set_specialist.ensures) refl (specialist-value _ _))
+returns c = λ s l. rw c.accepted.ensures (took-still _ _ s (c.args.self.now.valid, c.requires, l) c.in_ok-specialist_refusal.ensures (specialist-accepts _ _ c.specialist_given.ensures c.set_specialist.ensures) refl (specialist-value c.args.self.now.state c.args.e))
