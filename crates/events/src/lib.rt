@@ -6,7 +6,7 @@ pub mod refusals; // the number of each refusal
 pub mod table; // the fields of each kind
 
 // The kinds of frames.
-#[derive(Clone, Copy)]
+#[derive(Clone, Copy, PartialEq, Eq)]
 pub enum Kind {
     Strategy,
     Order,
@@ -19,7 +19,6 @@ pub enum Kind {
     National,
     Range,
     Specialist,
-    Unknown,
 }
 
 #[derive(Clone, Copy)]
