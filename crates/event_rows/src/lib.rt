@@ -135,11 +135,11 @@ fn leg_at(row: [u32; 19], i: usize) -> Leg
     }
 }
 
+#[tactic(auto, unfolding(events::specs::Rows::length_in))]
 pub fn length_in(event: Event) -> usize
     ensures { result ≡ length_in event }
 {
-    let row = row_of(event);
-    length_of(kind_in(event), row[0])
+    length_of(kind_in(event), row_of(event)[0])
 }
 
 // Whether the event's values are in their ranges.

@@ -88,10 +88,7 @@ pub fn fields_of(kind: Kind) -> [Field; 19]
 pub fn present(field: Field, m: usize, i: usize) -> Field
     ensures { result ≡ present_of field m i }
 {
-    if i < m {
-        return field;
-    }
-    NONE
+    if i < m { field } else { NONE }
 }
 
 impl Field {
@@ -121,5 +118,5 @@ pub fn fit(fields: [Field; 19], m: usize, row: [u32; 19]) -> bool
 pub fn raw(field: Field, v: u32) -> u32
     ensures { result ≡ raw_of field v }
 {
-    std::num::wrapping_sub_u32(v, field.3)
+    v.wrapping_sub(field.3)
 }

@@ -22,10 +22,7 @@ use numbers::{number, put};
 fn count_at(frame: &[u8]) -> u32
     ensures { result ≡ count_at frame.now }
 {
-    if 4 < frame.len() {
-        return frame[4] as u32;
-    }
-    0
+    frame.get(4).map_or(0, |count| u32::from(*count))
 }
 
 // The event that a frame carries, or its refusal: 2 or 3.

@@ -8,8 +8,8 @@ use Rattle.frames.proofs.read.Goals.{then-n-lt4-via-then-n-lt4, then-n-lt4-via-e
 
 pub returns-then-n-lt4 : goal.returns-then-n-lt4
 returns-then-n-lt4 c = elim c.then-n-lt4.branch [
-  then-n-lt4-via-then-n-lt4 w ↦ sym (read_short _ w.if-n-lt4.true) |
-  then-n-lt4-via-else-n-lt4+then-number-n w ↦ sym (read-size _ w.if-n-lt4.false (λ e. w.if-number-n.true (w.number.ensures ∙ e)))
+  | then-n-lt4-via-then-n-lt4 w ↦ sym (read_short _ w.if-n-lt4.true)
+  | then-n-lt4-via-else-n-lt4+then-number-n w ↦ sym (read-size _ w.if-n-lt4.false (λ e. w.if-number-n.true (w.number.ensures ∙ e)))
 ]
 
 pub returns-in_err-kind : goal.returns-in_err-kind
