@@ -1,19 +1,20 @@
 -- Laws by cases on the kinds: events and rows, kinds and numbers.
-use Rattle.std.specs.Prelude.{◌≡◌, ℕ, ◌+◌, ◌%◌, ◌^◌, ◌<◌, ◌≤◌, List, length, replicate, ◌==◌, refl, Result, Ok, Err}
+use Rattle.std.specs.Prelude.{◌≡◌, ℕ, ◌+◌, ◌%◌, ◌^◌, ◌<◌, ◌≤◌, List, length, ◌==◌, refl, Result, Ok, Err}
 use Rattle.std.proofs.Common.{sym, arith, eqb-true}
-use Rattle.base.specs.Pick.{pick, pick-by}
+use Rattle.base.specs.Pick.{pick, pick-by, pick_all}
 use Rattle.events.specs.Fields.{high, bias, raw_of}
-use Rattle.events.specs.Kinds.{kind_of, code_of, length_of}
-use Rattle.events.specs.Rows.{kind_in, row_of, event_of, reading_number}
+use Rattle.events.specs.Kinds.{kind_of, code_of}
+use Rattle.events.specs.Rows.{kind_in, row_of, event_of}
 use Rattle.events.specs.Laws.{Sound}
 use Rattle.events.specs.declared.Refusal.{Refusal}
+use Rattle.events.specs.declared.Refusal.TheVariants as F
 use Rattle.events.specs.declared.Field.{Field}
 use Rattle.events.specs.declared.Kind.{Kind}
 use Rattle.events.specs.declared.Kind.TheVariants as K
 use Rattle.events.specs.declared.Event.{Event}
 use Rattle.events.specs.declared.Event.TheVariants as E
 
-pub event-row : (e : Event) → event_of (kind_in e) (row_of e) ≡ Ok e
+pub event-row : (e : Event) → event_of (kind_in e) (row_of e) ≡ e
 event-row (E.Strategy e) = refl
 event-row (E.Order e) = refl
 event-row (E.Sweep e) = refl
@@ -39,7 +40,7 @@ length-row-of (E.National e) = refl
 length-row-of (E.Range e) = refl
 length-row-of (E.Specialist e) = refl
 
-pub kind-code : (e : Event) → kind_of (code_of (kind_in e)) ≡ kind_in e
+pub kind-code : (e : Event) → kind_of (code_of (kind_in e)) ≡ Ok (kind_in e)
 unfolding kind_of pick
 kind-code (E.Strategy e) = refl
 kind-code (E.Order e) = refl
@@ -65,17 +66,8 @@ code_lt K.DayEnd = omega arith
 code_lt K.National = omega arith
 code_lt K.Range = omega arith
 code_lt K.Specialist = omega arith
-code_lt K.Unknown = omega arith
 
-abbrev pub kind_read : Result Event Refusal → Kind
-kind_read (Ok e) = kind_in e
-kind_read (Err r) = K.Unknown
-
-abbrev pub row_read : Result Event Refusal → List ℕ
-row_read (Ok e) = row_of e
-row_read (Err r) = replicate 19 0
-
-pub kind-back : (k : Kind) (v : List ℕ) → kind_read (event_of k v) ≡ k
+pub kind-back : (k : Kind) (v : List ℕ) → kind_in (event_of k v) ≡ k
 kind-back K.Strategy v = refl
 kind-back K.Order v = refl
 kind-back K.Sweep v = refl
@@ -87,62 +79,51 @@ kind-back K.DayEnd v = refl
 kind-back K.National v = refl
 kind-back K.Range v = refl
 kind-back K.Specialist v = refl
-kind-back K.Unknown v = refl
 
-pub answer-event : (k : Kind) (v : List ℕ) (n : ℕ) → 4 ≤ length_of k n → reading_number (event_of k v) ≡ 0
-unfolding length_of pick
-answer-event K.Strategy v n h = refl
-answer-event K.Order v n h = refl
-answer-event K.Sweep v n h = refl
-answer-event K.LegOrder v n h = refl
-answer-event K.Cancel v n h = refl
-answer-event K.Series v n h = refl
-answer-event K.Clock v n h = refl
-answer-event K.DayEnd v n h = refl
-answer-event K.National v n h = refl
-answer-event K.Range v n h = refl
-answer-event K.Specialist v n h = refl
-answer-event K.Unknown v n h = absurd (omega arith)
-
--- a known kind gives an event
-pub event-is : (k : Kind) (v : List ℕ) (n : ℕ) → 4 ≤ length_of k n → (e : Event) × (event_of k v ≡ Ok e)
-unfolding length_of pick
-event-is K.Strategy v n h = (_, refl)
-event-is K.Order v n h = (_, refl)
-event-is K.Sweep v n h = (_, refl)
-event-is K.LegOrder v n h = (_, refl)
-event-is K.Cancel v n h = (_, refl)
-event-is K.Series v n h = (_, refl)
-event-is K.Clock v n h = (_, refl)
-event-is K.DayEnd v n h = (_, refl)
-event-is K.National v n h = (_, refl)
-event-is K.Range v n h = (_, refl)
-event-is K.Specialist v n h = (_, refl)
-event-is K.Unknown v n h = absurd (omega arith)
-
-unknown-zero : (n : ℕ) → length_of K.Unknown n ≡ 0
-unfolding length_of pick
-unknown-zero n = refl
-
-pub code-kind : (x n : ℕ) → 4 ≤ length_of (kind_of x) n → code_of (kind_of x) ≡ x
+-- a number that is a kind's is its code
+pub code-kind : (x : ℕ) {k : Kind} → kind_of x ≡ Ok k → code_of k ≡ x
 unfolding kind_of
-code-kind x n =
-    let P : Kind → Type 0 = λ (k : Kind). 4 ≤ length_of k n → code_of k ≡ x in
-    pick-by P (x == 1) (λ t _. sym (eqb-true x 1 t))
-    (λ _. pick-by P (x == 2) (λ t _. sym (eqb-true x 2 t))
-    (λ _. pick-by P (x == 3) (λ t _. sym (eqb-true x 3 t))
-    (λ _. pick-by P (x == 4) (λ t _. sym (eqb-true x 4 t))
-    (λ _. pick-by P (x == 5) (λ t _. sym (eqb-true x 5 t))
-    (λ _. pick-by P (x == 6) (λ t _. sym (eqb-true x 6 t))
-    (λ _. pick-by P (x == 7) (λ t _. sym (eqb-true x 7 t))
-    (λ _. pick-by P (x == 8) (λ t _. sym (eqb-true x 8 t))
-    (λ _. pick-by P (x == 9) (λ t _. sym (eqb-true x 9 t))
-    (λ _. pick-by P (x == 10) (λ t _. sym (eqb-true x 10 t))
-    (λ _. pick-by P (x == 11) (λ t _. sym (eqb-true x 11 t))
-    (λ _. no)))))))))))
+code-kind x {k} =
+    let P : Result Kind Refusal → Type 0 = λ (r : Result Kind Refusal). r ≡ Ok k → code_of k ≡ x in
+    pick-by P (x == 1) (λ t e. is K.Strategy e (sym (eqb-true x 1 t)))
+    (λ _. pick-by P (x == 2) (λ t e. is K.Order e (sym (eqb-true x 2 t)))
+    (λ _. pick-by P (x == 3) (λ t e. is K.Sweep e (sym (eqb-true x 3 t)))
+    (λ _. pick-by P (x == 4) (λ t e. is K.LegOrder e (sym (eqb-true x 4 t)))
+    (λ _. pick-by P (x == 5) (λ t e. is K.Cancel e (sym (eqb-true x 5 t)))
+    (λ _. pick-by P (x == 6) (λ t e. is K.Series e (sym (eqb-true x 6 t)))
+    (λ _. pick-by P (x == 7) (λ t e. is K.Clock e (sym (eqb-true x 7 t)))
+    (λ _. pick-by P (x == 8) (λ t e. is K.DayEnd e (sym (eqb-true x 8 t)))
+    (λ _. pick-by P (x == 9) (λ t e. is K.National e (sym (eqb-true x 9 t)))
+    (λ _. pick-by P (x == 10) (λ t e. is K.Range e (sym (eqb-true x 10 t)))
+    (λ _. pick-by P (x == 11) (λ t e. is K.Specialist e (sym (eqb-true x 11 t)))
+    (λ _ e. no e)))))))))))
   where
-    no : 4 ≤ length_of K.Unknown n → code_of K.Unknown ≡ x
-    no h = absurd (omega (arith, h, unknown-zero n))
+    is : (j : Kind) {k : Kind} → ◌≡◌ {A = Result Kind Refusal} (Ok j) (Ok k) → code_of j ≡ x → code_of k ≡ x
+    is j {k} e h = let z : j ≡ k = cc in rw (← z) h
+
+    no : {k : Kind} → ◌≡◌ {A = Result Kind Refusal} (Err F.BadFrame) (Ok k) → code_of k ≡ x
+    no e = absurd (let z : ◌≡◌ {A = ℕ} 0 1 = cc in omega arith)
+
+-- a number of no kind is refused 2
+pub kind-refused : (x : ℕ) {r : Refusal} → kind_of x ≡ Err r → r ≡ F.BadFrame
+unfolding kind_of
+kind-refused x {r} =
+    let P : Result Kind Refusal → Type 0 = λ (s : Result Kind Refusal). s ≡ Err r → r ≡ F.BadFrame in
+    pick_all P (x == 1) (no K.Strategy)
+    (pick_all P (x == 2) (no K.Order)
+    (pick_all P (x == 3) (no K.Sweep)
+    (pick_all P (x == 4) (no K.LegOrder)
+    (pick_all P (x == 5) (no K.Cancel)
+    (pick_all P (x == 6) (no K.Series)
+    (pick_all P (x == 7) (no K.Clock)
+    (pick_all P (x == 8) (no K.DayEnd)
+    (pick_all P (x == 9) (no K.National)
+    (pick_all P (x == 10) (no K.Range)
+    (pick_all P (x == 11) (no K.Specialist)
+    (λ e. cc)))))))))))
+  where
+    no : (j : Kind) {r : Refusal} → ◌≡◌ {A = Result Kind Refusal} (Ok j) (Err r) → r ≡ F.BadFrame
+    no j e = absurd (let z : ◌≡◌ {A = ℕ} 0 1 = cc in omega arith)
 
 -- A value and its number in the frame.
 

@@ -4,7 +4,7 @@ use Rattle.std.proofs.Math.Path.{refl}
 use Rattle.std.proofs.Common.{le_refl}
 use native.Mathlib.Omega.{arith}
 use borrow.Author.Tests.{leb-true, leb-false, ltb-true, ltb-false}
-use Rattle.base.specs.Pick.{pick, pick_no}
+use Rattle.base.specs.Pick.{pick, both, pick_yes}
 use Rattle.events.specs.declared.Field.{Field}
 
 -- "widths in bytes in brackets"
@@ -44,14 +44,14 @@ unfoldable pub offset : (ℕ → Field) → ℕ → ℕ
 offset F zero = 4
 offset F (suc k) = offset F k + width (F k)
 
--- "a field outside its range": whether the values so far are in their ranges, and v too
-unfoldable pub within_of : Bool → Field → ℕ → Bool
-within_of ok x v = pick (nat_lt v (low x)) false (pick (nat_lt (high x) v) false ok)
+-- "a field outside its range": whether a value is in the range of its field
+unfoldable pub holds : Field → ℕ → Bool
+holds x v = both (nat_le (low x) v) (nat_le v (high x))
 
--- the same of the first k values
+-- whether the first k values are in their ranges
 unfoldable pub fit_n : (ℕ → Field) → List ℕ → ℕ → Bool
 fit_n F v zero = true
-fit_n F v (suc k) = within_of (fit_n F v k) (F k) (slice_index v k)
+fit_n F v (suc k) = both (holds (F k) (slice_index v k)) (fit_n F v k)
 
 -- no field is wider than four bytes
 pub record Narrow (F : ℕ → Field) : Type 0 where
@@ -76,12 +76,12 @@ module _ (F : ℕ → Field) where
 
   -- what a fitting row says of each value
   pub fit_at_lem : (v : List ℕ) (n i : ℕ) → i < n → fit_n F v n ≡ true → (low (F i) ≤ slice_index v i) × (slice_index v i ≤ high (F i))
-  unfolding fit_n within_of
+  unfolding fit_n holds
   fit_at_lem v zero i h e = absurd (omega arith)
   fit_at_lem v (suc n) i h e =
-      let a = pick_no (nat_lt (slice_index v n) (low (F n))) e in
-      let b = pick_no (nat_lt (high (F n)) (slice_index v n)) a.1 in
-      by (λ l. fit_at_lem v n i l b.1) (ltb-false _ _ a.0, ltb-false _ _ b.0) (nat_lt i n) refl
+      let a = pick_yes (holds (F n) (slice_index v n)) e in
+      let b = pick_yes (nat_le (low (F n)) (slice_index v n)) a.0 in
+      by (λ l. fit_at_lem v n i l a.1) (leb-true _ _ b.0, leb-true _ _ b.1) (nat_lt i n) refl
     where
       by : (i < n → (low (F i) ≤ slice_index v i) × (slice_index v i ≤ high (F i))) → (low (F n) ≤ slice_index v n) × (slice_index v n ≤ high (F n)) → (t : Bool) → nat_lt i n ≡ t → (low (F i) ≤ slice_index v i) × (slice_index v i ≤ high (F i))
       by below here true t = below (ltb-true i n t)

@@ -1,24 +1,26 @@
 -- The number and the length of each kind.
-use Rattle.std.specs.Prelude.{ℕ, ◌+◌, ◌*◌, ◌≤◌, ◌==◌}
+use Rattle.std.specs.Prelude.{ℕ, ◌+◌, ◌*◌, ◌≤◌, ◌==◌, Result, Ok, Err}
 use Rattle.std.proofs.Common.{arith}
 use Rattle.base.specs.Pick.{pick}
 use Rattle.events.specs.declared.Kind.{Kind}
 use Rattle.events.specs.declared.Kind.TheVariants as K
+use Rattle.events.specs.declared.Refusal.{Refusal}
+use Rattle.events.specs.declared.Refusal.TheVariants as F
 
--- "The kinds are told apart in one decision over the number."
-unfoldable pub kind_of : ℕ → Kind
+-- "The kinds are told apart in one decision over the number."; "unknown kind" is refused 2
+unfoldable pub kind_of : ℕ → Result Kind Refusal
 kind_of n =
-    pick (n == 1) K.Strategy
-    (pick (n == 2) K.Order
-    (pick (n == 3) K.Sweep
-    (pick (n == 4) K.LegOrder
-    (pick (n == 5) K.Cancel
-    (pick (n == 6) K.Series
-    (pick (n == 7) K.Clock
-    (pick (n == 8) K.DayEnd
-    (pick (n == 9) K.National
-    (pick (n == 10) K.Range
-    (pick (n == 11) K.Specialist K.Unknown))))))))))
+    pick (n == 1) (Ok K.Strategy)
+    (pick (n == 2) (Ok K.Order)
+    (pick (n == 3) (Ok K.Sweep)
+    (pick (n == 4) (Ok K.LegOrder)
+    (pick (n == 5) (Ok K.Cancel)
+    (pick (n == 6) (Ok K.Series)
+    (pick (n == 7) (Ok K.Clock)
+    (pick (n == 8) (Ok K.DayEnd)
+    (pick (n == 9) (Ok K.National)
+    (pick (n == 10) (Ok K.Range)
+    (pick (n == 11) (Ok K.Specialist) (Err F.BadFrame)))))))))))
 
 -- "1 strategy", "2 complex order", "3 sweep", "4 leg order", "5 cancel", "6 series", "7 clock", "8 day end",
 -- "Kind 9 carries series, national bid (4) and offer (4)", "Kind 10 carries the range in cents (2)",
@@ -35,9 +37,8 @@ code_of K.DayEnd = 8
 code_of K.National = 9
 code_of K.Range = 10
 code_of K.Specialist = 11
-code_of K.Unknown = 0
 
--- "Length 16", and so on for each kind; a strategy's without its legs; 0, which no frame of 4 bytes has, for an unknown kind
+-- "Length 16", and so on for each kind; a strategy's without its legs
 abbrev pub fixed_of : Kind → ℕ
 fixed_of K.Strategy = 5
 fixed_of K.Order = 16
@@ -50,7 +51,6 @@ fixed_of K.DayEnd = 6
 fixed_of K.National = 13
 fixed_of K.Range = 6
 fixed_of K.Specialist = 8
-fixed_of K.Unknown = 0
 
 -- "Length 5 + 3 × count for every count byte", n being the first field; the fixed length for the other kinds
 unfoldable pub length_of : Kind → ℕ → ℕ
@@ -68,4 +68,3 @@ fixed-le K.DayEnd = omega arith
 fixed-le K.National = omega arith
 fixed-le K.Range = omega arith
 fixed-le K.Specialist = omega arith
-fixed-le K.Unknown = omega arith

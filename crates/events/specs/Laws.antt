@@ -41,7 +41,6 @@ sound-table K.DayEnd = refl
 sound-table K.National = refl
 sound-table K.Range = refl
 sound-table K.Specialist = refl
-sound-table K.Unknown = refl
 
 thinb : List Field → Bool
 thinb [] = true
@@ -130,7 +129,6 @@ offset-fits K.DayEnd n h = omega arith
 offset-fits K.National n h = omega arith
 offset-fits K.Range n h = omega arith
 offset-fits K.Specialist n h = omega arith
-offset-fits K.Unknown n h = omega arith
 
 -- the fields fill the frame, where a strategy's count is at most six
 pub record FillsFrame (k : Kind) (n : ℕ) : Type 0 where
@@ -161,7 +159,6 @@ exact K.DayEnd n s h = record { whole = refl; short = omega arith }
 exact K.National n s h = record { whole = refl; short = omega arith }
 exact K.Range n s h = record { whole = refl; short = omega arith }
 exact K.Specialist n s h = record { whole = refl; short = omega arith }
-exact K.Unknown n s h = absurd (omega arith)
 
 pub four-le : (e : Event) (n : ℕ) → 4 ≤ length_of (kind_in e) n
 unfolding length_of pick
@@ -191,7 +188,6 @@ field-same K.DayEnd a b h = refl
 field-same K.National a b h = refl
 field-same K.Range a b h = refl
 field-same K.Specialist a b h = refl
-field-same K.Unknown a b h = refl
 
 pub length-same : (k : Kind) (a b : ℕ) → (k ≡ K.Strategy → a ≡ b) → length_of k a ≡ length_of k b
 unfolding length_of pick
@@ -206,7 +202,6 @@ length-same K.DayEnd a b h = refl
 length-same K.National a b h = refl
 length-same K.Range a b h = refl
 length-same K.Specialist a b h = refl
-length-same K.Unknown a b h = refl
 
 -- the fields as the code passes them
 pub layout_is : (k : Kind) (n : ℕ) {fs : List Field} {m : ℕ} → fs ≡ fields_of k → m ≡ length_of k n - 4 → layout fs m ≡ layout_of k n
@@ -284,17 +279,16 @@ strategy-fields n i =
     rw e
 
 -- a frame of another kind has all the fields of its table
-pub fixed-fields : (k : Kind) → (k ≢ K.Strategy) → (k ≢ K.Unknown) → (n i : ℕ) → layout_of k n i ≡ slice_index_or (fields_of k) i none
+pub fixed-fields : (k : Kind) → (k ≢ K.Strategy) → (n i : ℕ) → layout_of k n i ≡ slice_index_or (fields_of k) i none
 unfolding layout_of length_of pick
-fixed-fields K.Strategy s u n i = absurd (s refl)
-fixed-fields K.Order s u n i = present-all _ 12 7 refl i
-fixed-fields K.Sweep s u n i = present-all _ 10 9 refl i
-fixed-fields K.LegOrder s u n i = present-all _ 10 9 refl i
-fixed-fields K.Cancel s u n i = present-all _ 6 13 refl i
-fixed-fields K.Series s u n i = present-all _ 2 17 refl i
-fixed-fields K.Clock s u n i = present-all _ 4 15 refl i
-fixed-fields K.DayEnd s u n i = present-all _ 2 17 refl i
-fixed-fields K.National s u n i = present-all _ 9 10 refl i
-fixed-fields K.Range s u n i = present-all _ 2 17 refl i
-fixed-fields K.Specialist s u n i = present-all _ 4 15 refl i
-fixed-fields K.Unknown s u n i = absurd (u refl)
+fixed-fields K.Strategy s n i = absurd (s refl)
+fixed-fields K.Order s n i = present-all _ 12 7 refl i
+fixed-fields K.Sweep s n i = present-all _ 10 9 refl i
+fixed-fields K.LegOrder s n i = present-all _ 10 9 refl i
+fixed-fields K.Cancel s n i = present-all _ 6 13 refl i
+fixed-fields K.Series s n i = present-all _ 2 17 refl i
+fixed-fields K.Clock s n i = present-all _ 4 15 refl i
+fixed-fields K.DayEnd s n i = present-all _ 2 17 refl i
+fixed-fields K.National s n i = present-all _ 9 10 refl i
+fixed-fields K.Range s n i = present-all _ 2 17 refl i
+fixed-fields K.Specialist s n i = present-all _ 4 15 refl i

@@ -6,7 +6,7 @@ pub mod refusals; // the number of each refusal
 pub mod table; // the fields of each kind
 
 // The kinds of frames.
-#[derive(Clone, Copy)]
+#[derive(Clone, Copy, PartialEq, Eq)]
 pub enum Kind {
     Strategy,
     Order,
@@ -19,7 +19,6 @@ pub enum Kind {
     National,
     Range,
     Specialist,
-    Unknown,
 }
 
 #[derive(Clone, Copy)]
@@ -29,7 +28,7 @@ pub struct Leg {
     pub ratio: u32,
 }
 
-// Six legs as fields, since an enum may not hold an array.
+// Six legs as fields: an array is a list of any length to the specs, and read-written (crate frames, Round) would then need that it has six.
 #[derive(Clone, Copy)]
 pub struct Legs(pub Leg, pub Leg, pub Leg, pub Leg, pub Leg, pub Leg);
 
@@ -150,5 +149,6 @@ pub enum Refusal {
 }
 
 // A field of a frame: its width in bytes, its least and its greatest value, and what is added to the number in the frame to give the value.
+// Without names, so that each row of the table (table.rt) is a line as in the paper; with names it takes six.
 #[derive(Clone, Copy)]
 pub struct Field(pub usize, pub u32, pub u32, pub u32);

@@ -1,6 +1,6 @@
 // The fields of each kind.
-ghost use Rattle.std.specs.Prelude.{◌≡◌};
-ghost use Rattle.events.specs.Fields.{present_of, layout, within_of, fit_n, raw_of};
+ghost use Rattle.std.specs.Prelude.{◌≡◌, ◌-◌, ◌≤◌, ◌++◌, replicate};
+ghost use Rattle.events.specs.Fields.{present_of, layout, holds, fit_n, raw_of};
 ghost use Rattle.events.specs.Table.{fields_of};
 
 use super::{Field, Kind};
@@ -51,180 +51,72 @@ pub const RANGE: Field = Field(2, 0, 9999, 0);
 // The percentage of a specialist's portion.
 pub const PERCENTAGE: Field = Field(1, 0, 100, 0);
 
+// These, and then the other one up to 19.
+pub fn filled<T: Copy, const N: usize>(first: [T; N], other: T) -> [T; 19]
+    requires { N ≤ 19 }
+    ensures { result ≡ first ++ replicate (19 - N) other }
+{
+    let mut all = [other; 19];
+    all[..N].copy_from_slice(&first);
+    all
+}
+
 // The fields of a kind, and empty ones up to 19.
 pub fn fields_of(kind: Kind) -> [Field; 19]
     ensures { result ≡ fields_of kind }
 {
     match kind {
-        Kind::Strategy => strategy_fields(),
-        Kind::Order => order_fields(),
-        Kind::Sweep => sweep_fields(),
-        Kind::LegOrder => leg_order_fields(),
-        Kind::Cancel => cancel_fields(),
-        Kind::Series => series_fields(),
-        Kind::Clock => clock_fields(),
-        Kind::DayEnd => day_end_fields(),
-        Kind::National => national_fields(),
-        Kind::Range => range_fields(),
-        Kind::Specialist => specialist_fields(),
-        Kind::Unknown => no_fields(),
+        Kind::Strategy => [
+            COUNT, SERIES, SIDE, RATIO, SERIES, SIDE, RATIO, SERIES, SIDE, RATIO, SERIES, SIDE,
+            RATIO, SERIES, SIDE, RATIO, SERIES, SIDE, RATIO,
+        ],
+        Kind::Order => filled([MEMBER, STRATEGY, SIDE, CLASS, LIFE, UNITS, LIMIT], NONE),
+        Kind::Sweep => filled([MEMBER, STRATEGY, SIDE, SWEEP_UNITS, LIMIT], NONE),
+        Kind::LegOrder => filled([MEMBER, SERIES, SIDE, CONTRACTS, PRICE], NONE),
+        Kind::Cancel => filled([MEMBER, NUMBER], NONE),
+        Kind::Series => filled([SERIES, STATE], NONE),
+        Kind::Clock => filled([TIME], NONE),
+        Kind::DayEnd => filled([TIMER], NONE),
+        Kind::National => filled([SERIES, NATIONAL_PRICE, NATIONAL_PRICE], NONE),
+        Kind::Range => filled([RANGE], NONE),
+        Kind::Specialist => filled([MEMBER, STRATEGY, PERCENTAGE], NONE),
     }
-}
-
-fn strategy_fields() -> [Field; 19]
-    ensures { result ≡ fields_of Kind.Strategy }
-{
-    [
-        COUNT, SERIES, SIDE, RATIO, SERIES, SIDE, RATIO, SERIES, SIDE, RATIO, SERIES, SIDE, RATIO,
-        SERIES, SIDE, RATIO, SERIES, SIDE, RATIO,
-    ]
-}
-
-fn order_fields() -> [Field; 19]
-    ensures { result ≡ fields_of Kind.Order }
-{
-    let mut f = [NONE; 19];
-    f[0] = MEMBER;
-    f[1] = STRATEGY;
-    f[2] = SIDE;
-    f[3] = CLASS;
-    f[4] = LIFE;
-    f[5] = UNITS;
-    f[6] = LIMIT;
-    f
-}
-
-fn sweep_fields() -> [Field; 19]
-    ensures { result ≡ fields_of Kind.Sweep }
-{
-    let mut f = [NONE; 19];
-    f[0] = MEMBER;
-    f[1] = STRATEGY;
-    f[2] = SIDE;
-    f[3] = SWEEP_UNITS;
-    f[4] = LIMIT;
-    f
-}
-
-fn leg_order_fields() -> [Field; 19]
-    ensures { result ≡ fields_of Kind.LegOrder }
-{
-    let mut f = [NONE; 19];
-    f[0] = MEMBER;
-    f[1] = SERIES;
-    f[2] = SIDE;
-    f[3] = CONTRACTS;
-    f[4] = PRICE;
-    f
-}
-
-fn cancel_fields() -> [Field; 19]
-    ensures { result ≡ fields_of Kind.Cancel }
-{
-    let mut f = [NONE; 19];
-    f[0] = MEMBER;
-    f[1] = NUMBER;
-    f
-}
-
-fn series_fields() -> [Field; 19]
-    ensures { result ≡ fields_of Kind.Series }
-{
-    let mut f = [NONE; 19];
-    f[0] = SERIES;
-    f[1] = STATE;
-    f
-}
-
-fn clock_fields() -> [Field; 19]
-    ensures { result ≡ fields_of Kind.Clock }
-{
-    let mut f = [NONE; 19];
-    f[0] = TIME;
-    f
-}
-
-fn day_end_fields() -> [Field; 19]
-    ensures { result ≡ fields_of Kind.DayEnd }
-{
-    let mut f = [NONE; 19];
-    f[0] = TIMER;
-    f
-}
-
-fn national_fields() -> [Field; 19]
-    ensures { result ≡ fields_of Kind.National }
-{
-    let mut f = [NONE; 19];
-    f[0] = SERIES;
-    f[1] = NATIONAL_PRICE;
-    f[2] = NATIONAL_PRICE;
-    f
-}
-
-fn range_fields() -> [Field; 19]
-    ensures { result ≡ fields_of Kind.Range }
-{
-    let mut f = [NONE; 19];
-    f[0] = RANGE;
-    f
-}
-
-fn specialist_fields() -> [Field; 19]
-    ensures { result ≡ fields_of Kind.Specialist }
-{
-    let mut f = [NONE; 19];
-    f[0] = MEMBER;
-    f[1] = STRATEGY;
-    f[2] = PERCENTAGE;
-    f
-}
-
-fn no_fields() -> [Field; 19]
-    ensures { result ≡ fields_of Kind.Unknown }
-{
-    [NONE; 19]
 }
 
 // The field at place i of a table of which the first m are there.
+#[tactic(auto, using(base::specs::Pick::tests), unfolding(crate::specs::Fields::present_of))]
 pub fn present(field: Field, m: usize, i: usize) -> Field
     ensures { result ≡ present_of field m i }
 {
-    if i < m {
-        return field;
-    }
-    NONE
+    if i < m { field } else { NONE }
 }
 
-// Whether the values so far are in their ranges, and this one too.
-pub fn within(ok: bool, field: Field, v: u32) -> bool
-    ensures { result ≡ within_of ok field v }
-{
-    if v < field.1 {
-        return false;
+impl Field {
+    // Whether a value is in the field's range.
+    #[tactic(auto, using(base::specs::Pick::tests), unfolding(crate::specs::Fields::holds))]
+    pub fn holds(self, v: u32) -> bool
+        ensures { result ≡ holds self v }
+    {
+        self.1 <= v && v <= self.2
     }
-    if field.2 < v {
-        return false;
-    }
-    ok
 }
 
 // Whether each value is in its field's range.
+#[tactic(auto, using(base::specs::Pick::tests), unfolding(crate::specs::Fields::fit_n, crate::specs::Fields::layout))]
 pub fn fit(fields: [Field; 19], m: usize, row: [u32; 19]) -> bool
     ensures { result ≡ fit_n (layout fields m) row 19 }
 {
     let mut ok = true;
-    let mut i: usize = 0;
-    while i < 19 {
-        ok = within(ok, present(fields[i], m, i), row[i]);
-        i += 1;
+    for (i, v) in row.iter().enumerate() {
+        ok = ok && present(fields[i], m, i).holds(*v);
     }
     ok
 }
 
 // The number that stands in a frame for a value.
+#[tactic(auto, unfolding(crate::specs::Fields::raw_of))]
 pub fn raw(field: Field, v: u32) -> u32
     ensures { result ≡ raw_of field v }
 {
-    std::num::wrapping_sub_u32(v, field.3)
+    v.wrapping_sub(field.3)
 }

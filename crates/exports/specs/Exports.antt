@@ -2,7 +2,7 @@
 use Rattle.std.specs.Prelude.{◌≡◌, List, ◌∷◌, ◌++◌, ℕ, ltb, length, get_or, take, drop, Result, Ok, Err}
 use Rattle.base.specs.Pick.{pick}
 use Rattle.events.specs.Kinds.{kind_of, code_of}
-use Rattle.events.specs.Rows.{kind_in, row_of, event_of, reading_number}
+use Rattle.events.specs.Rows.{kind_in, row_of, event_of, of_kind, reading_number}
 use Rattle.frames.specs.Frames.{read_of, written_of, space_of, written_number}
 use Rattle.events.specs.declared.Refusal.{Refusal}
 use Rattle.events.specs.declared.Event.{Event}
@@ -13,7 +13,7 @@ values_of e = code_of (kind_in e) ∷ row_of e
 
 -- the event of the first 20 numbers
 unfoldable pub event_in : List ℕ → Result Event Refusal
-event_in vs = event_of (kind_of (get_or vs 0 0)) (take 19 (drop 1 vs))
+event_in vs = of_kind (kind_of (get_or vs 0 0)) (λ k. event_of k (take 19 (drop 1 vs)))
 
 -- what a reading puts into the values: the event's 20 numbers, or nothing
 abbrev pub values_after : Result Event Refusal → List ℕ → List ℕ

@@ -2,13 +2,12 @@
 // the crate exports_c.
 #![tactic(auto)]
 
-ghost use Rattle.std.specs.Prelude.{◌≡◌, ◌++◌, ◌≤◌, length, take, drop};
+ghost use Rattle.std.specs.Prelude.{◌≡◌, ◌++◌, ◌≤◌, length, drop};
 ghost use Rattle.frames.specs.Frames.{judge_of};
 ghost use Rattle.exports.specs.Exports.{values_of, event_in, ReadOut, WrittenOut, WriteOut};
 
 use event_rows::{event_of, kind_in, row_of};
-use events::kinds::{code_of, kind_of};
-use events::{Event, Refusal};
+use events::{Event, Kind, Refusal};
 use frames::{judge, read, write};
 
 // The event's 20 numbers at the start of the values.
@@ -16,36 +15,19 @@ fn fill(event: Event, values: &mut [u32])
     requires { 20 ≤ length values.old }
     ensures { values.new ≡ values_of event ++ drop 20 values.old }
 {
-    values[0] = code_of(kind_in(event));
-    let row = row_of(event);
-    let mut i: usize = 0;
-    while i < 19 {
-        values[i + 1] = row[i];
-        i += 1;
-    }
+    values[0] = u32::from(kind_in(event));
+    values[1..20].copy_from_slice(&row_of(event));
 }
 
-// The 19 numbers after the first.
-fn row_in(values: &[u32]) -> [u32; 19]
-    requires { 20 ≤ length values.now }
-    ensures { result ≡ take 19 (drop 1 values.now) }
-{
-    let mut row: [u32; 19] = [0; 19];
-    let mut i: usize = 0;
-    while i < 19 {
-        row[i] = values[i + 1];
-        i += 1;
-    }
-    row
-}
-
-// The event of 20 numbers.
+// The event of 20 numbers, or the refusal of an unknown kind.
 fn event_in(values: &[u32]) -> Result<Event, Refusal>
     requires { 20 ≤ length values.now }
     ensures { result ≡ event_in values.now }
 {
-    let kind = kind_of(values[0]);
-    event_of(kind, row_in(values))
+    let kind = Kind::try_from(values[0])?;
+    let mut row = [0; 19];
+    row.copy_from_slice(&values[1..20]);
+    Ok(event_of(kind, row))
 }
 
 // The writer, with its answer as a number.

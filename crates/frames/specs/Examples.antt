@@ -1,7 +1,7 @@
 -- Worked examples of document 01.
 use Rattle.std.specs.Prelude.{◌≡◌, [], ◌∷◌, refl, Ok}
 use Rattle.base.specs.Pick.{pick}
-use Rattle.events.specs.Fields.{raw_of, layout, present_of, offset, within_of, fit_n}
+use Rattle.events.specs.Fields.{raw_of, layout, present_of, offset, holds, fit_n}
 use Rattle.events.specs.Kinds.{kind_of, length_of}
 use Rattle.events.specs.Table.{limit, layout_of}
 use Rattle.events.specs.Rows.{layout_in, length_in}
@@ -21,7 +21,7 @@ open-zero = refl
 
 -- and those bytes are read as it
 pub zero-opens : read_of (6 ∷ 0 ∷ 6 ∷ 0 ∷ 0 ∷ 1 ∷ []) ≡ Ok open_zero
-unfolding read_of judge_of pick number kind_at kind_of length_of fit_n within_of row_at row_n layout_of layout present_of value_at offset
+unfolding read_of judge_of pick number kind_at kind_of length_of fit_n holds row_at row_n layout_of layout present_of value_at offset
 zero-opens = refl
 
 -- "limit (4, signed)": a limit of −1

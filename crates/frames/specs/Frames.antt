@@ -5,7 +5,7 @@ use Rattle.events.specs.Fields.{fit_n}
 use Rattle.events.specs.Kinds.{kind_of, code_of, length_of}
 use Rattle.events.specs.Refusals.{refusal_number, refusal_of}
 use Rattle.events.specs.Table.{layout_of}
-use Rattle.events.specs.Rows.{kind_in, row_of, event_of, layout_in, fitting, length_in}
+use Rattle.events.specs.Rows.{kind_in, row_of, event_of, of_kind, layout_in, fitting, length_in}
 use Rattle.frames.specs.Number.{number, bytes}
 use Rattle.frames.specs.Bodies.{row_n, body_n}
 use Rattle.events.specs.declared.Refusal.{Refusal}
@@ -15,34 +15,33 @@ use Rattle.events.specs.declared.Field.{Field}
 use Rattle.events.specs.declared.Event.{Event}
 
 -- "its kind (2 bytes)", after "its whole length (2 bytes)"
-unfoldable pub kind_at : List ℕ → Kind
+unfoldable pub kind_at : List ℕ → Result Kind Refusal
 kind_at f = kind_of (number 2 f 2)
 
 -- "for every count byte": the fifth; 0 where "a frame .. ends before that byte"
 abbrev pub count_at : List ℕ → ℕ
 count_at f = slice_index f 4
 
--- the length that a frame of its kind and count has
-abbrev pub length_at : List ℕ → ℕ
-length_at f = length_of (kind_at f) (count_at f)
+-- the length that a frame of a kind has by its count
+abbrev pub length_at : Kind → List ℕ → ℕ
+length_at k f = length_of k (count_at f)
 
 -- its fields: a strategy's count and three for each leg, those of its table for another kind
-abbrev pub fields_at : List ℕ → ℕ → Field
-fields_at f = layout_of (kind_at f) (count_at f)
+abbrev pub fields_at : Kind → List ℕ → ℕ → Field
+fields_at k f = layout_of k (count_at f)
 
 -- the values of a frame's fields
-unfoldable pub row_at : List ℕ → List ℕ
-row_at f = row_n (fields_at f) f 19
+unfoldable pub row_at : Kind → List ℕ → List ℕ
+row_at k f = row_n (fields_at k f) f 19
 
--- 2: "under 4 bytes, length not the frame's, unknown kind, wrong length for kind"; then 3: "a field outside its range"; else 0
+-- 2: "unknown kind, wrong length for kind"; then 3: "a field outside its range"; else 0
+abbrev pub judge_kind : Result Kind Refusal → List ℕ → ℕ
+judge_kind (Ok k) f = pick (length_at k f == length f) (pick (fit_n (fields_at k f) (row_at k f) 19) 0 3) 2
+judge_kind (Err r) f = 2
+
+-- 2: "under 4 bytes, length not the frame's", and then by its kind
 unfoldable pub judge_of : List ℕ → ℕ
-judge_of f =
-    pick (nat_lt (length f) 4) 2
-    (pick (number 2 f 0 == length f)
-    (pick (length_at f == length f)
-    (pick (fit_n (fields_at f) (row_at f) 19) 0 3)
-    2)
-    2)
+judge_of f = pick (nat_lt (length f) 4) 2 (pick (number 2 f 0 == length f) (judge_kind (kind_at f) f) 2)
 
 -- the number of a judgement: 0 where it refuses nothing
 abbrev pub judge_number : Result (Unit {0}) Refusal → ℕ
@@ -51,7 +50,7 @@ judge_number (Err r) = refusal_number r
 
 -- the event that a frame carries, or its refusal
 unfoldable pub read_of : List ℕ → Result Event Refusal
-read_of f = pick (judge_of f == 0) (event_of (kind_at f) (row_at f)) (Err (refusal_of (judge_of f)))
+read_of f = pick (judge_of f == 0) (of_kind (kind_at f) (λ k. event_of k (row_at k f))) (Err (refusal_of (judge_of f)))
 
 -- "A frame is its whole length (2 bytes), its kind (2 bytes), then the fields, little-endian"
 unfoldable pub frame_of : Event → List ℕ

@@ -1,5 +1,5 @@
--- Result Event Refusal what was written gives the event, and a frame that reads as an event is the one written for it.
-use Rattle.std.specs.Prelude.{◌≡◌, ℕ, zero, suc, ◌+◌, ◌%◌, ◌^◌, ◌<◌, ◌≤◌, Bool, true, false, List, [], ◌++◌, length, take, drop, ◌==◌, ◌≢◌, slice_index, slice_index_or, Ok, Err}
+-- Reading what was written gives the event, and a frame that reads as an event is the one written for it.
+use Rattle.std.specs.Prelude.{◌≡◌, ℕ, zero, suc, ◌+◌, ◌%◌, ◌^◌, ◌<◌, ◌≤◌, Bool, true, false, List, [], ◌++◌, length, take, drop, ◌==◌, ◌≢◌, slice_index, slice_index_or, Result, Ok, Err}
 use Rattle.std.proofs.Math.Path.{refl, sym, ap}
 use Rattle.std.proofs.Common.{◌∙◌, le_refl, arith, eqb-true, length-append, take-add, take_all}
 use mathlib.Core.List.{append_assoc, append-nil}
@@ -13,19 +13,20 @@ use Rattle.events.specs.Refusals.{refusal_of, number-refusal}
 use Rattle.events.specs.Table.{count, layout_of}
 use Rattle.events.specs.Rows.{kind_in, row_of, event_of, layout_in, fitting, length_in, reading_number}
 use Rattle.events.specs.Laws.{Sound, field_is, exact, field-same, length-same, first_field, count-le, short-in, four-in}
-use Rattle.events.specs.Cases.{event-row, length-row-of, kind-code, code_lt, kind_read, row_read, kind-back, answer-event, event-is, code-kind, value-raw, raw-value}
+use Rattle.events.specs.Cases.{event-row, length-row-of, kind-code, code_lt, kind-back, code-kind, value-raw, raw-value}
 use Rattle.frames.specs.Number.{number, bytes, Bytes, length-bytes, number-bytes, bytes-number, number-le}
 use Rattle.frames.specs.Bodies.{value_at, value_bytes, row_n, length-row, row-at, body_n, body_at}
-use Rattle.frames.specs.Frames.{kind_at, count_at, row_at, judge_of, read_of, frame_of, written_of, space_of, Wrote}
+use Rattle.frames.specs.Frames.{kind_at, count_at, row_at, judge_kind, judge_of, read_of, frame_of, written_of, space_of, Wrote}
 use Rattle.frames.specs.Codec.{whole_room, judge-fit, judged, read-refused, read-event, length-frame}
 use Rattle.frames.specs.Spaces.{accepted, written_is, space-is, written-frame}
+use Rattle.events.specs.declared.Refusal.{Refusal}
 use Rattle.events.specs.declared.Field.{Field}
 use Rattle.events.specs.declared.Kind.{Kind}
 use Rattle.events.specs.declared.Kind.TheVariants as K
 use Rattle.events.specs.declared.Event.{Event}
 
 -- a row that was read is the event's
-row_back : (k : Kind) (n : ℕ) (f : List ℕ) → row_read (event_of k (row_n (layout_of k n) f 19)) ≡ row_n (layout_of k n) f 19
+row_back : (k : Kind) (n : ℕ) (f : List ℕ) → row_of (event_of k (row_n (layout_of k n) f 19)) ≡ row_n (layout_of k n) f 19
 unfolding row_n layout_of layout present_of length_of pick value_at number offset
 row_back K.Strategy n f = refl
 row_back K.Order n f = refl
@@ -38,9 +39,8 @@ row_back K.DayEnd n f = refl
 row_back K.National n f = refl
 row_back K.Range n f = refl
 row_back K.Specialist n f = refl
-row_back K.Unknown n f = refl
 
--- Result Event Refusal what was written.
+-- Reading what was written.
 
 module _ (e : Event) (t : fitting e ≡ true) where
   sound-in : (i : ℕ) → Sound (layout_in e i)
@@ -70,7 +70,7 @@ module _ (e : Event) (t : fitting e ≡ true) where
   unfolding frame_of
   size-written = rw append_assoc (number-bytes 2 (length_in e) [] _ 0 refl (omega (arith, short-in e t)))
 
-  kind-written : kind_at (frame_of e) ≡ kind_in e
+  kind-written : kind_at (frame_of e) ≡ Ok (kind_in e)
   unfolding kind_at frame_of
   kind-written = rw (number-bytes 2 (code_of (kind_in e)) (bytes 2 (length_in e)) _ 2 (length-bytes 2 (length_in e)) (code_lt (kind_in e))) (kind-code e)
 
@@ -81,15 +81,15 @@ module _ (e : Event) (t : fitting e ≡ true) where
       let n : number 1 (frame_of e) 4 ≡ raw_of (count) (slice_index (row_of e) 0) = rw z at (number-written 0 (omega arith)) in
       omega (arith, n, count-le (kind_in e) _ (row_of e) t s)
 
-  layout-written : layout_of (kind_at (frame_of e)) (count_at (frame_of e)) ≡ layout_in e
+  layout-written : layout_of (kind_in e) (count_at (frame_of e)) ≡ layout_in e
   unfolding layout_in
-  layout-written = rw kind-written (field-same (kind_in e) _ _ count-written)
+  layout-written = field-same (kind_in e) _ _ count-written
 
-  long-written : length_of (kind_at (frame_of e)) (count_at (frame_of e)) ≡ length_in e
+  long-written : length_of (kind_in e) (count_at (frame_of e)) ≡ length_in e
   unfolding length_in
-  long-written = rw kind-written (length-same (kind_in e) _ _ count-written)
+  long-written = length-same (kind_in e) _ _ count-written
 
-  row_is : row_at (frame_of e) ≡ row_of e
+  row_is : row_at (kind_in e) (frame_of e) ≡ row_of e
   unfolding row_at
   row_is = rw layout-written row_written
 
@@ -97,11 +97,11 @@ module _ (e : Event) (t : fitting e ≡ true) where
   unfolding fitting
   judge-written =
       let l : length (frame_of e) ≡ length_in e = length-frame e t in
-      judge-fit (frame_of e) (omega (arith, four-in e)) (size-written ∙ sym l) (long-written ∙ sym l) (rw (layout-written, row_is) t)
+      judge-fit (frame_of e) kind-written (omega (arith, four-in e)) (size-written ∙ sym l) (long-written ∙ sym l) (rw (layout-written, row_is) t)
 
   -- reading the frame of an event that fits gives that event
   pub read-written-frame : read_of (frame_of e) ≡ Ok e
-  read-written-frame = read-event (frame_of e) judge-written ∙ rw (kind-written, row_is) (event-row e)
+  read-written-frame = read-event (frame_of e) kind-written judge-written ∙ rw row_is (rw (event-row e))
 
 -- If the writer accepts an event, reading what it wrote gives that event.
 pub read-written : (e : Event) (sp : List ℕ) (n : ℕ) → written_of e (length sp) ≡ Ok n → read_of (take n (space_of e sp)) ≡ Ok e
@@ -121,63 +121,69 @@ module _ (f : List ℕ) (b : Bytes f) (e : Event) (r : read_of f ≡ Ok e) where
           let q : read_of f ≡ Err (refusal_of (judge_of f)) = read-refused f (eqb-false _ _ h) in
           absurd (let z : ◌≡◌ {A = ℕ} 0 1 = cc in omega arith)
 
-  made : event_of (kind_at f) (row_at f) ≡ Ok e
-  made = sym (read-event f zero-read) ∙ r
+  abbrev kind : Kind
+  kind = (judged f zero-read).kind
 
-  kind-read : kind_in e ≡ kind_at f
-  kind-read = ap kind_read (sym made) ∙ kind-back (kind_at f) (row_at f)
+  made : event_of kind (row_at kind f) ≡ e
+  made = same (sym (read-event f (judged f zero-read).known zero-read) ∙ r)
+    where
+      same : {x y : Event} → ◌≡◌ {A = Result Event Refusal} (Ok x) (Ok y) → x ≡ y
+      same h = cc
 
-  row_read_lem : row_of e ≡ row_at f
+  kind-read : kind_in e ≡ kind
+  kind-read = ap kind_in (sym made) ∙ kind-back kind (row_at kind f)
+
+  row_read_lem : row_of e ≡ row_at kind f
   unfolding row_at
-  row_read_lem = ap row_read (sym made) ∙ row_back (kind_at f) (count_at f) f
+  row_read_lem = ap row_of (sym made) ∙ row_back kind (count_at f) f
 
-  count-read : kind_at f ≡ K.Strategy → slice_index (row_at f) 0 ≡ count_at f
+  count-read : kind ≡ K.Strategy → slice_index (row_at kind f) 0 ≡ count_at f
   unfolding row_at offset value_at number
   count-read s =
-      let z : layout_of (kind_at f) (count_at f) 0 ≡ count = rw s (first_field _) in
-      let v : slice_index_or (row_at f) 0 0 ≡ value_at (count) f 4 = rw z at (row-at (layout_of (kind_at f) (count_at f)) f 19 0 (omega arith) (omega arith)) in
+      let z : layout_of kind (count_at f) 0 ≡ count = rw s (first_field _) in
+      let v : slice_index_or (row_at kind f) 0 0 ≡ value_at (count) f 4 = rw z at (row-at (layout_of kind (count_at f)) f 19 0 (omega arith) (omega arith)) in
       omega (arith, v, b.small 4)
 
-  layout-read : layout_in e ≡ layout_of (kind_at f) (count_at f)
+  layout-read : layout_in e ≡ layout_of kind (count_at f)
   unfolding layout_in
-  layout-read = rw (kind-read, row_read_lem) (field-same (kind_at f) _ _ count-read)
+  layout-read = rw (kind-read, row_read_lem) (field-same kind _ _ count-read)
 
   length-read : length_in e ≡ length f
   unfolding length_in
-  length-read = rw (kind-read, row_read_lem) (length-same (kind_at f) _ _ count-read ∙ (judged f zero-read).whole.long)
+  length-read = rw (kind-read, row_read_lem) (length-same kind _ _ count-read ∙ (judged f zero-read).whole.long)
 
   pub fitting-read : fitting e ≡ true
   unfolding fitting
   fitting-read = rw (layout-read, row_read_lem) (judged f zero-read).fit
 
   value_read : (n : ℕ) → n < 19 →
-      slice_index (row_at f) n ≡ (number (width (layout_of (kind_at f) (count_at f) n)) f (offset (layout_of (kind_at f) (count_at f)) n) + bias (layout_of (kind_at f) (count_at f) n)) % 2 ^ 32
+      slice_index (row_at kind f) n ≡ (number (width (layout_of kind (count_at f) n)) f (offset (layout_of kind (count_at f)) n) + bias (layout_of kind (count_at f) n)) % 2 ^ 32
   unfolding row_at value_at
-  value_read n h = row-at (layout_of (kind_at f) (count_at f)) f 19 n (omega arith) h
+  value_read n h = row-at (layout_of kind (count_at f)) f 19 n (omega arith) h
 
-  body-read : (n : ℕ) → n ≤ 19 → take 4 f ++ body_n (layout_of (kind_at f) (count_at f)) (row_at f) n ≡ take (offset (layout_of (kind_at f) (count_at f)) n) f
+  body-read : (n : ℕ) → n ≤ 19 → take 4 f ++ body_n (layout_of kind (count_at f)) (row_at kind f) n ≡ take (offset (layout_of kind (count_at f)) n) f
   unfolding body_n offset value_bytes
   body-read zero h = append-nil (take 4 f)
   body-read (suc n) h =
-      let F : ℕ → Field = layout_of (kind_at f) (count_at f) in
-      let s : Sound (F n) = field_is (kind_at f) (count_at f) n in
-      let v : slice_index_or (row_at f) n 0 ≡ (number (width (F n)) f (offset F n) + bias (F n)) % 2 ^ 32 = value_read n (omega arith) in
-      let x : raw_of (F n) (slice_index (row_at f) n) ≡ number (width (F n)) f (offset F n) = rw v (raw-value (F n) _ s (number-le f b (width (F n)) 4 (offset F n) s.narrow)) in
-      let k : offset F n + width (F n) ≤ length f = le_trans (offset-room F n 19 (omega arith)) (whole_room (kind_at f) f (judged f zero-read).whole) in
+      let F : ℕ → Field = layout_of kind (count_at f) in
+      let s : Sound (F n) = field_is kind (count_at f) n in
+      let v : slice_index_or (row_at kind f) n 0 ≡ (number (width (F n)) f (offset F n) + bias (F n)) % 2 ^ 32 = value_read n (omega arith) in
+      let x : raw_of (F n) (slice_index (row_at kind f) n) ≡ number (width (F n)) f (offset F n) = rw v (raw-value (F n) _ s (number-le f b (width (F n)) 4 (offset F n) s.narrow)) in
+      let k : offset F n + width (F n) ≤ length f = le_trans (offset-room F n 19 (omega arith)) (whole_room kind f (judged f zero-read).whole) in
       rw (x, bytes-number f b (width (F n)) (offset F n) k, ← append_assoc, body-read n (omega arith), take-add)
 
-  exact_read : offset (layout_of (kind_at f) (count_at f)) 19 ≡ length f
+  exact_read : offset (layout_of kind (count_at f)) 19 ≡ length f
   exact_read =
       let j = judged f zero-read in
-      (exact (kind_at f) (count_at f) (λ s. omega (arith, count-read s, count-le (kind_at f) _ (row_at f) j.fit s)) (omega (arith, j.whole.four, j.whole.long))).whole
+      (exact kind (count_at f) (λ s. omega (arith, count-read s, count-le kind _ (row_at kind f) j.fit s)) (omega (arith, j.whole.four, j.whole.long))).whole
       ∙ j.whole.long
 
-  head_read : bytes 2 (length f) ++ bytes 2 (code_of (kind_at f)) ≡ take 4 f
+  head_read : bytes 2 (length f) ++ bytes 2 (code_of kind) ≡ take 4 f
   unfolding kind_at
   head_read =
       let j = judged f zero-read in
       let n : bytes 2 (length f) ≡ take 2 f = ap (bytes 2) (sym j.size) ∙ bytes-number f b 2 0 (omega (arith, j.whole.four)) in
-      let k : code_of (kind_at f) ≡ number 2 f 2 = code-kind (number 2 f 2) (count_at f) (omega (arith, j.whole.four, j.whole.long)) in
+      let k : code_of kind ≡ number 2 f 2 = code-kind (number 2 f 2) j.known in
       rw (n, k, bytes-number f b 2 2 (omega (arith, j.whole.four))) (sym (take-add 2 2 f))
 
   -- a frame that reads as an event is that event's frame
@@ -200,14 +206,17 @@ unfolding judge_of
 judge-answers f =
     let P : ℕ → Type 0 = λ (x : ℕ). (x ≢ 1) × (x ≤ 3) in
     let two : P 2 = (λ e. omega arith, omega arith) in
-    pick_all P _ two (pick_all P _ (pick_all P _ (pick_all P _ (λ e. omega arith, omega arith) (λ e. omega arith, omega arith)) two) two)
+    pick_all P _ two (pick_all P _ (by (kind_at f)) two)
+  where
+    by : (r : Result Kind Refusal) → (judge_kind r f ≢ 1) × (judge_kind r f ≤ 3)
+    by (Err r) = (λ e. omega arith, omega arith)
+    by (Ok k) =
+        let P : ℕ → Type 0 = λ (x : ℕ). (x ≢ 1) × (x ≤ 3) in
+        pick_all P _ (pick_all P _ (λ e. omega arith, omega arith) (λ e. omega arith, omega arith)) (λ e. omega arith, omega arith)
 
 -- 0 only where the reader gives an event
 pub judge-event : (f : List ℕ) → judge_of f ≡ 0 → (e : Event) × (read_of f ≡ Ok e)
-judge-event f z =
-    let w = (judged f z).whole in
-    let x = event-is (kind_at f) (row_at f) (count_at f) (omega (arith, w.four, w.long)) in
-    (x.0, read-event f z ∙ x.1)
+judge-event f z = let j = judged f z in (event_of j.kind (row_at j.kind f), read-event f j.known z)
 
 -- 0 where the reader gives an event, its refusal where it refuses
 
@@ -217,8 +226,7 @@ judge-reads f = by (judge_of f == 0) refl
     by : (t : Bool) → (judge_of f == 0) ≡ t → judge_of f ≡ reading_number (read_of f)
     by true h =
         let z : judge_of f ≡ 0 = eqb-true _ _ h in
-        let w = (judged f z).whole in
-        rw (read-event f z) (z ∙ sym (answer-event (kind_at f) (row_at f) (count_at f) (omega (arith, w.four, w.long))))
+        rw (read-event f (judged f z).known z) z
     by false h =
         let n : judge_of f ≢ 0 = eqb-false _ _ h in
         let l : judge_of f ≤ 3 = (judge-answers f).1 in

@@ -9,12 +9,13 @@ use events::Field;
 use events::table::{present, raw};
 
 // The value of a field at a place of the frame.
+#[tactic(auto, unfolding(crate::specs::Bodies::value_at))]
 pub(crate) fn value(frame: &[u8], at: usize, field: Field) -> u32
     requires field_in_bounds { at + width field ≤ length frame.now }
     requires field_bound { width field ≤ 4 }
     ensures { result ≡ value_at field frame.now at }
 {
-    std::num::wrapping_add_u32(number(frame, at, field.0), field.3)
+    number(frame, at, field.0).wrapping_add(field.3)
 }
 
 // The values of the fields, one after the other from the fifth byte.
@@ -25,17 +26,16 @@ pub(crate) fn decode(frame: &[u8], fields: [Field; 19], m: usize) -> [u32; 19]
 {
     let mut row: [u32; 19] = [0; 19];
     let mut at: usize = 4;
-    let mut i: usize = 0;
-    while i < 19 {
-        let field = present(fields[i], m, i);
+    for (i, entry) in fields.iter().enumerate() {
+        let field = present(*entry, m, i);
         row[i] = value(frame, at, field);
         at += field.0;
-        i += 1;
     }
     row
 }
 
 // The bytes of a value at a place of the space.
+#[tactic(auto, unfolding(crate::specs::Bodies::value_bytes))]
 fn write_value(space: &mut [u8], at: usize, field: Field, v: u32)
     requires { at + width field ≤ length space.old }
     ensures { space.new ≡ sets space.old at (value_bytes field v) }
@@ -49,11 +49,9 @@ pub(crate) fn encode(space: &mut [u8], fields: [Field; 19], m: usize, row: [u32;
     ensures { space.new ≡ sets space.old 4 (body_n (layout fields m) row 19) }
 {
     let mut at: usize = 4;
-    let mut i: usize = 0;
-    while i < 19 {
+    for (i, v) in row.iter().enumerate() {
         let field = present(fields[i], m, i);
-        write_value(space, at, field, row[i]);
+        write_value(space, at, field, *v);
         at += field.0;
-        i += 1;
     }
 }

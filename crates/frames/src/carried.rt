@@ -1,8 +1,7 @@
 // The event that a frame of a kind carries. A kind of fixed length has each field read at its place; a strategy goes by the table.
 ghost use Rattle.std.specs.Prelude.{◌≡◌, ◌+◌, ◌≤◌, length};
 ghost use Rattle.events.specs.Fields.{width};
-ghost use Rattle.base.specs.Pick.{pick};
-ghost use Rattle.frames.specs.Carried.{carried_of, Whole, tested_of};
+ghost use Rattle.frames.specs.Carried.{carried_of, placed_of, Whole, field_at};
 
 use super::bodies::{decode, value};
 use event_rows::event_of;
@@ -11,200 +10,154 @@ use events::{
     Specialist, Sweep, table,
 };
 
-// The value of a field, and whether it and those before it are in their ranges.
-#[derive(Clone, Copy)]
-struct Tested {
-    value: u32,
-    ok: bool,
-}
-
-// Reads the field at a place of the frame, and tests it.
-fn test(frame: &[u8], at: usize, field: Field, ok: bool) -> Tested
+// The value of a field at a place of the frame, or the refusal 3 where it is outside its range.
+#[tactic(auto, using(base::specs::Pick::tests), unfolding(crate::specs::Carried::field_at))]
+fn read(frame: &[u8], at: usize, field: Field) -> Result<u32, Refusal>
     requires field_in_bounds { at + width field ≤ length frame.now }
     requires field_bound { width field ≤ 4 }
-    ensures { result ≡ tested_of field frame.now at ok }
+    ensures { result ≡ field_at field frame.now at }
 {
     let v = value(frame, at, field);
-    Tested {
-        value: v,
-        ok: table::within(ok, field, v),
+    if field.holds(v) {
+        Ok(v)
+    } else {
+        Err(Refusal::BadField)
     }
 }
 
-// The reading where the values are in their ranges, else the refusal 3.
-fn if_fits(ok: bool, reading: Result<Event, Refusal>) -> Result<Event, Refusal>
-    ensures { result ≡ pick ok reading (Err Refusal.BadField) }
-{
-    if ok {
-        return reading;
-    }
-    Err(Refusal::BadField)
-}
-
+#[tactic(auto, using(crate::specs::Carried::reads))]
 fn order_in(frame: &[u8]) -> Result<Event, Refusal>
     requires { 16 ≤ length frame.now }
-    ensures { result ≡ carried_of Kind.Order frame.now }
+    ensures { result ≡ placed_of Kind.Order 7 frame.now }
 {
-    let member = test(frame, 4, table::MEMBER, true);
-    let strategy = test(frame, 6, table::STRATEGY, member.ok);
-    let side = test(frame, 7, table::SIDE, strategy.ok);
-    let class = test(frame, 8, table::CLASS, side.ok);
-    let life = test(frame, 9, table::LIFE, class.ok);
-    let units = test(frame, 10, table::UNITS, life.ok);
-    let level = test(frame, 12, table::LIMIT, units.ok);
-    if_fits(
-        level.ok,
-        Ok(Event::Order(Order {
-            member: member.value,
-            strategy: strategy.value,
-            side: side.value,
-            class: class.value,
-            life: life.value,
-            units: units.value,
-            level: level.value,
-        })),
-    )
+    Ok(Event::Order(Order {
+        member: read(frame, 4, table::MEMBER)?,
+        strategy: read(frame, 6, table::STRATEGY)?,
+        side: read(frame, 7, table::SIDE)?,
+        class: read(frame, 8, table::CLASS)?,
+        life: read(frame, 9, table::LIFE)?,
+        units: read(frame, 10, table::UNITS)?,
+        level: read(frame, 12, table::LIMIT)?,
+    }))
 }
 
+#[tactic(auto, using(crate::specs::Carried::reads))]
 fn sweep_in(frame: &[u8]) -> Result<Event, Refusal>
     requires { 14 ≤ length frame.now }
-    ensures { result ≡ carried_of Kind.Sweep frame.now }
+    ensures { result ≡ placed_of Kind.Sweep 5 frame.now }
 {
-    let member = test(frame, 4, table::MEMBER, true);
-    let strategy = test(frame, 6, table::STRATEGY, member.ok);
-    let side = test(frame, 7, table::SIDE, strategy.ok);
-    let units = test(frame, 8, table::SWEEP_UNITS, side.ok);
-    let level = test(frame, 10, table::LIMIT, units.ok);
-    if_fits(
-        level.ok,
-        Ok(Event::Sweep(Sweep {
-            member: member.value,
-            strategy: strategy.value,
-            side: side.value,
-            units: units.value,
-            level: level.value,
-        })),
-    )
+    Ok(Event::Sweep(Sweep {
+        member: read(frame, 4, table::MEMBER)?,
+        strategy: read(frame, 6, table::STRATEGY)?,
+        side: read(frame, 7, table::SIDE)?,
+        units: read(frame, 8, table::SWEEP_UNITS)?,
+        level: read(frame, 10, table::LIMIT)?,
+    }))
 }
 
+#[tactic(auto, using(crate::specs::Carried::reads))]
 fn leg_order_in(frame: &[u8]) -> Result<Event, Refusal>
     requires { 14 ≤ length frame.now }
-    ensures { result ≡ carried_of Kind.LegOrder frame.now }
+    ensures { result ≡ placed_of Kind.LegOrder 5 frame.now }
 {
-    let member = test(frame, 4, table::MEMBER, true);
-    let series = test(frame, 6, table::SERIES, member.ok);
-    let side = test(frame, 7, table::SIDE, series.ok);
-    let contracts = test(frame, 8, table::CONTRACTS, side.ok);
-    let price = test(frame, 10, table::PRICE, contracts.ok);
-    if_fits(
-        price.ok,
-        Ok(Event::LegOrder(LegOrder {
-            member: member.value,
-            series: series.value,
-            side: side.value,
-            contracts: contracts.value,
-            price: price.value,
-        })),
-    )
+    Ok(Event::LegOrder(LegOrder {
+        member: read(frame, 4, table::MEMBER)?,
+        series: read(frame, 6, table::SERIES)?,
+        side: read(frame, 7, table::SIDE)?,
+        contracts: read(frame, 8, table::CONTRACTS)?,
+        price: read(frame, 10, table::PRICE)?,
+    }))
 }
 
+#[tactic(auto, using(crate::specs::Carried::reads))]
 fn cancel_in(frame: &[u8]) -> Result<Event, Refusal>
     requires { 10 ≤ length frame.now }
-    ensures { result ≡ carried_of Kind.Cancel frame.now }
+    ensures { result ≡ placed_of Kind.Cancel 2 frame.now }
 {
-    let member = test(frame, 4, table::MEMBER, true);
-    let number = test(frame, 6, table::NUMBER, member.ok);
-    if_fits(
-        number.ok,
-        Ok(Event::Cancel(Cancel {
-            member: member.value,
-            number: number.value,
-        })),
-    )
+    Ok(Event::Cancel(Cancel {
+        member: read(frame, 4, table::MEMBER)?,
+        number: read(frame, 6, table::NUMBER)?,
+    }))
 }
 
+#[tactic(auto, using(crate::specs::Carried::reads))]
 fn series_in(frame: &[u8]) -> Result<Event, Refusal>
     requires { 6 ≤ length frame.now }
-    ensures { result ≡ carried_of Kind.Series frame.now }
+    ensures { result ≡ placed_of Kind.Series 2 frame.now }
 {
-    let series = test(frame, 4, table::SERIES, true);
-    let state = test(frame, 5, table::STATE, series.ok);
-    if_fits(
-        state.ok,
-        Ok(Event::Series(Series {
-            series: series.value,
-            state: state.value,
-        })),
-    )
+    Ok(Event::Series(Series {
+        series: read(frame, 4, table::SERIES)?,
+        state: read(frame, 5, table::STATE)?,
+    }))
 }
 
+#[tactic(auto, using(crate::specs::Carried::reads))]
 fn clock_in(frame: &[u8]) -> Result<Event, Refusal>
     requires { 8 ≤ length frame.now }
-    ensures { result ≡ carried_of Kind.Clock frame.now }
+    ensures { result ≡ placed_of Kind.Clock 1 frame.now }
 {
-    let time = test(frame, 4, table::TIME, true);
-    if_fits(time.ok, Ok(Event::Clock(Clock { time: time.value })))
+    Ok(Event::Clock(Clock {
+        time: read(frame, 4, table::TIME)?,
+    }))
 }
 
+#[tactic(auto, using(crate::specs::Carried::reads))]
 fn day_end_in(frame: &[u8]) -> Result<Event, Refusal>
     requires { 6 ≤ length frame.now }
-    ensures { result ≡ carried_of Kind.DayEnd frame.now }
+    ensures { result ≡ placed_of Kind.DayEnd 1 frame.now }
 {
-    let timer = test(frame, 4, table::TIMER, true);
-    if_fits(timer.ok, Ok(Event::DayEnd(DayEnd { timer: timer.value })))
+    Ok(Event::DayEnd(DayEnd {
+        timer: read(frame, 4, table::TIMER)?,
+    }))
 }
 
+#[tactic(auto, using(crate::specs::Carried::reads))]
 fn national_in(frame: &[u8]) -> Result<Event, Refusal>
     requires { 13 ≤ length frame.now }
-    ensures { result ≡ carried_of Kind.National frame.now }
+    ensures { result ≡ placed_of Kind.National 3 frame.now }
 {
-    let series = test(frame, 4, table::SERIES, true);
-    let bid = test(frame, 5, table::NATIONAL_PRICE, series.ok);
-    let offer = test(frame, 9, table::NATIONAL_PRICE, bid.ok);
-    if_fits(
-        offer.ok,
-        Ok(Event::National(National {
-            series: series.value,
-            bid: bid.value,
-            offer: offer.value,
-        })),
-    )
+    Ok(Event::National(National {
+        series: read(frame, 4, table::SERIES)?,
+        bid: read(frame, 5, table::NATIONAL_PRICE)?,
+        offer: read(frame, 9, table::NATIONAL_PRICE)?,
+    }))
 }
 
+#[tactic(auto, using(crate::specs::Carried::reads))]
 fn range_in(frame: &[u8]) -> Result<Event, Refusal>
     requires { 6 ≤ length frame.now }
-    ensures { result ≡ carried_of Kind.Range frame.now }
+    ensures { result ≡ placed_of Kind.Range 1 frame.now }
 {
-    let range = test(frame, 4, table::RANGE, true);
-    if_fits(range.ok, Ok(Event::Range(Range { range: range.value })))
+    Ok(Event::Range(Range {
+        range: read(frame, 4, table::RANGE)?,
+    }))
 }
 
+#[tactic(auto, using(crate::specs::Carried::reads))]
 fn specialist_in(frame: &[u8]) -> Result<Event, Refusal>
     requires { 8 ≤ length frame.now }
-    ensures { result ≡ carried_of Kind.Specialist frame.now }
+    ensures { result ≡ placed_of Kind.Specialist 3 frame.now }
 {
-    let member = test(frame, 4, table::MEMBER, true);
-    let strategy = test(frame, 6, table::STRATEGY, member.ok);
-    let percentage = test(frame, 7, table::PERCENTAGE, strategy.ok);
-    if_fits(
-        percentage.ok,
-        Ok(Event::Specialist(Specialist {
-            member: member.value,
-            strategy: strategy.value,
-            percentage: percentage.value,
-        })),
-    )
+    Ok(Event::Specialist(Specialist {
+        member: read(frame, 4, table::MEMBER)?,
+        strategy: read(frame, 6, table::STRATEGY)?,
+        percentage: read(frame, 7, table::PERCENTAGE)?,
+    }))
 }
 
-// By the table of fields: a strategy, whose fields depend on its count. No frame has the length of an unknown kind.
-fn by_table(kind: Kind, frame: &[u8]) -> Result<Event, Refusal>
-    requires { Whole kind frame.now }
-    ensures { result ≡ carried_of kind frame.now }
+// By the table of fields, which of them are there depending on the frame's length.
+fn strategy_in(frame: &[u8]) -> Result<Event, Refusal>
+    requires { Whole Kind.Strategy frame.now }
+    ensures { result ≡ carried_of Kind.Strategy frame.now }
 {
     let m = frame.len() - 4;
-    let fields = table::fields_of(kind);
+    let fields = table::fields_of(Kind::Strategy);
     let row = decode(frame, fields, m);
-    if_fits(table::fit(fields, m, row), event_of(kind, row))
+    if table::fit(fields, m, row) {
+        Ok(event_of(Kind::Strategy, row))
+    } else {
+        Err(Refusal::BadField)
+    }
 }
 
 // The event, or the refusal 3 where a field is outside its range.
@@ -213,6 +166,7 @@ pub(crate) fn carried(kind: Kind, frame: &[u8]) -> Result<Event, Refusal>
     ensures { result ≡ carried_of kind frame.now }
 {
     match kind {
+        Kind::Strategy => strategy_in(frame),
         Kind::Order => order_in(frame),
         Kind::Sweep => sweep_in(frame),
         Kind::LegOrder => leg_order_in(frame),
@@ -223,6 +177,5 @@ pub(crate) fn carried(kind: Kind, frame: &[u8]) -> Result<Event, Refusal>
         Kind::National => national_in(frame),
         Kind::Range => range_in(frame),
         Kind::Specialist => specialist_in(frame),
-        Kind::Strategy | Kind::Unknown => by_table(kind, frame),
     }
 }

@@ -13,19 +13,16 @@ pub mod numbers; // numbers of some bytes
 use bodies::encode;
 use carried::carried;
 use event_rows::{fits, kind_in, length_in, row_of};
-use events::kinds::{code_of, kind_of, length_of};
+use events::kinds::length_of;
 use events::table::fields_of;
-use events::{Event, Refusal};
+use events::{Event, Kind, Refusal};
 use numbers::{number, put};
 
 // The fifth byte, a strategy's count; 0 where there is none.
 fn count_at(frame: &[u8]) -> u32
     ensures { result ≡ count_at frame.now }
 {
-    if 4 < frame.len() {
-        return frame[4] as u32;
-    }
-    0
+    frame.get(4).map_or(0, |count| u32::from(*count))
 }
 
 // The event that a frame carries, or its refusal: 2 or 3.
@@ -33,13 +30,10 @@ pub fn read(frame: &[u8]) -> Result<Event, Refusal>
     ensures { result ≡ read_of frame.now }
 {
     let n = frame.len();
-    if n < 4 {
+    if n < 4 || number(frame, 0, 2) as usize != n {
         return Err(Refusal::BadFrame);
     }
-    if number(frame, 0, 2) as usize != n {
-        return Err(Refusal::BadFrame);
-    }
-    let kind = kind_of(number(frame, 2, 2));
+    let kind = Kind::try_from(number(frame, 2, 2))?;
     if length_of(kind, count_at(frame)) != n {
         return Err(Refusal::BadFrame);
     }
@@ -63,7 +57,7 @@ fn write_frame(event: Event, space: &mut [u8])
     let kind = kind_in(event);
     let n = length_in(event);
     put(space, 0, 2, n as u32);
-    put(space, 2, 2, code_of(kind));
+    put(space, 2, 2, u32::from(kind));
     encode(space, fields_of(kind), n - 4, row_of(event));
 }
 

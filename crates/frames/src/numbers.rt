@@ -17,12 +17,9 @@ pub(crate) fn number(frame: &[u8], at: usize, width: usize) -> u32
     ensures { result ≡ number width frame.now at }
 {
     let mut v: u32 = 0;
-    let mut i: usize = 0;
-    while i < width {
+    for i in 0..width {
         let left = width - 1 - i;
-        let byte = wide(frame[at + left]);
-        v = v * 256 + byte;
-        i += 1;
+        v = v * 256 + u32::from(frame[at + left]);
     }
     v
 }
@@ -33,10 +30,8 @@ pub(crate) fn put(space: &mut [u8], at: usize, width: usize, value: u32)
     ensures { space.new ≡ sets space.old at (bytes width value) }
 {
     let mut v = value;
-    let mut i: usize = 0;
-    while i < width {
+    for i in 0..width {
         space[at + i] = (v % 256) as u8;
-        v = v / 256;
-        i += 1;
+        v /= 256;
     }
 }

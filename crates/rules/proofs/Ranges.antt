@@ -1,15 +1,15 @@
 -- The values of an event that was read are in the ranges of its fields. The elements of the frame may be any numbers.
 use mathlib.Core.Path.{◌≡◌, refl}
-use mathlib.Core.Bool.{true}
+use mathlib.Core.Bool.{Bool, true, false}
 use mathlib.Core.List.{List}
 use Prim.Native.Nat.{ℕ, zero, suc, ◌+◌, ◌-◌, ◌*◌, ◌^◌, ◌≤◌, ◌<◌}
 use native.Mathlib.Nat.{le_refl, mod-le}
 use native.Mathlib.Omega.{arith}
-use borrow.Author.Tests.{eqb-true, lt-ltb}
+use borrow.Author.Tests.{eqb-true, eqb-false, lt-ltb}
 use lib.Dec.{eqb}
 use lib.ListN.{get_or}
 use Rattle.base.specs.All.{All, all_nil, all_cons}
-use Rattle.base.specs.Pick.{pick, pick-by, pick_all}
+use Rattle.base.specs.Pick.{pick, pick_all}
 use Rattle.events.specs.Fields.{low, high, none, layout, present_of, offset, fit_n, fit_at_lem}
 use Rattle.events.specs.Kinds.{length_of}
 use Rattle.events.specs.Table.{count, fields_of, layout_of}
@@ -21,13 +21,13 @@ use Rattle.events.specs.declared.Kind.TheVariants as K
 use Rattle.events.specs.declared.Strategy.{Strategy as GivenStrategy}
 use Rattle.frames.specs.Number.{number}
 use Rattle.frames.specs.Bodies.{value_at, row-at}
-use Rattle.frames.specs.Frames.{kind_at, count_at, row_at, judge_of, read_of}
-use Rattle.frames.specs.Codec.{judged}
+use Rattle.frames.specs.Frames.{count_at, row_at, judge_of, read_of}
+use Rattle.frames.specs.Codec.{judged, read-event, read-refused}
 use Rattle.rules.specs.State.{no_leg}
 use Rattle.rules.specs.Strategies.{series_of, ratio_of}
 use Rattle.rules.specs.Given.{leg_given, legs_given}
 use Rattle.rules.specs.Valid.{FitLeg}
-use Rattle.rules.specs.Fits.{FitGiven, FitReading}
+use Rattle.rules.specs.Fits.{FitGiven, FitEvent, FitReading}
 
 -- the fields of a definition that has room for them
 strategy-field : (n j : ℕ) → j < 1 + 3 * n → layout_of K.Strategy n j ≡ get_or (fields_of K.Strategy) j none
@@ -94,7 +94,7 @@ module _ (n : ℕ) (v : List ℕ) (t : fit_n (layout_of K.Strategy n) v 19 ≡ t
   }
 
 -- an event whose values fit; the count is no more than the byte that the length was taken from
-event-fit : (k : Kind) (n : ℕ) (v : List ℕ) → fit_n (layout_of k n) v 19 ≡ true → (k ≡ K.Strategy → get_or v 0 0 ≤ n) → FitReading (event_of k v)
+event-fit : (k : Kind) (n : ℕ) (v : List ℕ) → fit_n (layout_of k n) v 19 ≡ true → (k ≡ K.Strategy → get_or v 0 0 ≤ n) → FitEvent (event_of k v)
 unfolding layout_of layout present_of length_of pick
 event-fit K.Strategy n v t m = strategy-fit n v t (m refl)
 event-fit K.Order n v t m =
@@ -137,19 +137,21 @@ event-fit K.Range n v t m = (fit_at_lem (layout_of K.Range n) v 19 0 (omega arit
 event-fit K.Specialist n v t m =
     let at = fit_at_lem (layout_of K.Specialist n) v 19 in
     ((at 0 (omega arith) t).0, (at 0 (omega arith) t).1, omega (arith, (at 1 (omega arith) t).1), (at 2 (omega arith) t).1)
-event-fit K.Unknown n v t m = tt
 
 -- a strategy's count is read from the byte that its length is taken from
-count_under : (f : List ℕ) → kind_at f ≡ K.Strategy → get_or (row_at f) 0 0 ≤ count_at f
+count_under : (f : List ℕ) (k : Kind) → k ≡ K.Strategy → get_or (row_at k f) 0 0 ≤ count_at f
 unfolding row_at offset value_at number
-count_under f s =
-    let z : layout_of (kind_at f) (count_at f) 0 ≡ count = rw s (first_field _) in
-    let v : get_or (row_at f) 0 0 ≡ value_at count f 4 = rw z at (row-at (layout_of (kind_at f) (count_at f)) f 19 0 (omega arith) (omega arith)) in
+count_under f k s =
+    let z : layout_of k (count_at f) 0 ≡ count = rw s (first_field _) in
+    let v : get_or (row_at k f) 0 0 ≡ value_at count f 4 = rw z at (row-at (layout_of k (count_at f)) f 19 0 (omega arith) (omega arith)) in
     omega (arith, v, mod-le (get_or f 4 0) (2 ^ 32))
 
 pub reading-fit : (f : List ℕ) → FitReading (read_of f)
-unfolding read_of
-reading-fit f =
-    pick-by FitReading (eqb (judge_of f) 0)
-    (λ e. event-fit (kind_at f) (count_at f) (row_at f) (judged f (eqb-true _ _ e)).fit (count_under f))
-    (λ _. tt)
+reading-fit f = by (eqb (judge_of f) 0) refl
+  where
+    by : (t : Bool) → eqb (judge_of f) 0 ≡ t → FitReading (read_of f)
+    by true e =
+        let z = eqb-true _ _ e in
+        let j = judged f z in
+        rw (read-event f j.known z) (event-fit j.kind (count_at f) (row_at j.kind f) j.fit (count_under f j.kind))
+    by false e = rw (read-refused f (eqb-false _ _ e)) tt

@@ -12,14 +12,13 @@ use lib.ListN.{length, get_or}
 use Rattle.base.specs.Pick.{pick, pick_true, pick-false, pick-by, pick_all}
 use Rattle.base.specs.Walks.{clash}
 use Rattle.events.specs.Refusals.{refusal_number, refusal_of, refusal-some, number-refusal}
+use Rattle.events.specs.declared.Kind.{Kind}
 use Rattle.events.specs.declared.Refusal.{Refusal}
-use Rattle.events.specs.declared.Refusal.TheVariants as F
 use Rattle.events.specs.declared.Event.{Event}
 use Rattle.events.specs.declared.Event.TheVariants as E
-use Rattle.events.specs.Rows.{event_of}
-use Rattle.events.specs.declared.Kind.{Kind}
-use Rattle.events.specs.declared.Kind.TheVariants as K
-use Rattle.frames.specs.Frames.{kind_at, row_at, judge_of, read_of}
+use Rattle.frames.specs.Frames.{kind_at, judge_kind, judge_of, read_of}
+use Rattle.frames.specs.Codec.{read-refused}
+use Rattle.frames.specs.Round.{judge-event}
 use Rattle.rules.specs.declared.State.{State}
 use Rattle.rules.specs.Moves.{still}
 use Rattle.rules.specs.Refusals.{Cause, ◌if◌, position, check_order, rank, first_cause, applies, causes, read_causes, table_of, refusal}
@@ -142,31 +141,31 @@ unfolding judge_of
 judge-number f =
     let P : ℕ → Type 0 = λ (x : ℕ). (x ≡ 0) ⊎ ((2 ≤ x) × (x ≤ 3)) in
     let two : P 2 = inr (omega arith, omega arith) in
-    pick_all P _ two (pick_all P _ (pick_all P _ (pick_all P _ (inl refl) (inr (omega arith, omega arith))) two) two)
-
-event-number : (k : Kind) (v : List ℕ) (r : Refusal) → event_of k v ≡ Err r → (2 ≤ refusal_number r) × (refusal_number r ≤ 3)
-event-number K.Strategy v r e = absurd (let z : ◌≡◌ {A = ℕ} 0 1 = cc in omega arith)
-event-number K.Order v r e = absurd (let z : ◌≡◌ {A = ℕ} 0 1 = cc in omega arith)
-event-number K.Sweep v r e = absurd (let z : ◌≡◌ {A = ℕ} 0 1 = cc in omega arith)
-event-number K.LegOrder v r e = absurd (let z : ◌≡◌ {A = ℕ} 0 1 = cc in omega arith)
-event-number K.Cancel v r e = absurd (let z : ◌≡◌ {A = ℕ} 0 1 = cc in omega arith)
-event-number K.Series v r e = absurd (let z : ◌≡◌ {A = ℕ} 0 1 = cc in omega arith)
-event-number K.Clock v r e = absurd (let z : ◌≡◌ {A = ℕ} 0 1 = cc in omega arith)
-event-number K.DayEnd v r e = absurd (let z : ◌≡◌ {A = ℕ} 0 1 = cc in omega arith)
-event-number K.National v r e = absurd (let z : ◌≡◌ {A = ℕ} 0 1 = cc in omega arith)
-event-number K.Range v r e = absurd (let z : ◌≡◌ {A = ℕ} 0 1 = cc in omega arith)
-event-number K.Specialist v r e = absurd (let z : ◌≡◌ {A = ℕ} 0 1 = cc in omega arith)
-event-number K.Unknown v r e = let z : F.BadFrame ≡ r = cc in rw (← z) (omega arith, omega arith)
+    pick_all P _ two (pick_all P _ (by (kind_at f)) two)
+  where
+    by : (r : Result Kind Refusal) → (judge_kind r f ≡ 0) ⊎ ((2 ≤ judge_kind r f) × (judge_kind r f ≤ 3))
+    by (Err r) = inr (omega arith, omega arith)
+    by (Ok k) =
+        let P : ℕ → Type 0 = λ (x : ℕ). (x ≡ 0) ⊎ ((2 ≤ x) × (x ≤ 3)) in
+        pick_all P _ (pick_all P _ (inl refl) (inr (omega arith, omega arith))) (inr (omega arith, omega arith))
 
 pub reads : (f : List ℕ) → Read (read_of f)
-unfolding read_of
-reads f = record { number = λ c. pick-by (λ (r : Result Event Refusal). r ≡ Err c → (2 ≤ refusal_number c) × (refusal_number c ≤ 3)) (eqb (judge_of f) 0) (λ _. event-number (kind_at f) (row_at f) c) (other c) }
+reads f = record { number = λ c e. by c (eqb (judge_of f) 0) refl e }
   where
-    other : (c : Refusal) → eqb (judge_of f) 0 ≡ false → ◌≡◌ {A = Result Event Refusal} (Err (refusal_of (judge_of f))) (Err c) → (2 ≤ refusal_number c) × (refusal_number c ≤ 3)
-    other c t e =
-        let z : refusal_of (judge_of f) ≡ c = cc in
-        ⊎_elim (λ h. absurd (eqb-false (judge_of f) 0 t h))
-        (λ h. rw (← z, number-refusal (judge_of f) (omega (arith, h.0)) (omega (arith, h.1))) h) (judge-number f)
+    by : (c : Refusal) (t : Bool) → eqb (judge_of f) 0 ≡ t → read_of f ≡ Err c → (2 ≤ refusal_number c) × (refusal_number c ≤ 3)
+    by c true t e =
+        let x = judge-event f (eqb-true _ _ t) in
+        absurd (apart (sym x.1 ∙ e))
+      where
+        apart : {v : Event} → ◌≡◌ {A = Result Event Refusal} (Ok v) (Err c) → ⊥
+        apart p = let z : ◌≡◌ {A = ℕ} 0 1 = cc in omega arith
+    by c false t e =
+        let n = eqb-false (judge_of f) 0 t in
+        let z : refusal_of (judge_of f) ≡ c = same (sym (read-refused f n) ∙ e) in
+        ⊎_elim (λ h. absurd (n h)) (λ h. rw (← z, number-refusal (judge_of f) (omega (arith, h.0)) (omega (arith, h.1))) h) (judge-number f)
+      where
+        same : {r s : Refusal} → ◌≡◌ {A = Result Event Refusal} (Err r) (Err s) → r ≡ s
+        same p = cc
 
 -- a frame that was refused as it was read is refused
 refused-some : (b : State) (space : ℕ) (r : Refusal) → refusal b (Err r) space ≡ 0 → ⊥

@@ -43,7 +43,7 @@ unfolding
     Walks.sum_n Walks.table Walks.all_n Walks.walk Walks.any_n Walks.first_n Walks.join_n
     Sets.has Sets.set_n Sets.minus Sets.size_of Sets.lowest_of
     Gcd.euclid Gcd.gcd
-    Fields.raw_of Fields.present_of Fields.layout Fields.offset Fields.within_of Fields.fit_n
+    Fields.raw_of Fields.present_of Fields.layout Fields.offset Fields.holds Fields.fit_n
     Kinds.kind_of Kinds.length_of
     Rows.layout_in Rows.fitting Rows.length_in
     Table.layout_of

@@ -22,5 +22,5 @@ encode-requires c = rw (layout-in c.args.event c.kind_in-kind.ensures c.fields_o
 pub returns : goal.returns
 returns c = frame-stores c.args.event c.args.space.now
     (c.put.ensures ∙ rw c.length_in-n.ensures)
-    (c.put-2.ensures ∙ rw (c.code_of.ensures, c.kind_in-kind.ensures))
+    (c.put-2.ensures ∙ rw (c.from.ensures, c.kind_in-kind.ensures))
     (c.encode.ensures ∙ rw (layout-in c.args.event c.kind_in-kind.ensures c.fields_of.ensures c.length_in-n.ensures, c.row_of.ensures))

@@ -1,10 +1,7 @@
-use Rattle.std.proofs.Common.{◌≡◌, ◌-◌, ◌≤◌}
+use Rattle.std.proofs.Common.{◌≡◌}
 use Rattle.events.specs.Fields.{layout, offset}
 use Rattle.frames.specs.Bodies.{row_n}
 use Rattle.frames.proofs.bodies.decode.Given as goal
 
 abbrev pub invariant-loop-i : goal.invariant-loop-i
-invariant-loop-i l = (l.i ≤ 19) × (l.at ≡ offset (layout l.fields l.m) l.i) × (l.row ≡ row_n (layout l.fields l.m) l.frame l.i)
-
-abbrev pub decreases-loop-i : goal.decreases-loop-i
-decreases-loop-i l = 19 - l.i
+invariant-loop-i l = (l.at ≡ offset (layout l.entry-items l.m) l.i) × (l.row ≡ row_n (layout l.entry-items l.m) l.frame l.i)

@@ -1,6 +1,6 @@
-use Rattle.frames.specs.Carried.{carried-by}
-use Rattle.events.specs.declared.Kind.TheVariants as K
+use Rattle.std.proofs.Common.{sym, ◌∙◌}
+use Rattle.frames.specs.Carried.{value-err, exit}
 use Rattle.frames.proofs.carried.clock_in.Goals as goal
 
-pub returns : goal.returns
-returns c = rw (c.if_fits.ensures, c.test-time.ensures) (carried-by K.Clock _)
+pub returns-in_err-read : goal.returns-in_err-read
+returns-in_err-read c = exit c.from_residual.ensures.1 ∙ sym (value-err _ c.in_err-read.ensures)

@@ -1,6 +1,6 @@
-use Rattle.frames.specs.Carried.{carried-by}
-use Rattle.events.specs.declared.Kind.TheVariants as K
+use Rattle.std.proofs.Common.{sym, ◌∙◌}
+use Rattle.frames.specs.Carried.{value-err, exit}
 use Rattle.frames.proofs.carried.range_in.Goals as goal
 
-pub returns : goal.returns
-returns c = rw (c.if_fits.ensures, c.test-range.ensures) (carried-by K.Range _)
+pub returns-in_err-read : goal.returns-in_err-read
+returns-in_err-read c = exit c.from_residual.ensures.1 ∙ sym (value-err _ c.in_err-read.ensures)

@@ -1,5 +1,0 @@
-use Rattle.std.proofs.Common.{refl}
-use Rattle.events.proofs.table.specialist_fields.Goals as goal
-
-pub returns : goal.returns
-returns c = refl
