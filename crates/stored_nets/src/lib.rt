@@ -33,7 +33,8 @@ fn leg_of(t: Strategy, s: u8) -> Option<Leg>
         .find(|l| l.series == s)
 }
 
-// A net after the price of one of its legs, which had one, went from p to q, each 0 where it is unknown.
+// A net after the price of one of its legs, which had one, went from p to q, each 0 where it is unknown, as
+// the nets are stored.
 fn net_moved(net: u32, l: Leg, p: u32, q: u32) -> u32
     requires { (net ≤ 20000000) × (l.ratio ≤ 12) × (p ≤ 99999) × (q ≤ 99999) }
     ensures { result ≡ net_moved net l p q }
