@@ -100,7 +100,7 @@ fn weighed(side: u8, legs: [Leg; 6], ps: [u32; 6], count: usize) -> u32
     n
 }
 
-// The net of the buy legs less the sell legs, as a level; 0 where it is unknown.
+// The net of the buy legs less the sell legs, as a level; 0 where it is unknown, as the rules' net_of and bounds have it.
 pub fn net_of(s: Strategy, ps: [u32; 6]) -> u32
     requires { FitLegs s × AtMost 99999 ps }
     ensures { result ≡ net_of s ps }
@@ -223,7 +223,8 @@ pub fn betters(unknown: bool, side: u8, level: u32, net: Option<u32>) -> bool
     net.map_or(unknown, |net| better(other(side), level, net))
 }
 
-// The best price so far and a leg order's, where it stands in that series and side.
+// The best price so far and a leg order's, where it stands in that series and side. A price of 0 is none here, and no option:
+// price_of promises the rule's price for leg orders at any price, and the rule takes one of 0 for none.
 fn price_with(s: u8, side: u8, p: u32, o: LegOrder) -> u32
     ensures { result ≡ price_with s side p o }
 {

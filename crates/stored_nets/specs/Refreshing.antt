@@ -26,7 +26,7 @@ use Rattle.rules.proofs.Laws.{side-is, other-other, other-buy, other-sell}
 use Rattle.rules.proofs.Nets.{table_same}
 use Rattle.rules.proofs.BetterNets.{price-most}
 use Rattle.ranges.specs.Fit.{FitLegs, fit-leg, fit-legs}
-use Rattle.stored_nets.specs.Stored.{Prices, with_price, leg_prices, nets_by, all_nets_by, leg_of, by_leg, net_moved, nets_moved, moved_at, all_moved, nets_anew, anew_at, all_anew, Refreshed}
+use Rattle.stored_nets.specs.Stored.{Prices, with_price, leg_prices, nets_by, all_nets_by, leg_of, by_leg, net_moved, nets_moved, moved_at, all_moved, nets_anew, anew_at, all_anew, nets_after, after_at, Refreshed}
 use Rattle.stored_nets.specs.Laws.{with-price-at, with-price-other, with-price-is, with-price-most, all-nets-ext, all-nets-at}
 use Rattle.stored_nets.specs.Places.{leg_in, Found, Missing, leg-or-none, not-held}
 use Rattle.stored_nets.specs.Moves.{net-kept, net-change}
@@ -198,6 +198,15 @@ module _ (ns : List LegNets) (ss : List Strategy) (os : List LegOrder) (s d p : 
           (λ _. sym (nets-moves t (fit-legs fit k) f s d q few h two g (omega arith)))
           (λ y. nets-stay t (fit-legs fit k) f s d q (not-held t (fit-legs fit k) s y)))));
     }
+
+-- .. or there was none
+pub all-after-none : (ns : List LegNets) (ss : List Strategy) (os : List LegOrder) (s d p q : ℕ) → p ≡ 0 → table (after_at ns ss os s d p q) 16 ≡ all_anew ns ss os s d
+unfolding all_anew nets_after pick
+all-after-none ns ss os s d p q e = rw e refl
+
+pub all-after-some : (ns : List LegNets) (ss : List Strategy) (os : List LegOrder) (s d p q : ℕ) → ¬ (p ≡ 0) → table (after_at ns ss os s d p q) 16 ≡ all_moved ns ss s d p q
+unfolding all_moved nets_after pick table
+all-after-some ns ss os s d p q n = let e : eqb p 0 ≡ false = ne_eqb p 0 n in rw e refl
 
 -- THE LOOPS: the first i slots are stored
 

@@ -86,6 +86,14 @@ anew_at ns ss os s side k = by_leg (get_or ss k no_strategy) s (get_or ns k no_n
 unfoldable pub all_anew : List LegNets → List Strategy → List LegOrder → ℕ → ℕ → List LegNets
 all_anew ns ss os s side = table (anew_at ns ss os s side) strategy_slots
 
+-- .. by whether the price of leg l was there before
+unfoldable pub nets_after : LegNets → Strategy → Leg → ℕ → List LegOrder → ℕ → ℕ → LegNets
+nets_after n t l side os p q = pick (eqb p 0) (nets_anew n t l side os) (nets_moved n l side p q)
+
+-- .. of the strategy at slot k, if it holds series s
+abbrev pub after_at : List LegNets → List Strategy → List LegOrder → ℕ → ℕ → ℕ → ℕ → ℕ → LegNets
+after_at ns ss os s side p q k = by_leg (get_or ss k no_strategy) s (get_or ns k no_nets) (λ (l : Leg). nets_after (get_or ns k no_nets) (get_or ss k no_strategy) l side os p q)
+
 -- what becomes of the nets ns where the best price of series s on side d goes from p to that among these leg orders: if they were those of some
 -- prices, they are those of these prices with that one changed. Where there was no price before, the other prices have to be those of the leg orders.
 pub record Refreshed (ns : List LegNets) (ss : List Strategy) (os : List LegOrder) (s d p : ℕ) (ms : List LegNets) : Type 0 where

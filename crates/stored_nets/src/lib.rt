@@ -7,7 +7,7 @@ ghost use Rattle.base.specs.Chains.{unless_zero};
 ghost use Rattle.rules.specs.Nets.{net_of, prices};
 ghost use Rattle.rules.specs.Valid.{FitOrder, Priced};
 ghost use Rattle.ranges.specs.Fit.{FitLegs};
-ghost use Rattle.stored_nets.specs.Stored.{net_for, leg_of, net_moved, nets_moved, all_moved, nets_anew, all_anew, FitNets, Refreshed};
+ghost use Rattle.stored_nets.specs.Stored.{net_for, leg_of, net_moved, nets_moved, nets_anew, nets_after, FitNets, Refreshed};
 
 use nets::{leg_bests, price_of};
 use rules::{Leg, LegNets, LegOrder, State, Strategy};
@@ -33,7 +33,8 @@ fn leg_of(t: Strategy, s: u8) -> Option<Leg>
         .find(|l| l.series == s)
 }
 
-// A net after the price of one of its legs, which had one, went from p to q, each 0 where it is unknown.
+// A net after the price of one of its legs, which had one, went from p to q, each 0 where it is unknown, as
+// the nets are stored.
 fn net_moved(net: u32, l: Leg, p: u32, q: u32) -> u32
     requires { (net ≤ 20000000) × (l.ratio ≤ 12) × (p ≤ 99999) × (q ≤ 99999) }
     ensures { result ≡ net_moved net l p q }
@@ -65,29 +66,6 @@ fn nets_moved(n: LegNets, l: Leg, side: u8, p: u32, q: u32) -> LegNets
             ..n
         }
     }
-}
-
-// The nets after the best price of that series and side, which was there, went from p to q.
-fn moved(
-    ns: [LegNets; State::STRATEGIES],
-    ss: [Strategy; State::STRATEGIES],
-    s: u8,
-    side: u8,
-    p: u32,
-    q: u32,
-) -> [LegNets; State::STRATEGIES]
-    requires { All FitLegs ss × All FitNets ns × (p ≤ 99999) × (q ≤ 99999) }
-    ensures { result ≡ all_moved ns ss s side p q }
-{
-    let mut ms = ns;
-    for (k, t) in ss.iter().enumerate() {
-        if holds(*t, s) {
-            if let Some(l) = leg_of(*t, s) {
-                ms[k] = nets_moved(ns[k], l, side, p, q);
-            }
-        }
-    }
-    ms
 }
 
 // A leg net of a strategy as it is stored.
@@ -122,26 +100,24 @@ fn nets_anew(
     }
 }
 
-// The nets after that series and side got a price, where there was none.
-fn appeared(
-    ns: [LegNets; State::STRATEGIES],
-    ss: [Strategy; State::STRATEGIES],
-    os: [LegOrder; State::LEG_ORDERS],
-    s: u8,
+// Both nets of a strategy after the price of leg l on that side went from p, 0 where there was none, to q.
+fn nets_after(
+    n: LegNets,
+    t: Strategy,
+    l: Leg,
     side: u8,
-) -> [LegNets; State::STRATEGIES]
-    requires { All FitLegs ss × All FitOrder os × All Priced os }
-    ensures { result ≡ all_anew ns ss os s side }
+    os: [LegOrder; State::LEG_ORDERS],
+    p: u32,
+    q: u32,
+) -> LegNets
+    requires { FitNets n × FitLegs t × (l.ratio ≤ 12) × All FitOrder os × All Priced os × (p ≤ 99999) × (q ≤ 99999) }
+    ensures { result ≡ nets_after n t l side os p q }
 {
-    let mut ms = ns;
-    for (k, t) in ss.iter().enumerate() {
-        if holds(*t, s) {
-            if let Some(l) = leg_of(*t, s) {
-                ms[k] = nets_anew(ns[k], *t, l, side, os);
-            }
-        }
+    if p == 0 {
+        nets_anew(n, t, l, side, os)
+    } else {
+        nets_moved(n, l, side, p, q)
     }
-    ms
 }
 
 // The nets after the best price of that series and side went from p to what it is among these leg orders.
@@ -160,8 +136,14 @@ pub fn refreshed(
     if q == p {
         return ns;
     }
-    match p {
-        Some(p) if p != 0 => moved(ns, ss, s, side, p, q.unwrap_or(0)),
-        _ => appeared(ns, ss, os, s, side),
+    let (old, new) = (p.unwrap_or(0), q.unwrap_or(0));
+    let mut ms = ns;
+    for (k, t) in ss.iter().enumerate() {
+        if holds(*t, s) {
+            if let Some(l) = leg_of(*t, s) {
+                ms[k] = nets_after(ns[k], *t, l, side, os, old, new);
+            }
+        }
     }
+    ms
 }

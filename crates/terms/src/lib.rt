@@ -1,4 +1,5 @@
-// The ratios of a definition: lowest terms, and what is refused.
+// The ratios of a definition: lowest terms, and what is refused. The six rows and the count of those in use stay two arguments and
+// no slice: the contracts, as that of place_of, hold for a count past six too, where a row is empty.
 #![tactic(auto)]
 
 ghost use Rattle.std.specs.Prelude.{◌≡◌, ◌*◌, ◌/◌, ◌%◌, get_or};
