@@ -25,7 +25,7 @@ fn well_formed(e: OrderEntry) -> bool
             && e.price <= 99999)
 }
 
-// An entry as a leg order, if it is well formed.
+// An entry as a leg order, if it is well formed. It is no `TryFrom`, which only the crate of both types, that of the rules, may write.
 #[tactic(auto, unfolding(base::specs::Pick::pick, crate::specs::Rows::order_of, crate::specs::Rows::order_read))]
 fn order_of(e: OrderEntry) -> Result<LegOrder, Refusal>
     ensures { result ≡ order_read e }

@@ -92,7 +92,7 @@ pub fn depth(os: [LegOrder; State::LEG_ORDERS], s: u32, side: u32) -> Result<Opt
     Ok((b.price != 0).then_some(b))
 }
 
-// A leg order as an order entry.
+// A leg order as an order entry. It is no `From`, which only the crate of both types, that of the rules, may write.
 #[tactic(auto, unfolding(crate::specs::Lookups::entry_of))]
 fn entry_of(o: LegOrder) -> OrderEntry
     ensures { result ≡ entry_of o }
