@@ -1,6 +1,7 @@
 -- The first frame of the rest of the input: "its whole length (2 bytes)", little-endian.
-use Rattle.std.specs.Prelude.{◌≡◌, List, ℕ, ◌≤◌, ◌<◌, ltb, length}
-use Rattle.std.proofs.Common.{◌∙◌, arith, ltb-false}
+use Rattle.std.specs.Prelude.{◌≡◌, List, ℕ, zero, suc, ◌≤◌, ◌<◌, ◌⊎◌, ltb, length}
+use Rattle.std.proofs.Common.{refl, sym, ◌∙◌, ap, inl, inr, Some, arith, ltb-false}
+use Rattle.base.specs.Chains.{unless_zero}
 use Rattle.base.specs.Pick.{pick, pick-by, tests}
 use Rattle.frames.specs.Number.{number}
 
@@ -32,21 +33,25 @@ pub needed-whole : (rest : List ℕ) {n : ℕ} → n ≡ told_length rest → 2 
 unfolding needed_of
 needed-whole rest e l h = let k : 4 ≤ told_length rest = omega arith in e ∙ search tests
 
-pub cut-under : (rest : List ℕ) {n : ℕ} → n ≡ told_length rest → 2 ≤ length rest → n < 4 → 0 ≡ cut_of rest
+pub cut-short : (rest : List ℕ) → length rest < 2 → 0 ≡ cut_of rest
 unfolding cut_of
-cut-under rest e l h = let k : told_length rest < 4 = omega arith in search tests
+cut-short rest l = search tests
 
-pub cut-past : (rest : List ℕ) {n : ℕ} → n ≡ told_length rest → 2 ≤ length rest → 4 ≤ n → length rest < n → 0 ≡ cut_of rest
+pub cut_none : (rest : List ℕ) {n : ℕ} → n ≡ told_length rest → 2 ≤ length rest → (n < 4) ⊎ (length rest < n) → 0 ≡ cut_of rest
 unfolding cut_of
-cut-past rest e l h x =
-    let k : 4 ≤ told_length rest = omega arith in
+cut_none rest e l (inl h) = let k : told_length rest < 4 = omega arith in search tests
+cut_none rest {n} e l (inr h) =
     let y : length rest < told_length rest = omega arith in
-    search tests
+    sym (pick-by (λ (m : ℕ). m ≡ 0) _ (λ _. refl) (λ _. pick-by (λ (m : ℕ). m ≡ 0) _ (λ _. refl) (λ _. search tests)))
 
-pub cut-whole : (rest : List ℕ) {n : ℕ} → n ≡ told_length rest → 2 ≤ length rest → 4 ≤ n → n ≤ length rest → n ≡ cut_of rest
+pub cut-whole : (rest : List ℕ) {n : ℕ} → n ≡ told_length rest → 2 ≤ length rest → 4 ≤ n → n ≤ length rest → Some n ≡ unless_zero (cut_of rest)
 unfolding cut_of
-cut-whole rest e l h x =
+cut-whole rest {n} e l h x =
     let k : 4 ≤ told_length rest = omega arith in
     let y : told_length rest ≤ length rest = omega arith in
     let z : told_length rest ≡ cut_of rest = search tests in
-    e ∙ z
+    some-of n _ h (e ∙ z)
+  where
+    some-of : (n m : ℕ) → 4 ≤ n → n ≡ m → Some n ≡ unless_zero m
+    some-of n zero h e = absurd (omega arith)
+    some-of n (suc m) h e = ap Some e

@@ -1,13 +1,11 @@
 -- "The program `tape` reads frames from standard input, prints `E` index answer value count, the index from 0, then `R` lines, one a record."
-use Rattle.std.specs.Prelude.{List, [], ◌∷◌, ◌++◌, ℕ, zero, suc, ◌+◌, ◌*◌, ◌/◌, ◌%◌, ltb, ℤ, pos, negsuc, take, drop}
+use Rattle.std.specs.Prelude.{List, [], ◌∷◌, ◌++◌, ℕ, zero, suc, ◌+◌, ◌*◌, ◌/◌, ◌%◌, ltb, ℤ, pos, negsuc, take, drop, Option, None, Some}
 use Rattle.base.specs.Pick.{pick}
 use Rattle.rules.specs.declared.Answer.{Answer}
 use Rattle.rules.specs.declared.Record.{Record}
 use Rattle.rules.specs.Lookups.{ToldNet, known, unknown}
 use Rattle.rules.specs.Records.{line_of, numbers_of}
 use Rattle.rules.specs.Step.{Outcome, answer_of, answer_number, answer_value, answer_count}
-use Rattle.lines.specs.declared.Net.{Net}
-use Rattle.lines.specs.declared.Net.TheVariants as N
 
 -- the digits of a number, the highest first, at most n and one of them
 unfoldable pub digits : ℕ → ℕ → List ℕ
@@ -63,7 +61,7 @@ net_text unknown = 45 ∷ []
 unfoldable pub told_line : ℕ → ℕ → ToldNet → ToldNet → List ℕ
 told_line letter i x y = letter ∷ ((32 ∷ signed (pos i)) ++ ((32 ∷ net_text x) ++ ((32 ∷ net_text y) ++ (10 ∷ []))))
 
--- what each case of a net tells
-unfoldable pub net_tells : Net → ToldNet
-net_tells (N.Known z) = known z
-net_tells N.Unknown = unknown
+-- what a net tells that is there or not
+unfoldable pub net_tells : Option ℤ → ToldNet
+net_tells (Some z) = known z
+net_tells None = unknown
