@@ -1,6 +1,7 @@
 -- The first frame of the rest of the input: "its whole length (2 bytes)", little-endian.
-use Rattle.std.specs.Prelude.{◌≡◌, List, ℕ, zero, suc, ◌≤◌, ◌<◌, ◌⊎◌, ltb, length}
+use Rattle.std.specs.Prelude.{◌≡◌, Bool, true, false, MatchBool, List, ℕ, zero, suc, ◌≤◌, ◌<◌, ◌⊎◌, ltb, length}
 use Rattle.std.proofs.Common.{refl, sym, ◌∙◌, ap, inl, inr, Some, arith, ltb-false}
+use Rattle.std.specs.Bool.{then_some}
 use Rattle.base.specs.Chains.{unless_zero}
 use Rattle.base.specs.Pick.{pick, pick-by, tests}
 use Rattle.frames.specs.Number.{number}
@@ -55,3 +56,9 @@ cut-whole rest {n} e l h x =
     some-of : (n m : ℕ) → 4 ≤ n → n ≡ m → Some n ≡ unless_zero m
     some-of n zero h e = absurd (omega arith)
     some-of n (suc m) h e = ap Some e
+
+pub cut-by :
+    (rest : List ℕ) {n : ℕ} (t : Bool) → n ≡ told_length rest → 2 ≤ length rest → MatchBool t ((4 ≤ n) × (n ≤ length rest)) ((n < 4) ⊎ (length rest < n)) →
+    then_some t n ≡ unless_zero (cut_of rest)
+cut-by rest true e l (h, x) = cut-whole rest e l h x
+cut-by rest false e l h = ap unless_zero (cut_none rest e l h)

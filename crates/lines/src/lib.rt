@@ -8,7 +8,6 @@ ghost use Rattle.rules.specs.Step.{answer_number, answer_value, answer_count};
 ghost use Rattle.lines.specs.Lines.{decimal, signed, spaced, text_line, record_lines, event_text, net_text, told_line, net_tells};
 ghost use Rattle.lines.specs.Cuts.{told_length, needed_of, cut_of};
 
-use frames::numbers::wide;
 use rules::Answer;
 
 // The number of two bytes at a place.
@@ -16,9 +15,7 @@ pub fn two_bytes(bytes: &[u8], at: usize) -> usize
     requires { at + 2 ≤ length bytes.now }
     ensures { (result ≡ number 2 bytes.now at) × (result < 65536) }
 {
-    let low = wide(bytes[at]);
-    let high = wide(bytes[at + 1]);
-    (low + 256 * high) as usize
+    usize::from(u16::from_le_bytes([bytes[at], bytes[at + 1]]))
 }
 
 // The length that the first two bytes tell.
@@ -49,11 +46,11 @@ pub fn cut(rest: &[u8]) -> Option<usize>
         return None;
     }
     let n = told_length(rest);
-    if n < 4 || rest.len() < n {
-        return None;
-    }
-    Some(n)
+    (4..=rest.len()).contains(&n).then_some(n)
 }
+
+// What is put for a net that is not known.
+const UNKNOWN: u8 = b'-';
 
 // A text in a space of bytes: what is put goes behind what is there, and everything else stays.
 #[derive(Drop)]
@@ -188,7 +185,7 @@ impl<'a> Text<'a> {
             Some(x) => self.signed(x),
             None => {
                 self.push(b' ');
-                self.push(b'-');
+                self.push(UNKNOWN);
             }
         }
     }
