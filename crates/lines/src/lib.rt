@@ -1,7 +1,7 @@
 // The pure parts of the programs: frames cut from the input, and lines put into a space of bytes.
 #![tactic(auto)]
 
-ghost use Rattle.std.specs.Prelude.{◌+◌, ◌*◌, ◌≤◌, ◌<◌, ◌≡◌, [], ◌∷◌, pos, length, map};
+ghost use Rattle.std.specs.Prelude.{◌+◌, ◌-◌, ◌*◌, ◌≤◌, ◌<◌, ◌≡◌, [], ◌∷◌, pos, length, take, map};
 ghost use Rattle.base.specs.Chains.{unless_zero};
 ghost use Rattle.frames.specs.Number.{number};
 ghost use Rattle.rules.specs.Step.{answer_number, answer_value, answer_count};
@@ -70,6 +70,28 @@ impl<'a> Text<'a> {
         ensures same { result.out.ghost_name ≡ out.entry.ghost_name }
     {
         Text { out, used: 0 }
+    }
+
+    // The bytes of the text.
+    pub fn bytes(&self) -> &[u8]
+        ensures { result.now ≡ take self.now.used self.now.out.now }
+    {
+        &self.out[..self.used]
+    }
+
+    // How many more bytes the space takes.
+    pub fn room(&self) -> usize
+        ensures { result ≡ length self.now.out.now - self.now.used }
+    {
+        self.out.len() - self.used
+    }
+
+    // The text goes, and the space stays.
+    pub fn clear(&mut self)
+        ensures used { self.new.used ≡ 0 }
+        ensures space { self.new.out ≡ self.old.out }
+    {
+        self.used = 0;
     }
 
     // One byte.
