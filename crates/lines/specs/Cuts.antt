@@ -57,6 +57,11 @@ cut-whole rest {n} e l h x =
     some-of n zero h e = absurd (omega arith)
     some-of n (suc m) h e = ap Some e
 
+-- what the length of a first piece tells, where 0 stands for none
+pub first-some : (k : ℕ) {n : ℕ} → Some n ≡ unless_zero k → (n ≡ k) × (n ≡ 0 → ⊥)
+first-some zero e = cc
+first-some (suc k) {n} e = let h : n ≡ suc k = cc in (h, λ z. omega arith)
+
 pub cut-by :
     (rest : List ℕ) {n : ℕ} (t : Bool) → n ≡ told_length rest → 2 ≤ length rest → MatchBool t ((4 ≤ n) × (n ≤ length rest)) ((n < 4) ⊎ (length rest < n)) →
     then_some t n ≡ unless_zero (cut_of rest)
