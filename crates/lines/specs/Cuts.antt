@@ -45,17 +45,18 @@ cut_none rest {n} e l (inr h) =
     let y : length rest < told_length rest = omega arith in
     sym (pick-by (λ (m : ℕ). m ≡ 0) _ (λ _. refl) (λ _. pick-by (λ (m : ℕ). m ≡ 0) _ (λ _. refl) (λ _. search tests)))
 
+-- the length of a piece that is whole
+pub whole-some : (n m : ℕ) → 1 ≤ n → n ≡ m → Some n ≡ unless_zero m
+whole-some n zero h e = absurd (omega arith)
+whole-some n (suc m) h e = ap Some e
+
 pub cut-whole : (rest : List ℕ) {n : ℕ} → n ≡ told_length rest → 2 ≤ length rest → 4 ≤ n → n ≤ length rest → Some n ≡ unless_zero (cut_of rest)
 unfolding cut_of
 cut-whole rest {n} e l h x =
     let k : 4 ≤ told_length rest = omega arith in
     let y : told_length rest ≤ length rest = omega arith in
     let z : told_length rest ≡ cut_of rest = search tests in
-    some-of n _ h (e ∙ z)
-  where
-    some-of : (n m : ℕ) → 4 ≤ n → n ≡ m → Some n ≡ unless_zero m
-    some-of n zero h e = absurd (omega arith)
-    some-of n (suc m) h e = ap Some e
+    whole-some n _ (omega arith) (e ∙ z)
 
 -- what the length of a first piece tells, where 0 stands for none
 pub first-some : (k : ℕ) {n : ℕ} → Some n ≡ unless_zero k → (n ≡ k) × (n ≡ 0 → ⊥)

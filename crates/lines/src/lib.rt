@@ -103,6 +103,16 @@ impl<'a> Text<'a> {
         self.used += 1;
     }
 
+    // Some bytes.
+    pub fn put(&mut self, bytes: &[u8])
+        requires { Room self.old (length bytes.now) }
+        ensures { Put self.old self.new bytes.now }
+    {
+        for byte in bytes {
+            self.push(*byte);
+        }
+    }
+
     // The last two digits of a number.
     fn last_two(&mut self, n: u64)
         requires { Room self.old 2 }

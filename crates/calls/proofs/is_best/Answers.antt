@@ -1,4 +1,4 @@
-use Rattle.calls.specs.Listings.{best-is, best-other, best-empty, best-refused}
+use Rattle.calls.specs.Listings.{best-is, best-other, best-none}
 use Rattle.calls.proofs.is_best.Goals as goal
 
 pub returns-then-p-price : goal.returns-then-p-price
@@ -8,7 +8,4 @@ pub returns-else-p-price : goal.returns-else-p-price
 returns-else-p-price c = best-other _ _ c.in-Best.is c.if-p-price.false
 
 pub returns-in-Empty : goal.returns-in-Empty
-returns-in-Empty c = best-empty _ _ c.in-Empty.is
-
-pub returns-in-Refused : goal.returns-in-Refused
-returns-in-Refused c = best-refused _ _ c.in-Refused.is
+returns-in-Empty c = best-none _ _ c.in-Empty.is
