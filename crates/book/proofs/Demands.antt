@@ -4,25 +4,27 @@ use mathlib.Core.Bool.{Bool, true, false}
 use mathlib.Core.List.{List, [], ◌∷◌, ◌++◌, map}
 use Prim.Native.Nat.{ℕ, ◌+◌, ◌*◌, ◌≤◌}
 use native.Mathlib.Omega.{arith}
-use borrow.Author.Tests.{eqb-true, eqb-false, eq-eqb, ne_eqb, ltb-false}
+use borrow.Author.Tests.{eqb-true, eqb-false, ltb-false}
 use lib.Dec.{eqb, ltb}
 use lib.IntN.{ℤ}
 use lib.ListN.{length, take, drop}
 use lib.Seq.{sets-eq, take_at}
 use Rattle.base.specs.All.{All, all_nil, all_cons}
-use Rattle.base.specs.Pick.{pick, pick_true, pick-false}
+use Rattle.base.specs.Pick.{pick}
 use Rattle.base.specs.Walks.{clash}
-use Rattle.events.specs.declared.Reading.{Reading}
 use Rattle.frames.specs.Frames.{read_of}
 use Rattle.frames.specs.Round.{read-written, frame-read-written}
 use Rattle.rules.specs.declared.State.{State}
 use Rattle.rules.specs.declared.Record.{Record}
-use Rattle.rules.specs.declared.Answer.{Answer}
-use Rattle.rules.specs.declared.Answer.TheVariants as A
+use Rattle.rules.specs.declared.Accepted.{Accepted}
+use Rattle.events.specs.Refusals.{refusal_number, refusal-some}
+use Rattle.events.specs.declared.Refusal.{Refusal}
+use Rattle.events.specs.declared.Event.{Event}
+use Rattle.std.specs.Prelude.{Result, Ok, Err}
 use Rattle.rules.specs.State.{fresh}
 use Rattle.rules.specs.Moves.{Moved, still}
 use Rattle.rules.specs.Refusals.{applies, read_causes, table_of}
-use Rattle.rules.specs.Step.{Outcome, refused, step, answer_of, answer_number, answer_count}
+use Rattle.rules.specs.Step.{Outcome, refused, step, answer_number, answer_count}
 use Rattle.rules.specs.Records.{Line, line_of, numbers_of}
 use Rattle.rules.specs.Totals.{Sent, outcome, after, log_of, run}
 use Rattle.rules.specs.Valid.{Valid}
@@ -32,58 +34,44 @@ use Rattle.rules.proofs.Refusals.{refusals-exact, refused-still}
 use Rattle.rules.proofs.Room.{room}
 use Rattle.rules.proofs.StoredNets.{valid-nets}
 use Rattle.rules.proofs.Totals.{totals}
-use Rattle.rules.proofs.Validity.{valid-fresh}
 use Rattle.records.specs.Space.{laid, numbers, length-numbers, wrote-nil}
 use Rattle.book.specs.declared.Book.{Book}
-use Rattle.book.specs.declared.Taken.{Taken}
-use Rattle.book.specs.Books.{First, Stepped}
-use Rattle.book.specs.Calls.{Call, Calls, no_call, a_call, lines_in, numbers_in, ReadWhole, seen, Answers, Exact, TotalsHold}
-
--- THE ANSWER, by the number of the outcome.
-
-pub answer-none : (o : Outcome) → o.answer ≡ 0 → answer_of o ≡ A.Accepted o.value (length o.moved.records)
-unfolding answer_of
-answer-none o z = pick_true _ _ _ (eq-eqb _ 0 z)
-
-pub answer-some : (o : Outcome) → (o.answer ≡ 0 → ⊥) → answer_of o ≡ A.Refused o.answer
-unfolding answer_of
-answer-some o z = pick-false _ _ _ (ne_eqb _ 0 z)
-
-is_refused : Answer → Bool
-is_refused (A.Accepted v n) = false
-is_refused (A.Refused n) = true
+use Rattle.book.specs.Books.{Stepped}
+use Rattle.book.specs.Calls.{First, Call, Calls, no_call, a_call, lines_in, numbers_in, ReadWhole, seen, Answers, Exact, TotalsHold}
 
 -- DEMAND 1
 
-module _ (b : State) (frame : List ℕ) (s t : List ℤ) (x : Taken) (w : Stepped b frame s t x) where
+module _ (b : State) (frame : List ℕ) (s t : List ℤ) (c : State) (x : Result Accepted Refusal) (w : Stepped b frame s t c x) where
   abbrev came : Outcome
   came = step b frame (length s)
 
-  none-given : (value count : ℕ) → x.answer ≡ A.Accepted value count → came.answer ≡ 0
+  none-given : (a : Accepted) → x ≡ Ok a → came.answer ≡ 0
   unfolding answer_number
-  none-given value count g = sym w.number ∙ ap answer_number g
+  none-given a g = sym w.number ∙ ap answer_number g
 
-  some-given : (n : ℕ) → x.answer ≡ A.Refused n → (came.answer ≡ n) × (came.answer ≡ 0 → ⊥)
-  unfolding answer_number is_refused
-  some-given n g = (sym w.number ∙ ap answer_number g, λ z. clash (ap is_refused (sym w.answer ∙ g)) (ap is_refused (answer-none came z)))
+  some-given : (r : Refusal) → x ≡ Err r → came.answer ≡ refusal_number r
+  unfolding answer_number
+  some-given r g = sym w.number ∙ ap answer_number g
 
-  left_alone : came.moved ≡ still b → (x.book.state ≡ b) × (t ≡ s)
+  left_alone : came.moved ≡ still b → (c ≡ b) × (t ≡ s)
   left_alone m = (w.state ∙ ap (λ (y : Moved). y.state) m, w.space ∙ (ap (λ (y : Moved). laid s 0 y.records) m ∙ sym (wrote-nil s 0).space))
 
-  pub every-frame-answered : Answers b frame s t x
+  pub every-frame-answered : Answers b frame s t c x
   every-frame-answered =
       let exact = refusals-exact b frame (length s) in
       record {
-        accepted = λ value count g. exact.none (none-given value count g);
-        refused = λ n g.
-            let h = some-given n g in
-            let still-is = left_alone (refused-still b frame (length s) h.1) in
-            (subst (λ (m : ℕ). applies (table_of b (read_of frame) (length s)) m ≡ true) h.0 (exact.some h.1), λ m l. exact.first m (rw h.0 l), still-is.0, still-is.1);
+        accepted = λ a g. exact.none (none-given a g);
+        refused = λ r g.
+            let h = some-given r g in
+            let n = refusal-some r in
+            let some : came.answer ≡ 0 → ⊥ = λ z. omega arith in
+            let still-is = left_alone (refused-still b frame (length s) some) in
+            (subst (λ (m : ℕ). applies (table_of b (read_of frame) (length s)) m ≡ true) h (exact.some some), λ m l. exact.first m (rw h l), still-is.0, still-is.1);
       }
 
   -- DEMAND 2
 
-  pub every-answer-exact : Exact b frame s t x
+  pub every-answer-exact : Exact b frame s t c x
   every-answer-exact = record {
     answer = w.answer;
     state = w.state;
@@ -118,7 +106,7 @@ numbers-laid : (s : List ℤ) (rs : List Record) → length rs * 6 ≤ length s 
 numbers-laid s rs h = ap (take (length rs * 6)) (laid-first s rs h) ∙ take_at (numbers rs) (drop (0 + length (numbers rs)) s) (length rs * 6) (length-numbers rs)
 
 -- no cause applies of the space's length: it is long enough
-long-space : (b : State) (r : Reading) (n : ℕ) → applies (table_of b r n) 1 ≡ false → 15_360 ≤ n
+long-space : (b : State) (r : Result Event Refusal) (n : ℕ) → applies (table_of b r n) 1 ≡ false → 15_360 ≤ n
 unfolding table_of applies pick
 long-space b r n h = go (ltb n 15_360) refl h
   where
@@ -144,17 +132,17 @@ fits b v frame n = go (eqb (step b frame n).answer 0) refl
     go false u = rw (quiet b frame n (eqb-false _ _ u)).1 (omega arith)
 
 -- what the caller sees of a call is what the rules log of it, and every number of its records
-module _ (b : State) (v : Valid b) (frame : List ℕ) (s t : List ℤ) (x : Taken) (w : Stepped b frame s t x) where
+module _ (b : State) (v : Valid b) (frame : List ℕ) (s t : List ℤ) (c : State) (x : Result Accepted Refusal) (w : Stepped b frame s t c x) where
   abbrev rs : List Record
   rs = (step b frame (length s)).moved.records
 
-  lines_are : lines_in (answer_count x.answer) t ≡ map line_of rs
+  lines_are : lines_in (answer_count x) t ≡ map line_of rs
   lines_are = rw (w.count, w.space) (lines-back s rs (fits b v frame (length s)))
 
-  whole_is : ReadWhole (record { frame = frame; space = s; left = t; answer = x.answer })
+  whole_is : ReadWhole (record { frame = frame; space = s; left = t; answer = x })
   whole_is = ap numbers_in lines_are ∙ numbers-lines rs ∙ sym (rw (w.count, w.space) (numbers-laid s rs (fits b v frame (length s))))
 
-  seen-is : seen (record { frame = frame; space = s; left = t; answer = x.answer }) ≡ log_of (record { frame = frame; space = length s }) (step b frame (length s))
+  seen-is : seen (record { frame = frame; space = s; left = t; answer = x }) ≡ log_of (record { frame = frame; space = length s }) (step b frame (length s))
   seen-is = rw (w.number, w.value, lines_are)
 
 -- the list of calls is the rules' run
@@ -166,22 +154,22 @@ record Follows (b : Book) (cs : List Call) (end : Book) : Type 0 where
   left : end.state ≡ after b.state (map sent_of cs)
   whole : All ReadWhole cs
 
-follows : {b : Book} {cs : List Call} {end : Book} → Valid b.state → Calls b cs end → Follows b cs end
+follows : {b : Book} {cs : List Call} {end : Book} → Calls b cs end → Follows b cs end
 unfolding run after outcome
-follows v (no_call b) = record { log = refl; left = refl; whole = all_nil }
-follows v (a_call b frame s t x w cs end r) =
-    let h : Follows x.book cs end = follows w.valid r in
+follows (no_call b) = record { log = refl; left = refl; whole = all_nil }
+follows (a_call b frame s t c x w cs end r) =
+    let h : Follows c cs end = follows r in
     let e = h.log ∙ ap (λ (y : State). run y (map sent_of cs)) w.state in
     record {
-      log = rw (seen-is b.state v frame s t x w, e);
+      log = rw (seen-is b.state b.valid frame s t c.state x w, e);
       left = h.left ∙ ap (λ (y : State). after y (map sent_of cs)) w.state;
-      whole = all_cons (whole_is b.state v frame s t x w) h.whole;
+      whole = all_cons (whole_is b.state b.valid frame s t c.state x w) h.whole;
     }
 
 -- every list of calls from a fresh book
 pub totals-after-calls : (timer : ℕ) → 1 ≤ timer → timer ≤ 5000 → (b : Book) → b.state ≡ fresh timer → (cs : List Call) (end : Book) → Calls b cs end → TotalsHold cs end
 totals-after-calls timer low high b g cs end r =
-    let h : Follows b cs end = follows (rw g (valid-fresh timer low high)) r in
+    let h : Follows b cs end = follows r in
     record {
       whole = h.whole;
       totals = λ day. rw (h.log, h.left, g) (totals timer low high (map sent_of cs) (rw (h.log, g) at day));
@@ -189,17 +177,13 @@ totals-after-calls timer low high b g cs end r =
 
 -- .. from the first book, which the constructor gives
 pub totals-after-first : (b : Book) → First b → (cs : List Call) (end : Book) → Calls b cs end → TotalsHold cs end
-totals-after-first b f cs end r = totals-after-calls 5000 (omega arith) (omega arith) b f.state cs end r
+totals-after-first b f cs end r = totals-after-calls 5000 (omega arith) (omega arith) b f cs end r
 
--- every list of calls from a valid book leads to one
-pub valid-after-calls : {b : Book} {cs : List Call} {end : Book} → Valid b.state → Calls b cs end → Valid end.state
-valid-after-calls v (no_call b) = v
-valid-after-calls v (a_call b frame s t x w cs end r) = valid-after-calls w.valid r
+-- every book is valid, so every list of calls leads to one that is
+pub valid-after-calls : {b : Book} {cs : List Call} {end : Book} → Calls b cs end → Valid end.state
+valid-after-calls {b} {cs} {end} r = end.valid
 
 -- 2026-05: "After every list of events from a fresh book the stored nets of each strategy held are those of the leg books", of every list of calls
-pub nets-after-calls : (timer : ℕ) → 1 ≤ timer → timer ≤ 5000 → (b : Book) → b.state ≡ fresh timer → (cs : List Call) (end : Book) → Calls b cs end → NetsTrue end.state
-nets-after-calls timer low high b g cs end r = valid-nets (valid-after-calls (rw g (valid-fresh timer low high)) r)
-
--- .. from the first book
-pub nets-after-first : (b : Book) → First b → (cs : List Call) (end : Book) → Calls b cs end → NetsTrue end.state
-nets-after-first b f cs end r = valid-nets (valid-after-calls f.valid r)
+-- from any book
+pub nets-after-calls : (b : Book) (cs : List Call) (end : Book) → Calls b cs end → NetsTrue end.state
+nets-after-calls b cs end r = valid-nets end.valid

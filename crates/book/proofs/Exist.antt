@@ -4,23 +4,23 @@ use mathlib.Core.Path.{◌≡◌, refl, sym, ◌∙◌, ap}
 use mathlib.Core.Bool.{Bool, true, false}
 use mathlib.Core.List.{List, [], ◌∷◌, map}
 use Prim.Native.Nat.{ℕ, ◌*◌, ◌≤◌}
+use native.Mathlib.Omega.{arith}
 use borrow.Author.Tests.{eqb-true, eqb-false}
 use lib.Dec.{eqb}
 use lib.IntN.{ℤ}
 use lib.ListN.{length}
 use lib.Seq.{length-sets}
-use Rattle.rules.specs.declared.State.{State}
 use Rattle.rules.specs.State.{fresh}
 use Rattle.rules.specs.Step.{Outcome, step, answer_of, answer_number, answer_value, answer_count}
-use Rattle.rules.specs.Valid.{Valid}
 use Rattle.rules.proofs.Room.{room}
 use Rattle.rules.proofs.Validity.{valid-fresh, valid-step}
 use Rattle.records.specs.Space.{laid, numbers}
 use Rattle.book.specs.declared.Book.{Book}
-use Rattle.book.specs.declared.Taken.{Taken}
+use Rattle.events.specs.Refusals.{refusal_of, number-refusal}
+use Rattle.rules.proofs.Answers.{answer-most, answer-none, answer-some, answer-number}
 use Rattle.book.specs.Books.{Stepped}
 use Rattle.book.specs.Calls.{Call, Calls, no_call, a_call}
-use Rattle.book.proofs.Demands.{answer-none, answer-some, quiet}
+use Rattle.book.proofs.Demands.{quiet}
 
 -- what a caller sends: any bytes, and a record space of any numbers
 pub record Request : Type 0 where
@@ -39,12 +39,12 @@ pub record Exists (b : Book) (qs : List Request) : Type 0 where
   pub made : Calls b calls end
 
 -- the answer and the space that the rules give
-module _ (b : State) (v : Valid b) (q : Request) where
+module _ (b : Book) (q : Request) where
   abbrev came : Outcome
-  came = step b q.frame (length q.space)
+  came = step b.state q.frame (length q.space)
 
-  abbrev given : Taken
-  given = record { book = record { state = came.moved.state }; answer = answer_of came }
+  abbrev given : Book
+  given = record { state = came.moved.state; valid = valid-step b.state b.valid q.frame (length q.space) }
 
   abbrev leaves : List ℤ
   leaves = laid q.space 0 came.moved.records
@@ -56,19 +56,23 @@ module _ (b : State) (v : Valid b) (q : Request) where
     count : answer_count (answer_of came) ≡ length came.moved.records
 
   tells : Tells
-  unfolding answer_number answer_value answer_count
+  unfolding answer_value answer_count
   tells = go (eqb came.answer 0) refl
     where
+      most : came.answer ≤ 15
+      most = answer-most b.state q.frame (length q.space)
+
       go : (t : Bool) → eqb came.answer 0 ≡ t → Tells
       go true t =
           let e = answer-none came (eqb-true _ _ t) in
-          record { number = ap answer_number e ∙ sym (eqb-true _ _ t); value = ap answer_value e; count = ap answer_count e }
+          record { number = answer-number came most; value = ap answer_value e; count = ap answer_count e }
       go false t =
-          let e = answer-some came (eqb-false _ _ t) in
-          let z = quiet b q.frame (length q.space) (eqb-false _ _ t) in
-          record { number = ap answer_number e; value = ap answer_value e ∙ sym z.0; count = ap answer_count e ∙ sym (ap length z.1) }
+          let n = eqb-false _ _ t in
+          let e = answer-some came (refusal_of came.answer) (sym (number-refusal came.answer (omega arith) most)) in
+          let z = quiet b.state q.frame (length q.space) n in
+          record { number = answer-number came most; value = ap answer_value e ∙ sym z.0; count = ap answer_count e ∙ sym (ap length z.1) }
 
-  handed : Stepped b q.frame q.space leaves given
+  handed : Stepped b.state q.frame q.space leaves given.state (answer_of came)
   unfolding laid
   handed = record {
     answer = refl;
@@ -77,25 +81,22 @@ module _ (b : State) (v : Valid b) (q : Request) where
     count = tells.count;
     state = refl;
     space = refl;
-    valid = valid-step b v q.frame (length q.space);
-    few = rw tells.count (room b v.sound q.frame (length q.space));
+    few = rw tells.count (room b.state b.valid.sound q.frame (length q.space));
     same = length-sets q.space (0 * 6) (numbers came.moved.records);
   }
 
--- every list of requests, from a valid book
-pub calls-exist : (b : Book) → Valid b.state → (qs : List Request) → Exists b qs
-calls-exist b v [] = record { calls = []; end = b; requests = refl; made = no_call b }
-calls-exist b v (q ∷ qs) =
-    let x : Taken = given b.state v q in
-    let h : Stepped b.state q.frame q.space (leaves b.state v q) x = handed b.state v q in
-    let r : Exists x.book qs = calls-exist x.book h.valid qs in
+-- every list of requests, from every book
+pub calls-exist : (b : Book) (qs : List Request) → Exists b qs
+calls-exist b [] = record { calls = []; end = b; requests = refl; made = no_call b }
+calls-exist b (q ∷ qs) =
+    let r : Exists (given b q) qs = calls-exist (given b q) qs in
     record {
-      calls = record { frame = q.frame; space = q.space; left = leaves b.state v q; answer = x.answer } ∷ r.calls;
+      calls = record { frame = q.frame; space = q.space; left = leaves b q; answer = answer_of (came b q) } ∷ r.calls;
       end = r.end;
       requests = ap (λ (ys : List Request). q ∷ ys) r.requests;
-      made = a_call b q.frame q.space (leaves b.state v q) x h r.calls r.end r.made;
+      made = a_call b q.frame q.space (leaves b q) (given b q) (answer_of (came b q)) (handed b q) r.calls r.end r.made;
     }
 
 -- .. from a fresh book of every timer
-pub calls-exist-fresh : (timer : ℕ) → 1 ≤ timer → timer ≤ 5000 → (qs : List Request) → Exists (record { state = fresh timer }) qs
-calls-exist-fresh timer low high qs = calls-exist (record { state = fresh timer }) (valid-fresh timer low high) qs
+pub calls-exist-fresh : (timer : ℕ) (low : 1 ≤ timer) (high : timer ≤ 5000) (qs : List Request) → Exists (record { state = fresh timer; valid = valid-fresh timer low high }) qs
+calls-exist-fresh timer low high qs = calls-exist (record { state = fresh timer; valid = valid-fresh timer low high }) qs

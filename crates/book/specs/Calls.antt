@@ -1,36 +1,39 @@
 -- The calls of the entry as its caller sees them, and the buyer's three demands of them.
-use Rattle.std.specs.Prelude.{◌≡◌, true, false, List, [], ◌∷◌, ◌++◌, map, ℕ, zero, suc, ◌*◌, ◌≤◌, ◌<◌, ℤ, pos, length, get_or, take, drop}
+use Rattle.std.specs.Prelude.{◌≡◌, true, false, List, [], ◌∷◌, ◌++◌, map, ℕ, zero, suc, ◌*◌, ◌≤◌, ◌<◌, ℤ, pos, length, get_or, take, drop, Result, Ok, Err}
 use Rattle.std.specs.Int.Signed.{mag}
 use Rattle.base.specs.All.{All}
+use Rattle.events.specs.Refusals.{refusal_number}
+use Rattle.events.specs.declared.Refusal.{Refusal}
 use Rattle.events.specs.declared.Event.{Event}
-use Rattle.events.specs.declared.Reading.TheVariants as R
 use Rattle.frames.specs.Number.{Bytes}
 use Rattle.frames.specs.Frames.{read_of, written_of, space_of, Wrote}
-use Rattle.frames.specs.declared.Written.TheVariants as W
 use Rattle.rules.specs.declared.State.{State}
-use Rattle.rules.specs.declared.Answer.{Answer}
-use Rattle.rules.specs.declared.Answer.TheVariants as A
+use Rattle.rules.specs.declared.Accepted.{Accepted}
+use Rattle.rules.specs.State.{first}
 use Rattle.rules.specs.Refusals.{rank, applies, table_of}
 use Rattle.rules.specs.Step.{step, answer_of, answer_number, answer_value, answer_count}
 use Rattle.rules.specs.Records.{Line, numbers_of}
 use Rattle.rules.specs.Totals.{Logged, OneDay, Totals}
 use Rattle.records.specs.Space.{laid}
 use Rattle.book.specs.declared.Book.{Book}
-use Rattle.book.specs.declared.Taken.{Taken}
 use Rattle.book.specs.Books.{Stepped}
+
+-- "A first book has timer 5,000, clock 0, all shut, its tables empty and no number given."
+abbrev pub First : Book → Type 0
+First b = b.state ≡ first
 
 -- a call: the frame, the space before and after it, and the answer
 pub record Call : Type 0 where
   pub frame : List ℕ
   pub space : List ℤ
   pub left : List ℤ
-  pub answer : Answer
+  pub answer : Result Accepted Refusal
 
--- calls one after the other, each with the book that the one before handed back; nothing is known of a call but the entry's contract
+-- calls one after the other, each with the book that the one before left; nothing is known of a call but the entry's contract
 pub data Calls : Book → List Call → Book → Type 0 where
   no_call : (b : Book) → Calls b [] b
-  a_call : (b : Book) (frame : List ℕ) (s t : List ℤ) (x : Taken) → Stepped b.state frame s t x → (cs : List Call) (end : Book) → Calls x.book cs end →
-      Calls b (record { frame = frame; space = s; left = t; answer = x.answer } ∷ cs) end
+  a_call : (b : Book) (frame : List ℕ) (s t : List ℤ) (c : Book) (x : Result Accepted Refusal) → Stepped b.state frame s t c.state x → (cs : List Call) (end : Book) → Calls c cs end →
+      Calls b (record { frame = frame; space = s; left = t; answer = x } ∷ cs) end
 
 -- a record as it stands at the start of a space: "Six signed 32-bit numbers each: kind, order number, place, side, quantity, price."
 abbrev pub line_in : List ℤ → Line
@@ -68,22 +71,22 @@ seen c = record {
 
 -- DEMAND 1, of a call with book b: accepted, and no cause of the table applies; or the first refusal that applies in the order in which they are
 -- checked, and then neither the book nor the space is changed.
-pub record Answers (b : State) (frame : List ℕ) (s t : List ℤ) (x : Taken) : Type 0 where
-  pub accepted : (value count : ℕ) → x.answer ≡ A.Accepted value count → (n : ℕ) → applies (table_of b (read_of frame) (length s)) n ≡ false
-  pub refused : (n : ℕ) → x.answer ≡ A.Refused n →
-      (applies (table_of b (read_of frame) (length s)) n ≡ true)
-      × ((m : ℕ) → rank m < rank n → applies (table_of b (read_of frame) (length s)) m ≡ false)
-      × (x.book.state ≡ b)
+pub record Answers (b : State) (frame : List ℕ) (s t : List ℤ) (c : State) (x : Result Accepted Refusal) : Type 0 where
+  pub accepted : (a : Accepted) → x ≡ Ok a → (n : ℕ) → applies (table_of b (read_of frame) (length s)) n ≡ false
+  pub refused : (r : Refusal) → x ≡ Err r →
+      (applies (table_of b (read_of frame) (length s)) (refusal_number r) ≡ true)
+      × ((m : ℕ) → rank m < rank (refusal_number r) → applies (table_of b (read_of frame) (length s)) m ≡ false)
+      × (c ≡ b)
       × (t ≡ s)
 
 -- DEMAND 2, of a call: the answer, the book and each number of the space are those that the rules give; and of the codec, in the demand's
 -- words: "Write-then-read gives the event again, and each frame that reads as an event is the frame written for it", byte for byte.
-pub record Exact (b : State) (frame : List ℕ) (s t : List ℤ) (x : Taken) : Type 0 where
-  pub answer : x.answer ≡ answer_of (step b frame (length s))
-  pub state : x.book.state ≡ (step b frame (length s)).moved.state
+pub record Exact (b : State) (frame : List ℕ) (s t : List ℤ) (c : State) (x : Result Accepted Refusal) : Type 0 where
+  pub answer : x ≡ answer_of (step b frame (length s))
+  pub state : c ≡ (step b frame (length s)).moved.state
   pub space : t ≡ laid s 0 (step b frame (length s)).moved.records
-  pub written_read : (e : Event) (sp : List ℕ) (n : ℕ) → written_of e (length sp) ≡ W.Length n → read_of (take n (space_of e sp)) ≡ R.Event e
-  pub read-written : (f : List ℕ) → Bytes f → (e : Event) → read_of f ≡ R.Event e → (sp : List ℕ) → length f ≤ length sp → Wrote e sp (f ++ drop (length f) sp) (W.Length (length f))
+  pub written_read : (e : Event) (sp : List ℕ) (n : ℕ) → written_of e (length sp) ≡ Ok n → read_of (take n (space_of e sp)) ≡ Ok e
+  pub read-written : (f : List ℕ) → Bytes f → (e : Event) → read_of f ≡ Ok e → (sp : List ℕ) → length f ≤ length sp → Wrote e sp (f ++ drop (length f) sp) (Ok (length f))
 
 -- DEMAND 3, of a list of calls: the totals, and the claims of the requests, hold of what the caller saw, with nothing after an accepted day end; and what he saw
 -- is every number that his spaces hold of the records.

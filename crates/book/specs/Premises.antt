@@ -1,7 +1,7 @@
 -- What an event that nothing refuses brings to the functions that perform it.
-use Rattle.std.specs.Prelude.{◌≡◌, true, false, List, ℕ, ◌≤◌, ◌<◌, eqb, ℤ, length}
+use Rattle.std.specs.Prelude.{◌≡◌, true, false, List, ℕ, ◌≤◌, ◌<◌, eqb, ℤ, length, Ok}
 use Rattle.std.proofs.Math.Path.{refl}
-use Rattle.std.proofs.Common.{sym, ◌∙◌, arith, lt-ltb, le-ltb}
+use Rattle.std.proofs.Common.{sym, arith, lt-ltb, le-ltb}
 use Rattle.base.specs.Pick.{pick, pick_true, tests}
 use Rattle.base.specs.Walks.{first-le}
 use Rattle.events.specs.declared.Event.TheVariants as E
@@ -41,9 +41,9 @@ use Rattle.records.specs.Space.{Room}
 use Rattle.records.specs.Done.{Done}
 use Rattle.sweeps.specs.Sweeps.{MayEnter}
 use Rattle.complex_orders.specs.Slots.{order-slot}
-use Rattle.book.specs.declared.Taken.{Taken}
+use Rattle.rules.specs.declared.Accepted.{Accepted}
 use Rattle.book.specs.Books.{Took}
-use Rattle.book.specs.Outcomes.{admit, took, room-event}
+use Rattle.book.specs.Outcomes.{took, took-valid, room-event}
 
 -- a definition by what the code has found: ill-formed, held already, no slot left, or a new one
 pub strategy-ill : (b : State) (e : GivenStrategy) → ill_formed e ≡ true → 5 ≡ first_cause (causes b (E.Strategy e))
@@ -180,34 +180,46 @@ pub number-most : (b : State) (t : Strategy) {k : ℕ} → k ≡ number_of b t �
 unfolding number_of
 number-most b t g h = omega (arith, g, first-le (same_at b t) b.defined)
 
--- an order that nothing refuses, as a row: its slot, the ranges and the room; and what is handed back after its rule
-module _ (b : State) (e : GivenOrder) (s : List ℤ) {n : ℕ} (c : n ≡ first_cause (causes b (E.Order e))) (q : Valid b × FitOrderGiven e × (15_360 ≤ length s)) (z : n ≡ 0) {r : Entry} (g : r ≡ order_given b e) where
+-- an order that nothing refuses, as a row: its slot, the ranges and the room; and what it leaves after its rule
+module _ (b : State) (e : GivenOrder) (s : List ℤ) (q : Valid b × FitOrderGiven e × (15_360 ≤ length s)) (c : 0 ≡ first_cause (causes b (E.Order e))) {r : Entry} (g : r ≡ order_given b e) where
   pub order-asks : ((free_slot b < 32) × FitEntry r × (0 < r.units) × (0 < (strategy_at b r.strategy).count) × Fit b) × Room s 0 (on_order r b).records
   order-asks =
-      let k = order-clear b e q.0.sound q.1 (sym c ∙ z) in
-      ((order-slot b _ q.0.sound k, rw g k.fit, rw g k.live, rw g (let l = q.0.sound.legs _ k.strategy in omega arith), fit-sound q.0.sound), room-event b (E.Order e) s c q z (order-accepts b e g))
+      let k = order-clear b e q.0.sound q.1 (sym c) in
+      ((order-slot b _ q.0.sound k, rw g k.fit, rw g k.live, rw g (let l = q.0.sound.legs _ k.strategy in omega arith), fit-sound q.0.sound), room-event b (E.Order e) s q c (order-accepts b e g))
 
-  pub order-took : {t : List ℤ} {m : ℕ} {d : State} {x : Taken} → Done s t 0 m d (on_order r b) → x ≡ admit d r.number m → Took b (E.Order e) s t x
-  order-took w h = took b (E.Order e) s c q z (order-accepts b e g) w (order_value b e g) h
+  module _ {t : List ℤ} {m : ℕ} {d : State} (w : Done s t 0 m d (on_order r b)) where
+    pub order-valid : Valid d
+    order-valid = took-valid b (E.Order e) s q c (order-accepts b e g) w
+
+    pub order-took : {d' : State} {x : Accepted} → (d' ≡ d) × (x.value ≡ r.number) × (x.records ≡ m) → Took b (E.Order e) s t d' (Ok x)
+    order-took h = took b (E.Order e) s q c (order-accepts b e g) w (order_value b e g) h
 
 -- the same of a sweep, which enters if it has units
-module _ (b : State) (e : GivenSweep) (s : List ℤ) {n : ℕ} (c : n ≡ first_cause (causes b (E.Sweep e))) (q : Valid b × FitSweepGiven e × (15_360 ≤ length s)) (z : n ≡ 0) {r : Entry} (g : r ≡ sweep_given b e) where
+module _ (b : State) (e : GivenSweep) (s : List ℤ) (q : Valid b × FitSweepGiven e × (15_360 ≤ length s)) (c : 0 ≡ first_cause (causes b (E.Sweep e))) {r : Entry} (g : r ≡ sweep_given b e) where
   pub sweep-asks : (MayEnter r × Fit b) × Room s 0 (on_sweep r b).records
   unfolding sweep_given
   sweep-asks =
-      let k = sweep-clear b e q.1 (sym c ∙ z) in
-      ((rw g (record { fit = λ l. (k.1 (live_pos (sweep_given b e) l)).fit }), fit-sound q.0.sound), room-event b (E.Sweep e) s c q z (sweep-accepts b e g))
+      let k = sweep-clear b e q.1 (sym c) in
+      ((rw g (record { fit = λ l. (k.1 (live_pos (sweep_given b e) l)).fit }), fit-sound q.0.sound), room-event b (E.Sweep e) s q c (sweep-accepts b e g))
 
-  pub sweep-took : {t : List ℤ} {m number : ℕ} {d : State} {x : Taken} → Done s t 0 m d (on_sweep r b) → number ≡ pick (eqb r.units 0) 0 r.number → x ≡ admit d number m → Took b (E.Sweep e) s t x
-  sweep-took w i h = took b (E.Sweep e) s c q z (sweep-accepts b e g) w (sweep-value b e g i) h
+  module _ {t : List ℤ} {m : ℕ} {d : State} (w : Done s t 0 m d (on_sweep r b)) where
+    pub sweep-valid : Valid d
+    sweep-valid = took-valid b (E.Sweep e) s q c (sweep-accepts b e g) w
+
+    pub sweep-took : {number : ℕ} {d' : State} {x : Accepted} → number ≡ pick (eqb r.units 0) 0 r.number → (d' ≡ d) × (x.value ≡ number) × (x.records ≡ m) → Took b (E.Sweep e) s t d' (Ok x)
+    sweep-took i h = took b (E.Sweep e) s q c (sweep-accepts b e g) w (sweep-value b e g i) h
 
 -- the same of a leg order
-module _ (b : State) (e : GivenLegOrder) (s : List ℤ) {n : ℕ} (c : n ≡ first_cause (causes b (E.LegOrder e))) (q : Valid b × FitLegOrderGiven e × (15_360 ≤ length s)) (z : n ≡ 0) {r : LegOrder} (g : r ≡ leg_order_given b e) where
+module _ (b : State) (e : GivenLegOrder) (s : List ℤ) (q : Valid b × FitLegOrderGiven e × (15_360 ≤ length s)) (c : 0 ≡ first_cause (causes b (E.LegOrder e))) {r : LegOrder} (g : r ≡ leg_order_given b e) where
   pub leg-asks : ((free_order_slot b < 32) × FitOrder r × Priced r × Fit b) × Room s 0 (on_leg_order r b).records
   unfolding free_order_slot
   leg-asks =
-      let k = leg_order-clear b e q.1 (sym c ∙ z) in
-      ((enter_order-room b _ q.0.sound k, rw g k.fit, rw g (record { price = λ h. k.price }), fit-sound q.0.sound), room-event b (E.LegOrder e) s c q z (leg-accepts b e g))
+      let k = leg_order-clear b e q.1 (sym c) in
+      ((enter_order-room b _ q.0.sound k, rw g k.fit, rw g (record { price = λ h. k.price }), fit-sound q.0.sound), room-event b (E.LegOrder e) s q c (leg-accepts b e g))
 
-  pub leg-took : {t : List ℤ} {m : ℕ} {d : State} {x : Taken} → Done s t 0 m d (on_leg_order r b) → x ≡ admit d r.number m → Took b (E.LegOrder e) s t x
-  leg-took w h = took b (E.LegOrder e) s c q z (leg-accepts b e g) w (leg-value b e g) h
+  module _ {t : List ℤ} {m : ℕ} {d : State} (w : Done s t 0 m d (on_leg_order r b)) where
+    pub leg-valid : Valid d
+    leg-valid = took-valid b (E.LegOrder e) s q c (leg-accepts b e g) w
+
+    pub leg-took : {d' : State} {x : Accepted} → (d' ≡ d) × (x.value ≡ r.number) × (x.records ≡ m) → Took b (E.LegOrder e) s t d' (Ok x)
+    leg-took h = took b (E.LegOrder e) s q c (leg-accepts b e g) w (leg-value b e g) h

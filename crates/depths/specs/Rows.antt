@@ -1,17 +1,17 @@
 -- The leg orders of a lent row, read entry by entry, and the depth that they give.
-use Rattle.std.specs.Prelude.{◌≡◌, refl, Bool, true, false, ◌&&◌, List, [], ◌∷◌, map, ℕ, zero, suc, ◌+◌, ◌≤◌, ◌<◌, eqb, ltb, length, get_or, set, replicate}
+use Rattle.std.specs.Prelude.{◌≡◌, refl, Bool, true, false, List, [], ◌∷◌, map, ℕ, zero, suc, ◌+◌, ◌≤◌, ◌<◌, eqb, ltb, length, get_or, set, replicate, Result, Ok, Err}
 use Rattle.std.proofs.Common.{sym, ◌∙◌, ap, ⊎_elim, add-one, arith, eqb-true, eq-eqb, ne_eqb, ltb-false, leb-true, le-ltb, lt-ltb, le-leb, length-set, get_or-set_same, get_or-set_other}
 use Rattle.std.proofs.Math.Path.{fun_ext}
-use Rattle.std.proofs.Math.Bool.{and-true, and-false}
 use Rattle.std.proofs.lemmas.Bool.{eqb-false}
 use Rattle.std.proofs.Math.ListN.{get_or-map, get_or-eq_default}
-use Rattle.base.specs.Pick.{pick, pick_all, pick-by, pick_true, pick-false, pick_no, tests}
+use Rattle.base.specs.Pick.{pick, pick_all, pick-by, pick_true, pick-false, pick_no}
 use Rattle.base.specs.All.{All, all-at, all_set, all_replicate, all_map}
-use Rattle.base.specs.Walks.{walk, table, sum_n, slot, all_n, below, lt-or-le, all-holds, all-every, length-table, table-slot}
+use Rattle.base.specs.Walks.{walk, table, sum_n, slot, all_n, below, lt-or-le, all-holds, all-every, all-stop, length-table, table-slot}
 use Rattle.rules.specs.declared.LegOrder.{LegOrder}
 use Rattle.rules.specs.declared.OrderEntry.{OrderEntry}
 use Rattle.rules.specs.declared.State.{State}
-use Rattle.rules.specs.declared.Depth.TheVariants as D
+use Rattle.events.specs.declared.Refusal.{Refusal}
+use Rattle.events.specs.declared.Refusal.TheVariants as F
 use Rattle.rules.specs.State.{no_order}
 use Rattle.rules.specs.Nets.{stands, price_with, price_step, price_of, lot, lot_at, lots}
 use Rattle.rules.specs.Lookups.{LookedUp, values, refused_by, depth_tells, depth_of, no_order_entry, as_order, well_formed, well_formed_at, row_depth}
@@ -19,31 +19,26 @@ use Rattle.rules.specs.Valid.{FitOrder, Priced, Valid}
 use Rattle.rules.proofs.Bests.{priced-sound}
 use Rattle.ranges.specs.Fit.{priced-at}
 use Rattle.lookups.specs.Lookups.{book_depth, entry_of, lent_at, lent_row}
-use Rattle.depths.specs.declared.RowOrders.{RowOrders}
 
 -- an order entry as a leg order; an empty one, whatever its other fields, as the empty leg order
 unfoldable pub order_of : OrderEntry → LegOrder
 order_of e = pick (eqb e.contracts 0) no_order (as_order e)
 
--- before any entry
-unfoldable pub no_orders : RowOrders
-no_orders = record { orders = replicate 32 no_order; fine = true }
+-- an entry read as a leg order: "3 if .. an entry that isn't empty has a field outside kind 4's range"
+unfoldable pub order_read : OrderEntry → Result LegOrder Refusal
+order_read e = pick (well_formed e) (Ok (order_of e)) (Err F.BadField)
 
--- with the entry at place i
-unfoldable pub orders_with : ℕ → OrderEntry → RowOrders → RowOrders
-orders_with i e r = pick (well_formed e) (record { orders = set r.orders i (order_of e); fine = r.fine }) (record { orders = r.orders; fine = false })
-
--- .. of the row
-abbrev pub orders_step : List OrderEntry → ℕ → RowOrders → RowOrders
-orders_step row i r = orders_with i (get_or row i no_order_entry) r
+-- the leg orders with that of the entry at place i of the row
+abbrev pub orders_step : List OrderEntry → ℕ → List LegOrder → List LegOrder
+orders_step row i os = set os i (order_of (get_or row i no_order_entry))
 
 -- after the first k entries
-unfoldable pub orders_n : List OrderEntry → ℕ → RowOrders
-orders_n row k = walk (orders_step row) no_orders k
+unfoldable pub orders_n : List OrderEntry → ℕ → List LegOrder
+orders_n row k = walk (orders_step row) (replicate 32 no_order) k
 
--- the depth that they give: "3 if .. an entry that isn't empty has a field outside kind 4's range"
-unfoldable pub orders_depth : RowOrders → ℕ → ℕ → LookedUp
-orders_depth r s side = pick r.fine (book_depth r.orders s side) (refused_by 3)
+-- the leg orders of a row, if each entry is well formed
+unfoldable pub orders_read : List OrderEntry → Result (List LegOrder) Refusal
+orders_read row = pick (all_n (well_formed_at row) (length row)) (Ok (orders_n row (length row))) (Err F.BadField)
 
 -- laws
 
@@ -78,22 +73,33 @@ formed e w n =
       price = leb-true e.price 99_999 d.1;
     }
 
--- by what the code tests
-pub with-fine : (i : ℕ) (e : OrderEntry) (r : RowOrders) {o : LegOrder} → well_formed e ≡ true → o ≡ order_of e → record { orders = set r.orders i o; fine = r.fine } ≡ orders_with i e r
-unfolding orders_with
-with-fine i e r w h = rw h (search tests)
+-- a value or a refusal by a test, as it is answered
+module _ {A : Type 0} (t : Bool) (a : A) (f : Refusal) where
+  picked-ok : {x : A} → ◌≡◌ {A = Result A Refusal} (Ok x) (pick t (Ok a) (Err f)) → (t ≡ true) × (x ≡ a)
+  unfolding pick
+  picked-ok {x} = by t
+    where
+      by : (u : Bool) → ◌≡◌ {A = Result A Refusal} (Ok x) (pick u (Ok a) (Err f)) → (u ≡ true) × (x ≡ a)
+      by true = λ h. (refl, cc)
+      by false = λ h. absurd (let z : ◌≡◌ {A = ℕ} 0 1 = cc in omega arith)
 
-pub with-bad : (i : ℕ) (e : OrderEntry) (r : RowOrders) → well_formed e ≡ false → record { orders = r.orders; fine = false } ≡ orders_with i e r
-unfolding orders_with
-with-bad i e r w = search tests
+  picked-err : {r : Refusal} → ◌≡◌ {A = Result A Refusal} (Err r) (pick t (Ok a) (Err f)) → (t ≡ false) × (r ≡ f)
+  unfolding pick
+  picked-err {r} = by t
+    where
+      by : (u : Bool) → ◌≡◌ {A = Result A Refusal} (Err r) (pick u (Ok a) (Err f)) → (u ≡ false) × (r ≡ f)
+      by true = λ h. absurd (let z : ◌≡◌ {A = ℕ} 0 1 = cc in omega arith)
+      by false = λ h. (refl, cc)
 
-pub depth-fine : (r : RowOrders) (s side : ℕ) {x : LookedUp} → r.fine ≡ true → x ≡ book_depth r.orders s side → x ≡ orders_depth r s side
-unfolding orders_depth
-depth-fine r s side f h = rw h (search tests)
+-- an entry by what reading it answers
+module _ (e : OrderEntry) where
+  pub entry-read : {o : LegOrder} → ◌≡◌ {A = Result LegOrder Refusal} (Ok o) (order_read e) → (well_formed e ≡ true) × (o ≡ order_of e)
+  unfolding order_read
+  entry-read = picked-ok _ _ _
 
-pub depth-bad : (r : RowOrders) (s side : ℕ) → r.fine ≡ false → depth_tells (D.Refused 3) ≡ orders_depth r s side
-unfolding orders_depth depth_tells
-depth-bad r s side f = search tests
+  pub entry-unread : {r : Refusal} → ◌≡◌ {A = Result LegOrder Refusal} (Err r) (order_read e) → (well_formed e ≡ false) × (r ≡ F.BadField)
+  unfolding order_read
+  entry-unread = picked-err _ _ _
 
 -- each leg order of the row is sound
 order-sound : (e : OrderEntry) → well_formed e ≡ true → Sound (order_of e)
@@ -106,43 +112,32 @@ order-sound e w =
       price = λ h. (let p = f.some in omega arith);
     })
 
-orders-sound : (row : List OrderEntry) (k : ℕ) → All Sound (orders_n row k).orders
-unfolding orders_n walk no_orders orders_with
-orders-sound row zero = all_replicate no_order no-order-sound 32
-orders-sound row (suc k) =
-    let a = orders-sound row k in
-    pick-by (λ (r : RowOrders). All Sound r.orders) _ (λ w. all_set _ (order-sound _ w) a k) (λ w. a)
+module _ (row : List OrderEntry) where
+  orders-sound : (k : ℕ) → all_n (well_formed_at row) k ≡ true → All Sound (orders_n row k)
+  unfolding orders_n walk
+  orders-sound zero a = all_replicate no_order no-order-sound 32
+  orders-sound (suc k) a =
+      let b = all-holds (well_formed_at row) (suc k) in
+      all_set _ (order-sound _ (b k a (omega arith))) (orders-sound k (all-every (well_formed_at row) k (λ i h. b i a (omega arith)))) k
 
-pub orders-fit : (row : List OrderEntry) (k : ℕ) → All FitOrder (orders_n row k).orders × All Priced (orders_n row k).orders
-orders-fit row k =
-    let a = orders-sound row k in
-    (all_map (λ o s. s.fit) a, all_map (λ o s. record { price = s.price }) a)
+  pub orders-fit : (k : ℕ) → all_n (well_formed_at row) k ≡ true → All FitOrder (orders_n row k) × All Priced (orders_n row k)
+  orders-fit k a =
+      let l = orders-sound k a in
+      (all_map (λ o s. s.fit) l, all_map (λ o s. record { price = s.price }) l)
 
--- the code's start and step
-pub orders-first : (row : List OrderEntry) → no_orders ≡ orders_n row 0
-unfolding orders_n walk
-orders-first row = refl
+  -- the code's start and step
+  pub orders-first : replicate 32 no_order ≡ orders_n row 0
+  unfolding orders_n walk
+  orders-first = refl
 
-pub orders-next : (row : List OrderEntry) (i : ℕ) → orders_with i (get_or row i no_order_entry) (orders_n row i) ≡ orders_n row (i + 1)
-unfolding orders_n walk
-orders-next row i = rw (add-one i)
+  pub orders-next : (i : ℕ) {o : LegOrder} {os : List LegOrder} → o ≡ order_of (get_or row i no_order_entry) → os ≡ orders_n row i → set os i o ≡ orders_n row (i + 1)
+  unfolding orders_n walk
+  orders-next i e g = rw (add-one i, e, g)
 
--- whether every entry was well formed
-orders-fine : (row : List OrderEntry) (k : ℕ) → (orders_n row k).fine ≡ all_n (well_formed_at row) k
-unfolding orders_n walk no_orders orders_with all_n
-orders-fine row zero = refl
-orders-fine row (suc k) =
-    let h = orders-fine row k in
-    pick-by (λ (r : RowOrders). r.fine ≡ (all_n (well_formed_at row) k && well_formed_at row k)) _
-    (λ w. h ∙ sym (rw w (and-true (all_n (well_formed_at row) k))))
-    (λ w. sym (rw w (and-false (all_n (well_formed_at row) k))))
-
-orders-length : (row : List OrderEntry) (k : ℕ) → length (orders_n row k).orders ≡ 32
-unfolding orders_n walk no_orders orders_with
-orders-length row zero = refl
-orders-length row (suc k) =
-    let h = orders-length row k in
-    pick_all (λ (r : RowOrders). length r.orders ≡ 32) _ (length-set (orders_n row k).orders k (order_of (get_or row k no_order_entry)) ∙ h) h
+  orders-length : (k : ℕ) → length (orders_n row k) ≡ 32
+  unfolding orders_n walk
+  orders-length zero = refl
+  orders-length (suc k) = length-set (orders_n row k) k (order_of (get_or row k no_order_entry)) ∙ orders-length k
 
 -- where every entry is well formed: what stands at each place
 record Placed (row : List OrderEntry) (k : ℕ) (os : List LegOrder) : Type 0 where
@@ -154,20 +149,18 @@ no-order-at zero i = refl
 no-order-at (suc n) zero = refl
 no-order-at (suc n) (suc i) = no-order-at n i
 
-orders-placed : (row : List OrderEntry) (k : ℕ) → k ≤ 32 → all_n (well_formed_at row) k ≡ true → Placed row k (orders_n row k).orders
-unfolding orders_n walk no_orders orders_with
-orders-placed row zero l a = record { read = λ i h. absurd (omega arith); free = λ i h. no-order-at 32 i }
-orders-placed row (suc k) l a =
-    let b = all-holds (well_formed_at row) (suc k) in
-    let p = orders-placed row k (omega arith) (all-every (well_formed_at row) k (λ i h. b i a (omega arith))) in
-    let os : List LegOrder = (orders_n row k).orders in
+orders-placed : (row : List OrderEntry) (k : ℕ) → k ≤ 32 → Placed row k (orders_n row k)
+unfolding orders_n walk
+orders-placed row zero l = record { read = λ i h. absurd (omega arith); free = λ i h. no-order-at 32 i }
+orders-placed row (suc k) l =
+    let p = orders-placed row k (omega arith) in
+    let os : List LegOrder = orders_n row k in
     let o : LegOrder = order_of (get_or row k no_order_entry) in
     let n = orders-length row k in
-    rw (pick_true {A = RowOrders} (well_formed_at row k) (record { orders = set os k o; fine = (orders_n row k).fine }) (record { orders = os; fine = false }) (b k a (omega arith)))
-    (record {
+    record {
       read = λ i h. ⊎_elim (λ z. rw z (get_or-set_same os k o no_order (omega arith))) (λ m. get_or-set_other os k i o no_order (λ z. omega arith) ∙ p.read i m) (below h);
       free = λ i h. get_or-set_other os k i o no_order (λ z. omega arith) ∙ p.free i (omega arith);
-    })
+    }
 
 -- two leg orders that the depth does not tell apart
 data Alike (o p : LegOrder) : Type 0 where
@@ -208,34 +201,65 @@ unfolding order_of
 entry-alike e = pick-by (λ (o : LegOrder). Alike o (as_order e)) _ (λ z. empty refl (eqb-true e.contracts 0 z)) (λ n. same refl)
 
 -- the array's depth is the row's
-orders-depth : (row : List OrderEntry) (s side : ℕ) → length row ≤ 32 → all_n (well_formed_at row) (length row) ≡ true
-    → depth_of (orders_n row (length row)).orders s side ≡ depth_of (map as_order row) s side
-orders-depth row s side l a =
-    let os : List LegOrder = (orders_n row (length row)).orders in
-    let p = orders-placed row (length row) l a in
+orders-depth : (row : List OrderEntry) (s side : ℕ) → length row ≤ 32 → depth_of (orders_n row (length row)) s side ≡ depth_of (map as_order row) s side
+orders-depth row s side l =
+    let os : List LegOrder = orders_n row (length row) in
+    let p = orders-placed row (length row) l in
     depth-alike os (map as_order row) s side
     (λ i. rw (get_or-map as_order row i no_order_entry)
     (⊎_elim (λ h. rw (p.read i h) (entry-alike (get_or row i no_order_entry)))
     (λ h. rw (p.free i h, get_or-eq_default row no_order_entry h) (same refl)) (lt-or-le i (length row))))
 
--- what the code answers
-pub row-long : (row : List OrderEntry) (s side : ℕ) → 32 < length row → depth_tells (D.Refused 3) ≡ row_depth row s side
-unfolding row_depth depth_tells
-row-long row s side h =
-    let P : LookedUp → Type 0 = λ (x : LookedUp). refused_by 3 ≡ x in
-    pick_all P _ refl (pick_all P _ refl (sym (pick_true _ _ _ (lt-ltb 32 (length row) h))))
+-- a row by what reading it answers
+module _ (row : List OrderEntry) where
+  row-read : {os : List LegOrder} → ◌≡◌ {A = Result (List LegOrder) Refusal} (Ok os) (orders_read row) → (all_n (well_formed_at row) (length row) ≡ true) × (os ≡ orders_n row (length row))
+  unfolding orders_read
+  row-read = picked-ok _ _ _
 
-pub row-depth : (row : List OrderEntry) (s side : ℕ) → length row ≤ 32 → orders_depth (orders_n row (length row)) s side ≡ row_depth row s side
-unfolding orders_depth row_depth book_depth
-row-depth row s side l =
-    let r : RowOrders = orders_n row (length row) in
-    let short = le-ltb 32 (length row) l in
-    let P : LookedUp → Type 0 = λ (x : LookedUp). refused_by 3 ≡ x in
-    pick-by (λ (x : LookedUp). x ≡ row_depth row s side) r.fine
-    (λ f. let a = sym (orders-fine row (length row)) ∙ f in
-    let e = orders-depth row s side l a in
-    ap (λ (x : LookedUp). pick (ltb 31 s) (refused_by 3) (pick (ltb 1 side) (refused_by 3) x)) (e ∙ sym (pick_true _ _ _ a) ∙ sym (pick-false _ _ _ short)))
-    (λ f. pick_all P _ refl (pick_all P _ refl (pick_all P _ refl (sym (pick-false _ _ _ (sym (orders-fine row (length row)) ∙ f))))))
+  row-unread : {r : Refusal} → ◌≡◌ {A = Result (List LegOrder) Refusal} (Err r) (orders_read row) → (all_n (well_formed_at row) (length row) ≡ false) × (r ≡ F.BadField)
+  unfolding orders_read
+  row-unread = picked-err _ _ _
+
+  -- an entry that is not well formed, and the end of a row of well-formed ones
+  pub row-stop : {i : ℕ} {r : Refusal} → i < length row → ◌≡◌ {A = Result LegOrder Refusal} (Err r) (order_read (get_or row i no_order_entry)) → ◌≡◌ {A = Result (List LegOrder) Refusal} (Err r) (orders_read row)
+  unfolding orders_read
+  row-stop {i} h e =
+      let f = entry-unread (get_or row i no_order_entry) e in
+      rw f.1 (sym (pick-false _ _ _ (all-stop (well_formed_at row) i (length row) h f.0)))
+
+  pub row-end : {i : ℕ} {os : List LegOrder} → i ≡ length row → all_n (well_formed_at row) i ≡ true → os ≡ orders_n row i → ◌≡◌ {A = Result (List LegOrder) Refusal} (Ok os) (orders_read row)
+  unfolding orders_read
+  row-end h a e = rw (e, h) (sym (pick_true _ _ _ (rw h at a)))
+
+  pub row-sound : {os : List LegOrder} → ◌≡◌ {A = Result (List LegOrder) Refusal} (Ok os) (orders_read row) → All FitOrder os × All Priced os
+  row-sound h = let f = row-read h in rw f.1 (orders-fit row (length row) f.0)
+
+-- what the code answers
+module _ (row : List OrderEntry) (s side : ℕ) where
+  pub row-long : 32 < length row → depth_tells (Err F.BadField) ≡ row_depth row s side
+  unfolding row_depth depth_tells
+  row-long h =
+      let P : LookedUp → Type 0 = λ (x : LookedUp). refused_by 3 ≡ x in
+      pick_all P _ refl (pick_all P _ refl (sym (pick_true _ _ _ (lt-ltb 32 (length row) h))))
+
+  module _ (l : length row ≤ 32) where
+    short : ltb 32 (length row) ≡ false
+    short = le-ltb 32 (length row) l
+
+    -- each entry is well formed
+    pub row-fine : {x : LookedUp} {os : List LegOrder} → ◌≡◌ {A = Result (List LegOrder) Refusal} (Ok os) (orders_read row) → x ≡ book_depth os s side → x ≡ row_depth row s side
+    unfolding row_depth book_depth
+    row-fine {x} {os} h e =
+        let f = row-read row h in
+        e ∙ rw f.1 (ap (λ (y : LookedUp). pick (ltb 31 s) (refused_by 3) (pick (ltb 1 side) (refused_by 3) y)) (orders-depth row s side l ∙ sym (pick_true _ _ _ f.0) ∙ sym (pick-false _ _ _ short)))
+
+    -- one is not
+    pub row-bad : {r : Refusal} → ◌≡◌ {A = Result (List LegOrder) Refusal} (Err r) (orders_read row) → depth_tells (Err r) ≡ row_depth row s side
+    unfolding row_depth depth_tells
+    row-bad {r} h =
+        let P : LookedUp → Type 0 = λ (x : LookedUp). refused_by 3 ≡ x in
+        let f = row-unread row h in
+        rw f.1 (pick_all P _ refl (pick_all P _ refl (pick_all P _ refl (sym (pick-false _ _ _ f.0)))))
 
 -- the row of a table of leg orders in their ranges: each entry is well formed, and the leg orders are told by their entries
 entry-formed : (o : LegOrder) → FitOrder o → (0 < o.contracts → 1 ≤ o.price) → well_formed (entry_of o) ≡ true

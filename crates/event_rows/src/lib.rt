@@ -7,7 +7,7 @@ ghost use Rattle.events.specs.Rows.{kind_in, row_of, leg_from, event_of, length_
 use events::kinds::length_of;
 use events::table::{fields_of, fit};
 use events::{
-    Cancel, Clock, DayEnd, Event, Kind, Leg, LegOrder, Legs, National, Order, Range, Reading,
+    Cancel, Clock, DayEnd, Event, Kind, Leg, LegOrder, Legs, National, Order, Range, Refusal,
     Series, Specialist, Strategy, Sweep,
 };
 
@@ -109,7 +109,7 @@ pub fn row_of(event: Event) -> [u32; 19]
 }
 
 // The event of a kind with these values.
-pub fn event_of(kind: Kind, row: [u32; 19]) -> Reading
+pub fn event_of(kind: Kind, row: [u32; 19]) -> Result<Event, Refusal>
     ensures { result ≡ event_of kind row }
 {
     match kind {
@@ -124,7 +124,7 @@ pub fn event_of(kind: Kind, row: [u32; 19]) -> Reading
         Kind::National => national_event(row),
         Kind::Range => range_event(row),
         Kind::Specialist => specialist_event(row),
-        Kind::Unknown => Reading::Refused(2),
+        Kind::Unknown => Err(Refusal::BadFrame),
     }
 }
 
@@ -140,10 +140,10 @@ fn leg_at(row: [u32; 19], i: usize) -> Leg
     }
 }
 
-fn strategy_event(row: [u32; 19]) -> Reading
+fn strategy_event(row: [u32; 19]) -> Result<Event, Refusal>
     ensures { result ≡ event_of Kind.Strategy row }
 {
-    Reading::Event(Event::Strategy(Strategy {
+    Ok(Event::Strategy(Strategy {
         count: row[0],
         legs: Legs(
             leg_at(row, 1),
@@ -156,10 +156,10 @@ fn strategy_event(row: [u32; 19]) -> Reading
     }))
 }
 
-fn order_event(row: [u32; 19]) -> Reading
+fn order_event(row: [u32; 19]) -> Result<Event, Refusal>
     ensures { result ≡ event_of Kind.Order row }
 {
-    Reading::Event(Event::Order(Order {
+    Ok(Event::Order(Order {
         member: row[0],
         strategy: row[1],
         side: row[2],
@@ -170,10 +170,10 @@ fn order_event(row: [u32; 19]) -> Reading
     }))
 }
 
-fn sweep_event(row: [u32; 19]) -> Reading
+fn sweep_event(row: [u32; 19]) -> Result<Event, Refusal>
     ensures { result ≡ event_of Kind.Sweep row }
 {
-    Reading::Event(Event::Sweep(Sweep {
+    Ok(Event::Sweep(Sweep {
         member: row[0],
         strategy: row[1],
         side: row[2],
@@ -182,10 +182,10 @@ fn sweep_event(row: [u32; 19]) -> Reading
     }))
 }
 
-fn leg_order_event(row: [u32; 19]) -> Reading
+fn leg_order_event(row: [u32; 19]) -> Result<Event, Refusal>
     ensures { result ≡ event_of Kind.LegOrder row }
 {
-    Reading::Event(Event::LegOrder(LegOrder {
+    Ok(Event::LegOrder(LegOrder {
         member: row[0],
         series: row[1],
         side: row[2],
@@ -194,56 +194,56 @@ fn leg_order_event(row: [u32; 19]) -> Reading
     }))
 }
 
-fn cancel_event(row: [u32; 19]) -> Reading
+fn cancel_event(row: [u32; 19]) -> Result<Event, Refusal>
     ensures { result ≡ event_of Kind.Cancel row }
 {
-    Reading::Event(Event::Cancel(Cancel {
+    Ok(Event::Cancel(Cancel {
         member: row[0],
         number: row[1],
     }))
 }
 
-fn series_event(row: [u32; 19]) -> Reading
+fn series_event(row: [u32; 19]) -> Result<Event, Refusal>
     ensures { result ≡ event_of Kind.Series row }
 {
-    Reading::Event(Event::Series(Series {
+    Ok(Event::Series(Series {
         series: row[0],
         state: row[1],
     }))
 }
 
-fn clock_event(row: [u32; 19]) -> Reading
+fn clock_event(row: [u32; 19]) -> Result<Event, Refusal>
     ensures { result ≡ event_of Kind.Clock row }
 {
-    Reading::Event(Event::Clock(Clock { time: row[0] }))
+    Ok(Event::Clock(Clock { time: row[0] }))
 }
 
-fn day_end_event(row: [u32; 19]) -> Reading
+fn day_end_event(row: [u32; 19]) -> Result<Event, Refusal>
     ensures { result ≡ event_of Kind.DayEnd row }
 {
-    Reading::Event(Event::DayEnd(DayEnd { timer: row[0] }))
+    Ok(Event::DayEnd(DayEnd { timer: row[0] }))
 }
 
-fn national_event(row: [u32; 19]) -> Reading
+fn national_event(row: [u32; 19]) -> Result<Event, Refusal>
     ensures { result ≡ event_of Kind.National row }
 {
-    Reading::Event(Event::National(National {
+    Ok(Event::National(National {
         series: row[0],
         bid: row[1],
         offer: row[2],
     }))
 }
 
-fn range_event(row: [u32; 19]) -> Reading
+fn range_event(row: [u32; 19]) -> Result<Event, Refusal>
     ensures { result ≡ event_of Kind.Range row }
 {
-    Reading::Event(Event::Range(Range { range: row[0] }))
+    Ok(Event::Range(Range { range: row[0] }))
 }
 
-fn specialist_event(row: [u32; 19]) -> Reading
+fn specialist_event(row: [u32; 19]) -> Result<Event, Refusal>
     ensures { result ≡ event_of Kind.Specialist row }
 {
-    Reading::Event(Event::Specialist(Specialist {
+    Ok(Event::Specialist(Specialist {
         member: row[0],
         strategy: row[1],
         percentage: row[2],

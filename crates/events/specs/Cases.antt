@@ -1,20 +1,19 @@
 -- Laws by cases on the kinds: events and rows, kinds and numbers.
-use Rattle.std.specs.Prelude.{◌≡◌, ℕ, ◌+◌, ◌%◌, ◌^◌, ◌<◌, ◌≤◌, List, length, replicate, ◌==◌, refl}
+use Rattle.std.specs.Prelude.{◌≡◌, ℕ, ◌+◌, ◌%◌, ◌^◌, ◌<◌, ◌≤◌, List, length, replicate, ◌==◌, refl, Result, Ok, Err}
 use Rattle.std.proofs.Common.{sym, arith, eqb-true}
 use Rattle.base.specs.Pick.{pick, pick-by}
 use Rattle.events.specs.Fields.{high, bias, raw_of}
 use Rattle.events.specs.Kinds.{kind_of, code_of, length_of}
 use Rattle.events.specs.Rows.{kind_in, row_of, event_of, reading_number}
 use Rattle.events.specs.Laws.{Sound}
+use Rattle.events.specs.declared.Refusal.{Refusal}
 use Rattle.events.specs.declared.Field.{Field}
 use Rattle.events.specs.declared.Kind.{Kind}
 use Rattle.events.specs.declared.Kind.TheVariants as K
 use Rattle.events.specs.declared.Event.{Event}
 use Rattle.events.specs.declared.Event.TheVariants as E
-use Rattle.events.specs.declared.Reading.{Reading}
-use Rattle.events.specs.declared.Reading.TheVariants as R
 
-pub event-row : (e : Event) → event_of (kind_in e) (row_of e) ≡ R.Event e
+pub event-row : (e : Event) → event_of (kind_in e) (row_of e) ≡ Ok e
 event-row (E.Strategy e) = refl
 event-row (E.Order e) = refl
 event-row (E.Sweep e) = refl
@@ -68,13 +67,13 @@ code_lt K.Range = omega arith
 code_lt K.Specialist = omega arith
 code_lt K.Unknown = omega arith
 
-abbrev pub kind_read : Reading → Kind
-kind_read (R.Event e) = kind_in e
-kind_read (R.Refused n) = K.Unknown
+abbrev pub kind_read : Result Event Refusal → Kind
+kind_read (Ok e) = kind_in e
+kind_read (Err r) = K.Unknown
 
-abbrev pub row_read : Reading → List ℕ
-row_read (R.Event e) = row_of e
-row_read (R.Refused n) = replicate 19 0
+abbrev pub row_read : Result Event Refusal → List ℕ
+row_read (Ok e) = row_of e
+row_read (Err r) = replicate 19 0
 
 pub kind-back : (k : Kind) (v : List ℕ) → kind_read (event_of k v) ≡ k
 kind-back K.Strategy v = refl
@@ -106,7 +105,7 @@ answer-event K.Specialist v n h = refl
 answer-event K.Unknown v n h = absurd (omega arith)
 
 -- a known kind gives an event
-pub event-is : (k : Kind) (v : List ℕ) (n : ℕ) → 4 ≤ length_of k n → (e : Event) × (event_of k v ≡ R.Event e)
+pub event-is : (k : Kind) (v : List ℕ) (n : ℕ) → 4 ≤ length_of k n → (e : Event) × (event_of k v ≡ Ok e)
 unfolding length_of pick
 event-is K.Strategy v n h = (_, refl)
 event-is K.Order v n h = (_, refl)

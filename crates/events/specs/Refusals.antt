@@ -30,6 +30,24 @@ refusals = F.ShortSpace ∷ F.BadFrame ∷ F.BadField ∷ F.UnknownStrategy ∷ 
 abbrev pub refusal_of : ℕ → Refusal
 refusal_of n = get_or refusals (n - 1) F.NothingBettered
 
+-- every number is 1 or more
+pub refusal-some : (r : Refusal) → 1 ≤ refusal_number r
+refusal-some F.ShortSpace = omega arith
+refusal-some F.BadFrame = omega arith
+refusal-some F.BadField = omega arith
+refusal-some F.UnknownStrategy = omega arith
+refusal-some F.BadDefinition = omega arith
+refusal-some F.SeriesShut = omega arith
+refusal-some F.UnknownOrder = omega arith
+refusal-some F.AuctionStarter = omega arith
+refusal-some F.NoAuction = omega arith
+refusal-some F.NothingRemoved = omega arith
+refusal-some F.EarlyClock = omega arith
+refusal-some F.TableFull = omega arith
+refusal-some F.NumbersOut = omega arith
+refusal-some F.BidAboveOffer = omega arith
+refusal-some F.NothingBettered = omega arith
+
 -- each cause is the cause of its number
 pub refusal-number : (r : Refusal) → refusal_of (refusal_number r) ≡ r
 refusal-number F.ShortSpace = refl

@@ -1,16 +1,17 @@
 -- Events as rows of 19 numbers.
-use Rattle.std.specs.Prelude.{ℕ, ◌+◌, Bool, List, [], ◌∷◌, replicate, slice_index}
+use Rattle.std.specs.Prelude.{ℕ, ◌+◌, Bool, List, [], ◌∷◌, replicate, slice_index, Result, Ok, Err}
 use Rattle.events.specs.Fields.{fit_n}
 use Rattle.events.specs.Kinds.{length_of}
+use Rattle.events.specs.Refusals.{refusal_number}
 use Rattle.events.specs.Table.{layout_of}
+use Rattle.events.specs.declared.Refusal.{Refusal}
+use Rattle.events.specs.declared.Refusal.TheVariants as F
 use Rattle.events.specs.declared.Field.{Field}
 use Rattle.events.specs.declared.Kind.{Kind}
 use Rattle.events.specs.declared.Kind.TheVariants as K
 use Rattle.events.specs.declared.Leg.{Leg}
 use Rattle.events.specs.declared.Event.{Event}
 use Rattle.events.specs.declared.Event.TheVariants as E
-use Rattle.events.specs.declared.Reading.{Reading}
-use Rattle.events.specs.declared.Reading.TheVariants as R
 
 -- the kind of an event
 abbrev pub kind_in : Event → Kind
@@ -49,19 +50,19 @@ abbrev pub leg_from : List ℕ → ℕ → Leg
 leg_from v i = record { series = slice_index v i; side = slice_index v (i + 1); ratio = slice_index v (i + 2) }
 
 -- the event of a kind with these values; "unknown kind" is refused 2
-abbrev pub event_of : Kind → List ℕ → Reading
-event_of K.Strategy v = R.Event (E.Strategy (record { count = slice_index v 0; legs = (leg_from v 1, leg_from v 4, leg_from v 7, leg_from v 10, leg_from v 13, leg_from v 16) }))
-event_of K.Order v = R.Event (E.Order (record { member = slice_index v 0; strategy = slice_index v 1; side = slice_index v 2; class = slice_index v 3; life = slice_index v 4; units = slice_index v 5; level = slice_index v 6 }))
-event_of K.Sweep v = R.Event (E.Sweep (record { member = slice_index v 0; strategy = slice_index v 1; side = slice_index v 2; units = slice_index v 3; level = slice_index v 4 }))
-event_of K.LegOrder v = R.Event (E.LegOrder (record { member = slice_index v 0; series = slice_index v 1; side = slice_index v 2; contracts = slice_index v 3; price = slice_index v 4 }))
-event_of K.Cancel v = R.Event (E.Cancel (record { member = slice_index v 0; number = slice_index v 1 }))
-event_of K.Series v = R.Event (E.Series (record { series = slice_index v 0; state = slice_index v 1 }))
-event_of K.Clock v = R.Event (E.Clock (record { time = slice_index v 0 }))
-event_of K.DayEnd v = R.Event (E.DayEnd (record { timer = slice_index v 0 }))
-event_of K.National v = R.Event (E.National (record { series = slice_index v 0; bid = slice_index v 1; offer = slice_index v 2 }))
-event_of K.Range v = R.Event (E.Range (record { range = slice_index v 0 }))
-event_of K.Specialist v = R.Event (E.Specialist (record { member = slice_index v 0; strategy = slice_index v 1; percentage = slice_index v 2 }))
-event_of K.Unknown v = R.Refused 2
+abbrev pub event_of : Kind → List ℕ → Result Event Refusal
+event_of K.Strategy v = Ok (E.Strategy (record { count = slice_index v 0; legs = (leg_from v 1, leg_from v 4, leg_from v 7, leg_from v 10, leg_from v 13, leg_from v 16) }))
+event_of K.Order v = Ok (E.Order (record { member = slice_index v 0; strategy = slice_index v 1; side = slice_index v 2; class = slice_index v 3; life = slice_index v 4; units = slice_index v 5; level = slice_index v 6 }))
+event_of K.Sweep v = Ok (E.Sweep (record { member = slice_index v 0; strategy = slice_index v 1; side = slice_index v 2; units = slice_index v 3; level = slice_index v 4 }))
+event_of K.LegOrder v = Ok (E.LegOrder (record { member = slice_index v 0; series = slice_index v 1; side = slice_index v 2; contracts = slice_index v 3; price = slice_index v 4 }))
+event_of K.Cancel v = Ok (E.Cancel (record { member = slice_index v 0; number = slice_index v 1 }))
+event_of K.Series v = Ok (E.Series (record { series = slice_index v 0; state = slice_index v 1 }))
+event_of K.Clock v = Ok (E.Clock (record { time = slice_index v 0 }))
+event_of K.DayEnd v = Ok (E.DayEnd (record { timer = slice_index v 0 }))
+event_of K.National v = Ok (E.National (record { series = slice_index v 0; bid = slice_index v 1; offer = slice_index v 2 }))
+event_of K.Range v = Ok (E.Range (record { range = slice_index v 0 }))
+event_of K.Specialist v = Ok (E.Specialist (record { member = slice_index v 0; strategy = slice_index v 1; percentage = slice_index v 2 }))
+event_of K.Unknown v = Err F.BadFrame
 
 -- the fields of an event's frame
 unfoldable pub layout_in : Event → ℕ → Field
@@ -76,6 +77,6 @@ unfoldable pub length_in : Event → ℕ
 length_in e = length_of (kind_in e) (slice_index (row_of e) 0)
 
 -- "Answer 0 is accepted", else the refusal's number
-abbrev pub reading_number : Reading → ℕ
-reading_number (R.Event e) = 0
-reading_number (R.Refused n) = n
+abbrev pub reading_number : Result Event Refusal → ℕ
+reading_number (Ok e) = 0
+reading_number (Err r) = refusal_number r

@@ -149,13 +149,6 @@ pub enum Refusal {
     NothingBettered,
 }
 
-// What reading answers: the event, or the refusal.
-#[derive(Clone, Copy)]
-pub enum Reading {
-    Event(Event),
-    Refused(u32),
-}
-
 // A field of a frame: its width in bytes, its least and its greatest value, and what is added to the number in the frame to give the value.
 #[derive(Clone, Copy)]
 pub struct Field(pub usize, pub u32, pub u32, pub u32);

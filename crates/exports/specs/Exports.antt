@@ -1,35 +1,34 @@
 -- The reader and the writer over plain numbers: a kind's number, then the row of 19.
-use Rattle.std.specs.Prelude.{◌≡◌, List, ◌∷◌, ◌++◌, ℕ, ltb, length, get_or, take, drop}
+use Rattle.std.specs.Prelude.{◌≡◌, List, ◌∷◌, ◌++◌, ℕ, ltb, length, get_or, take, drop, Result, Ok, Err}
 use Rattle.base.specs.Pick.{pick}
 use Rattle.events.specs.Kinds.{kind_of, code_of}
 use Rattle.events.specs.Rows.{kind_in, row_of, event_of, reading_number}
 use Rattle.frames.specs.Frames.{read_of, written_of, space_of, written_number}
+use Rattle.events.specs.declared.Refusal.{Refusal}
 use Rattle.events.specs.declared.Event.{Event}
-use Rattle.events.specs.declared.Reading.{Reading}
-use Rattle.events.specs.declared.Reading.TheVariants as R
 
 -- an event's 20 numbers
 abbrev pub values_of : Event → List ℕ
 values_of e = code_of (kind_in e) ∷ row_of e
 
 -- the event of the first 20 numbers
-unfoldable pub event_in : List ℕ → Reading
+unfoldable pub event_in : List ℕ → Result Event Refusal
 event_in vs = event_of (kind_of (get_or vs 0 0)) (take 19 (drop 1 vs))
 
 -- what a reading puts into the values: the event's 20 numbers, or nothing
-abbrev pub values_after : Reading → List ℕ → List ℕ
-values_after (R.Event e) vs = values_of e ++ drop 20 vs
-values_after (R.Refused n) vs = vs
+abbrev pub values_after : Result Event Refusal → List ℕ → List ℕ
+values_after (Ok e) vs = values_of e ++ drop 20 vs
+values_after (Err r) vs = vs
 
 -- what writing the event of 20 numbers answers: as the writer does; an unknown kind is "a field outside its range", 3
-abbrev pub answer_after : Reading → ℕ → ℕ
-answer_after (R.Event e) room = written_number (written_of e room)
-answer_after (R.Refused n) room = 3
+abbrev pub answer_after : Result Event Refusal → ℕ → ℕ
+answer_after (Ok e) room = written_number (written_of e room)
+answer_after (Err r) room = 3
 
 -- and what it leaves in the space
-abbrev pub space_after : Reading → List ℕ → List ℕ
-space_after (R.Event e) sp = space_of e sp
-space_after (R.Refused n) sp = sp
+abbrev pub space_after : Result Event Refusal → List ℕ → List ℕ
+space_after (Ok e) sp = space_of e sp
+space_after (Err r) sp = sp
 
 -- what `complex_book_read` answers: 1 where there are fewer than 20 values, else as the judge
 unfoldable pub frame_read : List ℕ → List ℕ → ℕ

@@ -8,8 +8,8 @@ ghost use Rattle.exports.specs.Exports.{values_of, event_in, ReadOut, WrittenOut
 
 use event_rows::{event_of, kind_in, row_of};
 use events::kinds::{code_of, kind_of};
-use events::{Event, Reading};
-use frames::{Written, judge, read, write};
+use events::{Event, Refusal};
+use frames::{judge, read, write};
 
 // The event's 20 numbers at the start of the values.
 fn fill(event: Event, values: &mut [u32])
@@ -40,7 +40,7 @@ fn row_in(values: &[u32]) -> [u32; 19]
 }
 
 // The event of 20 numbers.
-fn event_in(values: &[u32]) -> Reading
+fn event_in(values: &[u32]) -> Result<Event, Refusal>
     requires { 20 ≤ length values.now }
     ensures { result ≡ event_in values.now }
 {
@@ -52,10 +52,9 @@ fn event_in(values: &[u32]) -> Reading
 fn send(event: Event, space: &mut [u8]) -> u32
     ensures { WrittenOut event space.old space.new result }
 {
-    let written = write(event, space);
-    match written {
-        Written::Length(n) => n as u32,
-        Written::Refused(n) => n,
+    match write(event, space) {
+        Ok(n) => n as u32,
+        Err(refusal) => u32::from(refusal),
     }
 }
 
@@ -63,7 +62,10 @@ fn send(event: Event, space: &mut [u8]) -> u32
 pub fn complex_book_judge(frame: &[u8]) -> u32
     ensures { result ≡ judge_of frame.now }
 {
-    judge(frame)
+    match judge(frame) {
+        Ok(()) => 0,
+        Err(refusal) => u32::from(refusal),
+    }
 }
 
 // Reads a frame: 0, and its kind and row as the first 20 values; or its refusal, 2 or 3; or 1 where there are fewer than 20 values.
@@ -73,13 +75,12 @@ pub fn complex_book_read(frame: &[u8], values: &mut [u32]) -> u32
     if values.len() < 20 {
         return 1;
     }
-    let reading = read(frame);
-    match reading {
-        Reading::Event(e) => {
+    match read(frame) {
+        Ok(e) => {
             fill(e, values);
             0
         }
-        Reading::Refused(n) => n,
+        Err(refusal) => u32::from(refusal),
     }
 }
 
@@ -90,9 +91,8 @@ pub fn complex_book_write(values: &[u32], space: &mut [u8]) -> u32
     if values.len() < 20 {
         return 3;
     }
-    let reading = event_in(values);
-    match reading {
-        Reading::Event(e) => send(e, space),
-        Reading::Refused(_) => 3,
+    match event_in(values) {
+        Ok(e) => send(e, space),
+        Err(_) => 3,
     }
 }

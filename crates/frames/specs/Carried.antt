@@ -1,5 +1,5 @@
 -- The event that a frame carries, once it has the length of its kind.
-use Rattle.std.specs.Prelude.{◌≡◌, ℕ, ◌+◌, ◌≤◌, Bool, true, List, [], ◌∷◌, length, take, ◌==◌, refl}
+use Rattle.std.specs.Prelude.{◌≡◌, ℕ, ◌+◌, ◌≤◌, Bool, true, List, [], ◌∷◌, length, take, ◌==◌, refl, Result, Err}
 use Rattle.std.proofs.Common.{arith}
 use Rattle.base.specs.Pick.{pick, pick_all}
 use Rattle.events.specs.Fields.{width, layout, present_of, offset, within_of, fit_n}
@@ -9,12 +9,13 @@ use Rattle.events.specs.Rows.{event_of}
 use Rattle.frames.specs.Number.{number}
 use Rattle.frames.specs.Bodies.{value_at, row_n}
 use Rattle.frames.specs.Frames.{count_at}
+use Rattle.events.specs.declared.Refusal.{Refusal}
+use Rattle.events.specs.declared.Refusal.TheVariants as F
 use Rattle.events.specs.declared.Field.{Field}
 use Rattle.events.specs.declared.Kind.{Kind}
 use Rattle.events.specs.declared.Kind.TheVariants as K
-use Rattle.events.specs.declared.Reading.{Reading}
-use Rattle.events.specs.declared.Reading.TheVariants as R
 use Rattle.frames.specs.declared.carried.Tested.{Tested}
+use Rattle.events.specs.declared.Event.{Event}
 
 -- a frame that has the length of a kind
 pub record Whole (k : Kind) (f : List ℕ) : Type 0 where
@@ -32,8 +33,8 @@ abbrev pub row_in : Kind → List ℕ → List ℕ
 row_in k f = row_n (layout_of k (count_at f)) f 19
 
 -- the event of these values, or 3: "a field outside its range"
-unfoldable pub carried_of : Kind → List ℕ → Reading
-carried_of k f = pick (fit_n (layout_of k (count_at f)) (row_in k f) 19) (event_of k (row_in k f)) (R.Refused 3)
+unfoldable pub carried_of : Kind → List ℕ → Result Event Refusal
+carried_of k f = pick (fit_n (layout_of k (count_at f)) (row_in k f) 19) (event_of k (row_in k f)) (Err F.BadField)
 
 -- the value of a field at the place a, and whether it and those before it are in their ranges
 abbrev pub tested_of : Field → List ℕ → ℕ → Bool → Tested
@@ -50,11 +51,11 @@ fit_at f [] a ok = ok
 fit_at f (x ∷ xs) a ok = fit_at f xs (a + width x) (within_of ok x (value_at x f a))
 
 -- the event of the first n fields of a kind's table, each read at its place
-abbrev placed_of : Kind → ℕ → List ℕ → Reading
-placed_of k n f = pick (fit_at f (take n (fields_of k)) 4 true) (event_of k (values_at f (take n (fields_of k)) 4)) (R.Refused 3)
+abbrev placed_of : Kind → ℕ → List ℕ → Result Event Refusal
+placed_of k n f = pick (fit_at f (take n (fields_of k)) 4 true) (event_of k (values_at f (take n (fields_of k)) 4)) (Err F.BadField)
 
 -- the same for each kind: one of fixed length has its fields at their places, so many; a strategy goes by the table
-abbrev pub carried_by : Kind → List ℕ → Reading
+abbrev pub carried_by : Kind → List ℕ → Result Event Refusal
 carried_by K.Strategy f = carried_of K.Strategy f
 carried_by K.Order f = placed_of K.Order 7 f
 carried_by K.Sweep f = placed_of K.Sweep 5 f

@@ -1,5 +1,5 @@
 -- The laws that the functions over frames use.
-use Rattle.std.specs.Prelude.{◌≡◌, ℕ, ◌+◌, ◌-◌, ◌<◌, ◌≤◌, Bool, true, false, List, ◌++◌, length, drop, ◌==◌, ◌≢◌, nat_lt}
+use Rattle.std.specs.Prelude.{◌≡◌, ℕ, ◌+◌, ◌-◌, ◌<◌, ◌≤◌, Bool, true, false, List, ◌++◌, length, drop, ◌==◌, ◌≢◌, nat_lt, Result, Ok, Err}
 use Rattle.std.proofs.Common.{◌∙◌, length-append}
 use native.Mathlib.Omega.{arith}
 use borrow.Author.Tests.{ltb-false, eqb-true}
@@ -7,6 +7,7 @@ use Rattle.std.proofs.Math.Seq.{sets, sets-eq}
 use Rattle.base.specs.Pick.{pick, pick-by, tests}
 use Rattle.events.specs.Fields.{layout, offset, fit_n, Narrow}
 use Rattle.events.specs.Kinds.{code_of, length_of}
+use Rattle.events.specs.Refusals.{refusal_of}
 use Rattle.events.specs.Table.{fields_of, layout_of}
 use Rattle.events.specs.Rows.{kind_in, row_of, event_of, layout_in, fitting, length_in}
 use Rattle.events.specs.Laws.{layout_is, offset-fits, narrow, room_in}
@@ -14,12 +15,11 @@ use Rattle.frames.specs.Number.{number, bytes, length-bytes}
 use Rattle.frames.specs.Bodies.{offset-body, row_n, body_n}
 use Rattle.frames.specs.Carried.{Whole, carried_of}
 use Rattle.frames.specs.Frames.{kind_at, count_at, row_at, judge_of, read_of, frame_of, written_of, space_of, Wrote}
+use Rattle.events.specs.declared.Refusal.{Refusal}
+use Rattle.events.specs.declared.Refusal.TheVariants as F
 use Rattle.events.specs.declared.Field.{Field}
 use Rattle.events.specs.declared.Kind.{Kind}
 use Rattle.events.specs.declared.Event.{Event}
-use Rattle.events.specs.declared.Reading.{Reading}
-use Rattle.events.specs.declared.Reading.TheVariants as R
-use Rattle.frames.specs.declared.Written.TheVariants as W
 
 pub whole_room : (k : Kind) (f : List ℕ) → Whole k f → offset (layout_of k (count_at f)) 19 ≤ length f
 whole_room k f w =
@@ -70,7 +70,7 @@ module _ (f : List ℕ) where
       (λ _ e. absurd (omega arith)))
       (λ _ e. absurd (omega arith)))
 
-  pub read-refused : (judge_of f ≢ 0) → read_of f ≡ R.Refused (judge_of f)
+  pub read-refused : (judge_of f ≢ 0) → read_of f ≡ Err (refusal_of (judge_of f))
   unfolding read_of
   read-refused n = search tests
 
@@ -79,16 +79,16 @@ module _ (f : List ℕ) where
   read-event n = search tests
 
   -- the outcomes of reading
-  read-two : judge_of f ≡ 2 → read_of f ≡ R.Refused 2
+  read-two : judge_of f ≡ 2 → read_of f ≡ Err F.BadFrame
   read-two e = read-refused (λ z. omega arith) ∙ rw e
 
-  pub read_short : length f < 4 → read_of f ≡ R.Refused 2
+  pub read_short : length f < 4 → read_of f ≡ Err F.BadFrame
   read_short h = read-two (judge-short h)
 
-  pub read-size : 4 ≤ length f → (number 2 f 0 ≢ length f) → read_of f ≡ R.Refused 2
+  pub read-size : 4 ≤ length f → (number 2 f 0 ≢ length f) → read_of f ≡ Err F.BadFrame
   read-size h n = read-two (judge-size h n)
 
-  pub read-long : 4 ≤ length f → number 2 f 0 ≡ length f → (length_of (kind_at f) (count_at f) ≢ length f) → read_of f ≡ R.Refused 2
+  pub read-long : 4 ≤ length f → number 2 f 0 ≡ length f → (length_of (kind_at f) (count_at f) ≢ length f) → read_of f ≡ Err F.BadFrame
   read-long h e n = read-two (judge-long h e n)
 
 pub long-is : (f : List ℕ) {k : Kind} {n l : ℕ} → k ≡ kind_at f → n ≡ count_at f → l ≡ length_of k n → l ≡ length_of (kind_at f) (count_at f)
@@ -98,7 +98,7 @@ long-is f p q r = r ∙ rw (p, q)
 pub read-carried : (f : List ℕ) → number 2 f 0 ≡ length f → Whole (kind_at f) f → read_of f ≡ carried_of (kind_at f) f
 unfolding carried_of row_at
 read-carried f s w =
-    pick-by (λ (x : Reading). read_of f ≡ x) (fit_n (layout_of (kind_at f) (count_at f)) (row_at f) 19)
+    pick-by (λ (x : Result Event Refusal). read_of f ≡ x) (fit_n (layout_of (kind_at f) (count_at f)) (row_at f) 19)
     (λ t. read-event f (judge-fit f w.four s w.long t))
     (λ t. let e : judge_of f ≡ 3 = judge-unfit f w.four s w.long t in read-refused f (λ z. omega arith) ∙ rw e)
 
@@ -110,7 +110,7 @@ module _ (k : Kind) (f : List ℕ) (w : Whole k f) {fs : List Field} (e : fs ≡
   pub table-room : (offset (layout fs (length f - 4)) 19 ≤ length f) × Narrow (layout fs (length f - 4))
   table-room = rw table-layout (whole_room k f w, narrow _ _)
 
-  pub table-carried : {row : List ℕ} {ok : Bool} → row ≡ row_n (layout fs (length f - 4)) f 19 → ok ≡ fit_n (layout fs (length f - 4)) row 19 → pick ok (event_of k row) (R.Refused 3) ≡ carried_of k f
+  pub table-carried : {row : List ℕ} {ok : Bool} → row ≡ row_n (layout fs (length f - 4)) f 19 → ok ≡ fit_n (layout fs (length f - 4)) row 19 → pick ok (event_of k row) (Err F.BadField) ≡ carried_of k f
   unfolding carried_of
   table-carried r t = rw (t, r, table-layout)
 
@@ -121,11 +121,11 @@ module _ (e : Event) (t : fitting e ≡ true) where
       simp (length-append, length-bytes)
       (omega (arith, offset-body (layout_in e) (row_of e) 19, room_in e t))
 
-  pub wrote_one : (sp : List ℕ) → length sp < length_in e → Wrote e sp sp (W.Refused 1)
+  pub wrote_one : (sp : List ℕ) → length sp < length_in e → Wrote e sp sp (Err F.ShortSpace)
   unfolding written_of space_of
   wrote_one sp h = record { answer = search tests; space = search tests }
 
-  pub wrote-frame : (sp sq : List ℕ) → length_in e ≤ length sp → sq ≡ sets sp 0 (frame_of e) → Wrote e sp sq (W.Length (length_in e))
+  pub wrote-frame : (sp sq : List ℕ) → length_in e ≤ length sp → sq ≡ sets sp 0 (frame_of e) → Wrote e sp sq (Ok (length_in e))
   unfolding written_of space_of
   wrote-frame sp sq h s =
       let l : length (frame_of e) ≡ length_in e = length-frame in
@@ -134,7 +134,7 @@ module _ (e : Event) (t : fitting e ≡ true) where
       let r : sq ≡ frame_of e ++ drop (length_in e) sp = s ∙ (rw z at q) in
       record { answer = search tests; space = rw r (search tests) }
 
-pub wrote-three : (e : Event) (sp : List ℕ) → fitting e ≡ false → Wrote e sp sp (W.Refused 3)
+pub wrote-three : (e : Event) (sp : List ℕ) → fitting e ≡ false → Wrote e sp sp (Err F.BadField)
 unfolding written_of space_of
 wrote-three e sp t = record { answer = search tests; space = search tests }
 

@@ -1,19 +1,18 @@
 -- Frames: what is refused, which event a frame carries, and which frame an event has.
-use Rattle.std.specs.Prelude.{◌≡◌, ℕ, List, ◌++◌, length, drop, ◌==◌, nat_lt, slice_index}
+use Rattle.std.specs.Prelude.{◌≡◌, ℕ, List, ◌++◌, length, drop, ◌==◌, nat_lt, slice_index, Result, Ok, Err}
 use Rattle.base.specs.Pick.{pick}
 use Rattle.events.specs.Fields.{fit_n}
 use Rattle.events.specs.Kinds.{kind_of, code_of, length_of}
+use Rattle.events.specs.Refusals.{refusal_number, refusal_of}
 use Rattle.events.specs.Table.{layout_of}
 use Rattle.events.specs.Rows.{kind_in, row_of, event_of, layout_in, fitting, length_in}
 use Rattle.frames.specs.Number.{number, bytes}
 use Rattle.frames.specs.Bodies.{row_n, body_n}
+use Rattle.events.specs.declared.Refusal.{Refusal}
+use Rattle.events.specs.declared.Refusal.TheVariants as F
 use Rattle.events.specs.declared.Kind.{Kind}
 use Rattle.events.specs.declared.Field.{Field}
 use Rattle.events.specs.declared.Event.{Event}
-use Rattle.events.specs.declared.Reading.{Reading}
-use Rattle.events.specs.declared.Reading.TheVariants as R
-use Rattle.frames.specs.declared.Written.{Written}
-use Rattle.frames.specs.declared.Written.TheVariants as W
 
 -- "its kind (2 bytes)", after "its whole length (2 bytes)"
 unfoldable pub kind_at : List ℕ → Kind
@@ -45,28 +44,33 @@ judge_of f =
     2)
     2)
 
+-- the number of a judgement: 0 where it refuses nothing
+abbrev pub judge_number : Result (Unit {0}) Refusal → ℕ
+judge_number (Ok t) = 0
+judge_number (Err r) = refusal_number r
+
 -- the event that a frame carries, or its refusal
-unfoldable pub read_of : List ℕ → Reading
-read_of f = pick (judge_of f == 0) (event_of (kind_at f) (row_at f)) (R.Refused (judge_of f))
+unfoldable pub read_of : List ℕ → Result Event Refusal
+read_of f = pick (judge_of f == 0) (event_of (kind_at f) (row_at f)) (Err (refusal_of (judge_of f)))
 
 -- "A frame is its whole length (2 bytes), its kind (2 bytes), then the fields, little-endian"
 unfoldable pub frame_of : Event → List ℕ
 frame_of e = bytes 2 (length_in e) ++ bytes 2 (code_of (kind_in e)) ++ body_n (layout_in e) (row_of e) 19
 
 -- "it checks 3, then 1 (space shorter than the frame)", and "answers the frame's length"
-unfoldable pub written_of : Event → ℕ → Written
-written_of e room = pick (fitting e) (pick (nat_lt room (length_in e)) (W.Refused 1) (W.Length (length_in e))) (W.Refused 3)
+unfoldable pub written_of : Event → ℕ → Result ℕ Refusal
+written_of e room = pick (fitting e) (pick (nat_lt room (length_in e)) (Err F.ShortSpace) (Ok (length_in e))) (Err F.BadField)
 
 -- "the space past the frame is unchanged", and all of it at a refusal
 unfoldable pub space_of : Event → List ℕ → List ℕ
 space_of e sp = pick (fitting e) (pick (nat_lt (length sp) (length_in e)) sp (frame_of e ++ drop (length_in e) sp)) sp
 
 -- the number that writing answers: "the frame's length", or the refusal's
-abbrev pub written_number : Written → ℕ
-written_number (W.Length n) = n
-written_number (W.Refused n) = n
+abbrev pub written_number : Result ℕ Refusal → ℕ
+written_number (Ok n) = n
+written_number (Err r) = refusal_number r
 
 -- what the writer's contract says
-pub record Wrote (e : Event) (sp sq : List ℕ) (r : Written) : Type 0 where
+pub record Wrote (e : Event) (sp sq : List ℕ) (r : Result ℕ Refusal) : Type 0 where
   pub answer : r ≡ written_of e (length sp)
   pub space : sq ≡ space_of e sp

@@ -1,5 +1,5 @@
--- Reading what was written gives the event, and a frame that reads as an event is the one written for it.
-use Rattle.std.specs.Prelude.{◌≡◌, ℕ, zero, suc, ◌+◌, ◌%◌, ◌^◌, ◌<◌, ◌≤◌, Bool, true, false, List, [], ◌++◌, length, take, drop, ◌==◌, ◌≢◌, slice_index, slice_index_or}
+-- Result Event Refusal what was written gives the event, and a frame that reads as an event is the one written for it.
+use Rattle.std.specs.Prelude.{◌≡◌, ℕ, zero, suc, ◌+◌, ◌%◌, ◌^◌, ◌<◌, ◌≤◌, Bool, true, false, List, [], ◌++◌, length, take, drop, ◌==◌, ◌≢◌, slice_index, slice_index_or, Ok, Err}
 use Rattle.std.proofs.Math.Path.{refl, sym, ap}
 use Rattle.std.proofs.Common.{◌∙◌, le_refl, arith, eqb-true, length-append, take-add, take_all}
 use mathlib.Core.List.{append_assoc, append-nil}
@@ -9,6 +9,7 @@ use Rattle.std.proofs.Math.Seq.{ext_get_or}
 use Rattle.base.specs.Pick.{pick, pick_all}
 use Rattle.events.specs.Fields.{width, bias, raw_of, layout, present_of, offset, offset-room, fit_at_lem}
 use Rattle.events.specs.Kinds.{code_of, length_of}
+use Rattle.events.specs.Refusals.{refusal_of, number-refusal}
 use Rattle.events.specs.Table.{count, layout_of}
 use Rattle.events.specs.Rows.{kind_in, row_of, event_of, layout_in, fitting, length_in, reading_number}
 use Rattle.events.specs.Laws.{Sound, field_is, exact, field-same, length-same, first_field, count-le, short-in, four-in}
@@ -22,8 +23,6 @@ use Rattle.events.specs.declared.Field.{Field}
 use Rattle.events.specs.declared.Kind.{Kind}
 use Rattle.events.specs.declared.Kind.TheVariants as K
 use Rattle.events.specs.declared.Event.{Event}
-use Rattle.events.specs.declared.Reading.TheVariants as R
-use Rattle.frames.specs.declared.Written.TheVariants as W
 
 -- a row that was read is the event's
 row_back : (k : Kind) (n : ℕ) (f : List ℕ) → row_read (event_of k (row_n (layout_of k n) f 19)) ≡ row_n (layout_of k n) f 19
@@ -41,7 +40,7 @@ row_back K.Range n f = refl
 row_back K.Specialist n f = refl
 row_back K.Unknown n f = refl
 
--- Reading what was written.
+-- Result Event Refusal what was written.
 
 module _ (e : Event) (t : fitting e ≡ true) where
   sound-in : (i : ℕ) → Sound (layout_in e i)
@@ -101,28 +100,28 @@ module _ (e : Event) (t : fitting e ≡ true) where
       judge-fit (frame_of e) (omega (arith, four-in e)) (size-written ∙ sym l) (long-written ∙ sym l) (rw (layout-written, row_is) t)
 
   -- reading the frame of an event that fits gives that event
-  pub read-written-frame : read_of (frame_of e) ≡ R.Event e
+  pub read-written-frame : read_of (frame_of e) ≡ Ok e
   read-written-frame = read-event (frame_of e) judge-written ∙ rw (kind-written, row_is) (event-row e)
 
 -- If the writer accepts an event, reading what it wrote gives that event.
-pub read-written : (e : Event) (sp : List ℕ) (n : ℕ) → written_of e (length sp) ≡ W.Length n → read_of (take n (space_of e sp)) ≡ R.Event e
+pub read-written : (e : Event) (sp : List ℕ) (n : ℕ) → written_of e (length sp) ≡ Ok n → read_of (take n (space_of e sp)) ≡ Ok e
 read-written e sp n r =
     let a = accepted e (length sp) n r in
     rw (a.long, written-frame e sp a.fit a.room_for) (read-written-frame e a.fit)
 
 -- Writing what was read.
 
-module _ (f : List ℕ) (b : Bytes f) (e : Event) (r : read_of f ≡ R.Event e) where
+module _ (f : List ℕ) (b : Bytes f) (e : Event) (r : read_of f ≡ Ok e) where
   zero-read : judge_of f ≡ 0
   zero-read = by (judge_of f == 0) refl
     where
       by : (t : Bool) → (judge_of f == 0) ≡ t → judge_of f ≡ 0
       by true h = eqb-true _ _ h
       by false h =
-          let q : read_of f ≡ R.Refused (judge_of f) = read-refused f (eqb-false _ _ h) in
+          let q : read_of f ≡ Err (refusal_of (judge_of f)) = read-refused f (eqb-false _ _ h) in
           absurd (let z : ◌≡◌ {A = ℕ} 0 1 = cc in omega arith)
 
-  made : event_of (kind_at f) (row_at f) ≡ R.Event e
+  made : event_of (kind_at f) (row_at f) ≡ Ok e
   made = sym (read-event f zero-read) ∙ r
 
   kind-read : kind_in e ≡ kind_at f
@@ -188,7 +187,7 @@ module _ (f : List ℕ) (b : Bytes f) (e : Event) (r : read_of f ≡ R.Event e) 
       rw (length-read, kind-read, layout-read, row_read_lem, head_read, body-read 19 (omega arith), exact_read) (take_all (length f) f (le_refl _))
 
   -- and the writer writes exactly that frame into any space that is long enough
-  pub frame-read-written : (sp : List ℕ) → length f ≤ length sp → Wrote e sp (f ++ drop (length f) sp) (W.Length (length f))
+  pub frame-read-written : (sp : List ℕ) → length f ≤ length sp → Wrote e sp (f ++ drop (length f) sp) (Ok (length f))
   frame-read-written sp h =
       let l : length_in e ≤ length sp = omega (arith, length-read) in
       rw (← length-read, ← frame-read) (record { answer = sym (written_is e sp fitting-read l); space = sym (space-is e sp fitting-read l) })
@@ -204,7 +203,7 @@ judge-answers f =
     pick_all P _ two (pick_all P _ (pick_all P _ (pick_all P _ (λ e. omega arith, omega arith) (λ e. omega arith, omega arith)) two) two)
 
 -- 0 only where the reader gives an event
-pub judge-event : (f : List ℕ) → judge_of f ≡ 0 → (e : Event) × (read_of f ≡ R.Event e)
+pub judge-event : (f : List ℕ) → judge_of f ≡ 0 → (e : Event) × (read_of f ≡ Ok e)
 judge-event f z =
     let w = (judged f z).whole in
     let x = event-is (kind_at f) (row_at f) (count_at f) (omega (arith, w.four, w.long)) in
@@ -220,4 +219,7 @@ judge-reads f = by (judge_of f == 0) refl
         let z : judge_of f ≡ 0 = eqb-true _ _ h in
         let w = (judged f z).whole in
         rw (read-event f z) (z ∙ sym (answer-event (kind_at f) (row_at f) (count_at f) (omega (arith, w.four, w.long))))
-    by false h = rw (read-refused f (eqb-false _ _ h))
+    by false h =
+        let n : judge_of f ≢ 0 = eqb-false _ _ h in
+        let l : judge_of f ≤ 3 = (judge-answers f).1 in
+        rw (read-refused f n) (sym (number-refusal (judge_of f) (omega arith) (omega arith)))

@@ -7,7 +7,7 @@ ghost use Rattle.frames.specs.Carried.{carried_of, Whole, tested_of};
 use super::bodies::{decode, value};
 use event_rows::event_of;
 use events::{
-    Cancel, Clock, DayEnd, Event, Field, Kind, LegOrder, National, Order, Range, Reading, Series,
+    Cancel, Clock, DayEnd, Event, Field, Kind, LegOrder, National, Order, Range, Refusal, Series,
     Specialist, Sweep, table,
 };
 
@@ -32,16 +32,16 @@ fn test(frame: &[u8], at: usize, field: Field, ok: bool) -> Tested
 }
 
 // The reading where the values are in their ranges, else the refusal 3.
-fn if_fits(ok: bool, reading: Reading) -> Reading
-    ensures { result ≡ pick ok reading (Reading.Refused 3) }
+fn if_fits(ok: bool, reading: Result<Event, Refusal>) -> Result<Event, Refusal>
+    ensures { result ≡ pick ok reading (Err Refusal.BadField) }
 {
     if ok {
         return reading;
     }
-    Reading::Refused(3)
+    Err(Refusal::BadField)
 }
 
-fn order_in(frame: &[u8]) -> Reading
+fn order_in(frame: &[u8]) -> Result<Event, Refusal>
     requires { 16 ≤ length frame.now }
     ensures { result ≡ carried_of Kind.Order frame.now }
 {
@@ -54,7 +54,7 @@ fn order_in(frame: &[u8]) -> Reading
     let level = test(frame, 12, table::LIMIT, units.ok);
     if_fits(
         level.ok,
-        Reading::Event(Event::Order(Order {
+        Ok(Event::Order(Order {
             member: member.value,
             strategy: strategy.value,
             side: side.value,
@@ -66,7 +66,7 @@ fn order_in(frame: &[u8]) -> Reading
     )
 }
 
-fn sweep_in(frame: &[u8]) -> Reading
+fn sweep_in(frame: &[u8]) -> Result<Event, Refusal>
     requires { 14 ≤ length frame.now }
     ensures { result ≡ carried_of Kind.Sweep frame.now }
 {
@@ -77,7 +77,7 @@ fn sweep_in(frame: &[u8]) -> Reading
     let level = test(frame, 10, table::LIMIT, units.ok);
     if_fits(
         level.ok,
-        Reading::Event(Event::Sweep(Sweep {
+        Ok(Event::Sweep(Sweep {
             member: member.value,
             strategy: strategy.value,
             side: side.value,
@@ -87,7 +87,7 @@ fn sweep_in(frame: &[u8]) -> Reading
     )
 }
 
-fn leg_order_in(frame: &[u8]) -> Reading
+fn leg_order_in(frame: &[u8]) -> Result<Event, Refusal>
     requires { 14 ≤ length frame.now }
     ensures { result ≡ carried_of Kind.LegOrder frame.now }
 {
@@ -98,7 +98,7 @@ fn leg_order_in(frame: &[u8]) -> Reading
     let price = test(frame, 10, table::PRICE, contracts.ok);
     if_fits(
         price.ok,
-        Reading::Event(Event::LegOrder(LegOrder {
+        Ok(Event::LegOrder(LegOrder {
             member: member.value,
             series: series.value,
             side: side.value,
@@ -108,7 +108,7 @@ fn leg_order_in(frame: &[u8]) -> Reading
     )
 }
 
-fn cancel_in(frame: &[u8]) -> Reading
+fn cancel_in(frame: &[u8]) -> Result<Event, Refusal>
     requires { 10 ≤ length frame.now }
     ensures { result ≡ carried_of Kind.Cancel frame.now }
 {
@@ -116,14 +116,14 @@ fn cancel_in(frame: &[u8]) -> Reading
     let number = test(frame, 6, table::NUMBER, member.ok);
     if_fits(
         number.ok,
-        Reading::Event(Event::Cancel(Cancel {
+        Ok(Event::Cancel(Cancel {
             member: member.value,
             number: number.value,
         })),
     )
 }
 
-fn series_in(frame: &[u8]) -> Reading
+fn series_in(frame: &[u8]) -> Result<Event, Refusal>
     requires { 6 ≤ length frame.now }
     ensures { result ≡ carried_of Kind.Series frame.now }
 {
@@ -131,36 +131,30 @@ fn series_in(frame: &[u8]) -> Reading
     let state = test(frame, 5, table::STATE, series.ok);
     if_fits(
         state.ok,
-        Reading::Event(Event::Series(Series {
+        Ok(Event::Series(Series {
             series: series.value,
             state: state.value,
         })),
     )
 }
 
-fn clock_in(frame: &[u8]) -> Reading
+fn clock_in(frame: &[u8]) -> Result<Event, Refusal>
     requires { 8 ≤ length frame.now }
     ensures { result ≡ carried_of Kind.Clock frame.now }
 {
     let time = test(frame, 4, table::TIME, true);
-    if_fits(
-        time.ok,
-        Reading::Event(Event::Clock(Clock { time: time.value })),
-    )
+    if_fits(time.ok, Ok(Event::Clock(Clock { time: time.value })))
 }
 
-fn day_end_in(frame: &[u8]) -> Reading
+fn day_end_in(frame: &[u8]) -> Result<Event, Refusal>
     requires { 6 ≤ length frame.now }
     ensures { result ≡ carried_of Kind.DayEnd frame.now }
 {
     let timer = test(frame, 4, table::TIMER, true);
-    if_fits(
-        timer.ok,
-        Reading::Event(Event::DayEnd(DayEnd { timer: timer.value })),
-    )
+    if_fits(timer.ok, Ok(Event::DayEnd(DayEnd { timer: timer.value })))
 }
 
-fn national_in(frame: &[u8]) -> Reading
+fn national_in(frame: &[u8]) -> Result<Event, Refusal>
     requires { 13 ≤ length frame.now }
     ensures { result ≡ carried_of Kind.National frame.now }
 {
@@ -169,7 +163,7 @@ fn national_in(frame: &[u8]) -> Reading
     let offer = test(frame, 9, table::NATIONAL_PRICE, bid.ok);
     if_fits(
         offer.ok,
-        Reading::Event(Event::National(National {
+        Ok(Event::National(National {
             series: series.value,
             bid: bid.value,
             offer: offer.value,
@@ -177,18 +171,15 @@ fn national_in(frame: &[u8]) -> Reading
     )
 }
 
-fn range_in(frame: &[u8]) -> Reading
+fn range_in(frame: &[u8]) -> Result<Event, Refusal>
     requires { 6 ≤ length frame.now }
     ensures { result ≡ carried_of Kind.Range frame.now }
 {
     let range = test(frame, 4, table::RANGE, true);
-    if_fits(
-        range.ok,
-        Reading::Event(Event::Range(Range { range: range.value })),
-    )
+    if_fits(range.ok, Ok(Event::Range(Range { range: range.value })))
 }
 
-fn specialist_in(frame: &[u8]) -> Reading
+fn specialist_in(frame: &[u8]) -> Result<Event, Refusal>
     requires { 8 ≤ length frame.now }
     ensures { result ≡ carried_of Kind.Specialist frame.now }
 {
@@ -197,7 +188,7 @@ fn specialist_in(frame: &[u8]) -> Reading
     let percentage = test(frame, 7, table::PERCENTAGE, strategy.ok);
     if_fits(
         percentage.ok,
-        Reading::Event(Event::Specialist(Specialist {
+        Ok(Event::Specialist(Specialist {
             member: member.value,
             strategy: strategy.value,
             percentage: percentage.value,
@@ -206,7 +197,7 @@ fn specialist_in(frame: &[u8]) -> Reading
 }
 
 // By the table of fields: a strategy, whose fields depend on its count. No frame has the length of an unknown kind.
-fn by_table(kind: Kind, frame: &[u8]) -> Reading
+fn by_table(kind: Kind, frame: &[u8]) -> Result<Event, Refusal>
     requires { Whole kind frame.now }
     ensures { result ≡ carried_of kind frame.now }
 {
@@ -217,7 +208,7 @@ fn by_table(kind: Kind, frame: &[u8]) -> Reading
 }
 
 // The event, or the refusal 3 where a field is outside its range.
-pub(crate) fn carried(kind: Kind, frame: &[u8]) -> Reading
+pub(crate) fn carried(kind: Kind, frame: &[u8]) -> Result<Event, Refusal>
     requires { Whole kind frame.now }
     ensures { result ≡ carried_of kind frame.now }
 {

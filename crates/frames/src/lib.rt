@@ -4,7 +4,7 @@
 ghost use Rattle.std.specs.Prelude.{◌≡◌, ◌≤◌, true, length};
 ghost use Rattle.std.proofs.lemmas.List.Edits.{sets};
 ghost use Rattle.events.specs.Rows.{fitting, length_in};
-ghost use Rattle.frames.specs.Frames.{count_at, judge_of, read_of, frame_of, Wrote};
+ghost use Rattle.frames.specs.Frames.{count_at, judge_number, judge_of, read_of, frame_of, Wrote};
 
 mod bodies; // the fields of a frame
 mod carried; // the event of a frame, by its kind
@@ -15,15 +15,8 @@ use carried::carried;
 use event_rows::{fits, kind_in, length_in, row_of};
 use events::kinds::{code_of, kind_of, length_of};
 use events::table::fields_of;
-use events::{Event, Reading};
+use events::{Event, Refusal};
 use numbers::{number, put};
-
-// What writing an event answers: the frame's length, or the refusal.
-#[derive(Clone, Copy)]
-pub enum Written {
-    Length(usize),
-    Refused(u32),
-}
 
 // The fifth byte, a strategy's count; 0 where there is none.
 fn count_at(frame: &[u8]) -> u32
@@ -36,32 +29,29 @@ fn count_at(frame: &[u8]) -> u32
 }
 
 // The event that a frame carries, or its refusal: 2 or 3.
-pub fn read(frame: &[u8]) -> Reading
+pub fn read(frame: &[u8]) -> Result<Event, Refusal>
     ensures { result ≡ read_of frame.now }
 {
     let n = frame.len();
     if n < 4 {
-        return Reading::Refused(2);
+        return Err(Refusal::BadFrame);
     }
     if number(frame, 0, 2) as usize != n {
-        return Reading::Refused(2);
+        return Err(Refusal::BadFrame);
     }
     let kind = kind_of(number(frame, 2, 2));
     if length_of(kind, count_at(frame)) != n {
-        return Reading::Refused(2);
+        return Err(Refusal::BadFrame);
     }
     carried(kind, frame)
 }
 
-// 0 for a frame that carries an event, else its refusal.
-pub fn judge(frame: &[u8]) -> u32
-    ensures { result ≡ judge_of frame.now }
+// Whether a frame carries an event, else its refusal: 2 or 3.
+pub fn judge(frame: &[u8]) -> Result<(), Refusal>
+    ensures { judge_number result ≡ judge_of frame.now }
 {
-    let reading = read(frame);
-    match reading {
-        Reading::Event(_) => 0,
-        Reading::Refused(n) => n,
-    }
+    read(frame)?;
+    Ok(())
 }
 
 // The event's frame at the start of the space.
@@ -78,16 +68,16 @@ fn write_frame(event: Event, space: &mut [u8])
 }
 
 // Writes the event's frame, and answers its length; or refuses with 3, or with 1 where the space is shorter.
-pub fn write(event: Event, space: &mut [u8]) -> Written
+pub fn write(event: Event, space: &mut [u8]) -> Result<usize, Refusal>
     ensures { Wrote event space.old space.new result }
 {
-    if fits(event) {
-        let n = length_in(event);
-        if space.len() < n {
-            return Written::Refused(1);
-        }
-        write_frame(event, space);
-        return Written::Length(n);
+    if !fits(event) {
+        return Err(Refusal::BadField);
     }
-    Written::Refused(3)
+    let n = length_in(event);
+    if space.len() < n {
+        return Err(Refusal::ShortSpace);
+    }
+    write_frame(event, space);
+    Ok(n)
 }

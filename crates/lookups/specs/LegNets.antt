@@ -1,14 +1,14 @@
 -- The leg nets of a strategy by what is stored of it (2026-05).
-use Rattle.std.specs.Prelude.{◌≡◌, ℕ, ◌≤◌, ◌<◌, ℤ}
+use Rattle.std.specs.Prelude.{◌≡◌, ℕ, ◌≤◌, ◌<◌, ℤ, Some, None, Err}
 use Rattle.std.proofs.Common.{◌∙◌, ap, arith, to_z, of_z, to_z-of_z}
 use Rattle.std.specs.Int.{w32}
 use Rattle.base.specs.Pick.{pick, tests}
 use Rattle.rules.specs.declared.State.{State}
-use Rattle.rules.specs.declared.StrategyNets.TheVariants as N
+use Rattle.events.specs.declared.Refusal.TheVariants as F
 use Rattle.rules.specs.State.{strategy_at, leg_net, nets_stored}
 use Rattle.rules.specs.Records.{cents}
 use Rattle.rules.specs.Refusals.{undefined}
-use Rattle.rules.specs.Lookups.{LookedUp, nets, refused_by, told_net, leg_nets, nets_tells}
+use Rattle.rules.specs.Lookups.{LookedUp, nets, refused_by, told_net, leg_nets, net_told, nets_tells}
 use Rattle.rules.specs.Valid.{Sound, Valid}
 use Rattle.rules.proofs.StoredNets.{valid-nets}
 use Rattle.records.specs.Space.{cents-fits}
@@ -23,31 +23,23 @@ stored_nets b k = pick (undefined b k) (refused_by 4) (nets (told_net (nets_stor
 pub cents-word : (l : ℕ) {z : ℤ} → l < 2_147_483_648 → z ≡ cents l → to_z w32 (of_z w32 z) ≡ cents l
 cents-word l h e = ap (λ (z : ℤ). to_z w32 (of_z w32 z)) e ∙ to_z-of_z (cents-fits l h)
 
--- two nets by what the code tests of their levels
-module _ (bid offer : ℕ) where
-  pub tells_none : bid ≡ 0 → offer ≡ 0 → nets_tells N.Unknown ≡ nets (told_net bid) (told_net offer)
-  unfolding nets_tells told_net
-  tells_none n m = search tests
+-- a net by what the code tests of its level
+module _ (level : ℕ) where
+  pub tells_unknown : level ≡ 0 → net_told None ≡ told_net level
+  unfolding net_told told_net
+  tells_unknown n = search tests
 
-  pub tells-offer : {y : ℤ} → bid ≡ 0 → ¬ (offer ≡ 0) → y ≡ cents offer → nets_tells (N.OfferAlone y) ≡ nets (told_net bid) (told_net offer)
-  unfolding nets_tells told_net
-  tells-offer n m g = rw g (search tests)
-
-  pub tells-bid : {x : ℤ} → ¬ (bid ≡ 0) → offer ≡ 0 → x ≡ cents bid → nets_tells (N.BidAlone x) ≡ nets (told_net bid) (told_net offer)
-  unfolding nets_tells told_net
-  tells-bid n m e = rw e (search tests)
-
-  pub tells_both : {x y : ℤ} → ¬ (bid ≡ 0) → ¬ (offer ≡ 0) → x ≡ cents bid → y ≡ cents offer → nets_tells (N.Both x y) ≡ nets (told_net bid) (told_net offer)
-  unfolding nets_tells told_net
-  tells_both n m e g = rw (e, g) (search tests)
+  pub tells-known : {z : ℤ} → ¬ (level ≡ 0) → z ≡ cents level → net_told (Some z) ≡ told_net level
+  unfolding net_told told_net
+  tells-known n e = rw e (search tests)
 
 -- a strategy that is not defined
 module _ (b : State) (k : ℕ) (h : b.defined ≤ k) where
-  pub nets-undefined : nets_tells (N.Refused 4) ≡ leg_nets b k
+  pub nets-undefined : nets_tells (Err F.UnknownStrategy) ≡ leg_nets b k
   unfolding leg_nets nets_tells undefined
   nets-undefined = search tests
 
-  pub row-undefined : nets_tells (N.Refused 4) ≡ stored_nets b k
+  pub row-undefined : nets_tells (Err F.UnknownStrategy) ≡ stored_nets b k
   unfolding stored_nets nets_tells undefined
   row-undefined = search tests
 

@@ -1,26 +1,30 @@
 -- Depth over the book's own table, and the laws of the lookups.
-use Rattle.std.specs.Prelude.{◌≡◌, Bool, List, [], ◌∷◌, ℕ, ◌+◌, ◌≤◌, ◌<◌, eqb, ltb, get_or, set, replicate}
+use Rattle.std.specs.Prelude.{◌≡◌, Bool, List, [], ◌∷◌, ℕ, ◌≤◌, ◌<◌, eqb, ltb, get_or, length, true, false, not, Option, Ok, Err}
+use Rattle.std.specs.Bool.{then_some}
+use Rattle.std.proofs.lemmas.List.{same_lists}
+use Rattle.std.specs.List.{sum_by}
 use Rattle.std.proofs.Math.Path.{refl, ap}
-use Rattle.std.proofs.Common.{sym, ◌∙◌, add-le-add}
+use Rattle.std.proofs.Common.{sym, ◌∙◌}
 use native.Mathlib.Omega.{arith}
 use Rattle.std.specs.Int.Count.{ones, count_trailing_zeros}
 use Rattle.base.specs.Pick.{pick, pick_all, tests}
 use Rattle.base.specs.All.{All}
-use Rattle.base.specs.Walks.{sum_n, table, seam, sum-le, sum_more, seam-first, seam-next, seam-last}
+use Rattle.base.specs.Walks.{sum_n, table, length-table, table-slot, sum-le}
+use Rattle.base.specs.Chains.{sum-by-slots}
 use Rattle.base.specs.Sets.{lowest_of}
 use Rattle.base.specs.SetLaws.{minus-lt, size-ones}
 use Rattle.rules.specs.declared.LegOrder.{LegOrder}
 use Rattle.rules.specs.declared.OrderEntry.{OrderEntry}
 use Rattle.rules.specs.declared.State.{State}
 use Rattle.rules.specs.declared.Best.{Best}
-use Rattle.rules.specs.declared.Depth.TheVariants as D
-use Rattle.rules.specs.declared.Shut.TheVariants as S
+use Rattle.rules.specs.declared.Entry.{Entry}
+use Rattle.events.specs.declared.Refusal.TheVariants as F
 use Rattle.rules.specs.Sizes.{table_rows}
-use Rattle.rules.specs.State.{no_order}
+use Rattle.rules.specs.State.{no_entry, no_order}
 use Rattle.rules.specs.Strategies.{shut_set}
 use Rattle.rules.specs.Nets.{best_of}
 use Rattle.rules.specs.Refusals.{undefined}
-use Rattle.rules.specs.Lookups.{LookedUp, values, refused_by, depth_tells, shut_tells, no_order_entry, units_of_number, contracts_of_number, live_quantity, depth_of, shut_legs}
+use Rattle.rules.specs.Lookups.{LookedUp, values, refused_by, depth_tells, shut_tells, units_of_number, contracts_of_number, depth_of, shut_legs}
 use Rattle.rules.specs.Valid.{FitEntry, FitOrder}
 use Rattle.ranges.specs.Fit.{fit-entry, fit-order}
 
@@ -49,58 +53,47 @@ lent_row os = table (lent_at os) table_rows
 held-most : (t : Bool) {q : ℕ} → q ≤ 9999 → pick t q 0 ≤ 9999
 held-most t h = pick_all (λ (x : ℕ). x ≤ 9999) t h (omega arith)
 
--- the quantity of a number by the slots passed
+-- the quantity of a number by the rows of both tables
 module _ (b : State) (n : ℕ) where
-  unfoldable pub live_n : ℕ → ℕ
-  live_n i = sum_n (units_of_number b n) i + sum_n (contracts_of_number b n) i
+  -- what an entry or a leg order holds under it
+  abbrev pub units_under : Entry → ℕ
+  units_under e = pick (eqb e.number n) e.units 0
 
-  pub live-first : 0 ≡ live_n 0
-  unfolding live_n sum_n
-  live-first = refl
+  abbrev pub contracts_under : LegOrder → ℕ
+  contracts_under o = pick (eqb o.number n) o.contracts 0
 
-  pub live-next : (i : ℕ) {q x y : ℕ} → q ≡ live_n i → x ≡ units_of_number b n i → y ≡ contracts_of_number b n i → q + (x + y) ≡ live_n (i + 1)
-  unfolding live_n
-  live-next i p e g = omega (arith, p, e, g, sum_more (units_of_number b n) i, sum_more (contracts_of_number b n) i)
+  pub units-are : length b.entries ≡ 32 → sum_by units_under b.entries ≡ sum_n (units_of_number b n) 32
+  units-are l = sum-by-slots no_entry units_under b.entries ∙ ap (sum_n (units_of_number b n)) l
 
-  pub live-last : {i q : ℕ} → i ≡ 32 → q ≡ live_n i → q ≡ live_quantity b n
-  unfolding live_n live_quantity
-  live-last h p = rw h at p
+  pub contracts-are : length b.orders ≡ 32 → sum_by contracts_under b.orders ≡ sum_n (contracts_of_number b n) 32
+  contracts-are l = sum-by-slots no_order contracts_under b.orders ∙ ap (sum_n (contracts_of_number b n)) l
 
-  module _ (es : All FitEntry b.entries) (os : All FitOrder b.orders) (i : ℕ) {x y : ℕ} (e : x ≡ units_of_number b n i) (g : y ≡ contracts_of_number b n i) where
-    pair-most : x + y ≤ 19998
-    pair-most = rw (e, g) (add-le-add (held-most _ (fit-entry es i).units) (held-most _ (fit-order os i).contracts))
+  pub units-most : All FitEntry b.entries → sum_n (units_of_number b n) 32 ≤ 319968
+  units-most f = sum-le (units_of_number b n) 9999 (λ j. held-most _ (fit-entry f j).units) 32
 
-    pub live-most : {q : ℕ} → q ≡ live_n i → i < 32 → q + (x + y) ≤ 639936
-    unfolding live_n
-    live-most p h =
-        omega (
-          arith,
-          p,
-          pair-most,
-          sum-le (units_of_number b n) 9999 (λ j. held-most _ (fit-entry es j).units) i,
-          sum-le (contracts_of_number b n) 9999 (λ j. held-most _ (fit-order os j).contracts) i,
-        )
+  pub contracts-most : All FitOrder b.orders → sum_n (contracts_of_number b n) 32 ≤ 319968
+  contracts-most f = sum-le (contracts_of_number b n) 9999 (λ j. held-most _ (fit-order f j).contracts) 32
 
 -- the depth is that of the best
 pub depth-best-of : (os : List LegOrder) (s side : ℕ) → depth_of os s side ≡ best_tells (best_of os s side)
 unfolding depth_of best_tells best_of
 depth-best-of os s side = refl
 
-pub tells-empty : (b : Best) → b.price ≡ 0 → depth_tells D.Empty ≡ best_tells b
-unfolding depth_tells best_tells
-tells-empty b z = search tests
-
-pub tells-best : (b : Best) → ¬ (b.price ≡ 0) → depth_tells (D.Best b.price b.contracts) ≡ best_tells b
-unfolding depth_tells best_tells
-tells-best b z = search tests
+pub tells-best : (b : Best) {o : Option Best} → o ≡ then_some (not (eqb b.price 0)) b → depth_tells (Ok o) ≡ best_tells b
+unfolding depth_tells best_tells pick
+tells-best b e = rw e (by (eqb b.price 0))
+  where
+    by : (t : Bool) → depth_tells (Ok (then_some (not t) b)) ≡ pick t (values []) (values (b.price ∷ (b.contracts ∷ [])))
+    by true = refl
+    by false = refl
 
 -- depth by what the code tests
 module _ (os : List LegOrder) (s side : ℕ) where
-  pub depth-series : 31 < s → depth_tells (D.Refused 3) ≡ book_depth os s side
+  pub depth-series : 31 < s → depth_tells (Err F.BadField) ≡ book_depth os s side
   unfolding book_depth depth_tells
   depth-series h = search tests
 
-  pub depth-side : s ≤ 31 → 1 < side → depth_tells (D.Refused 3) ≡ book_depth os s side
+  pub depth-side : s ≤ 31 → 1 < side → depth_tells (Err F.BadField) ≡ book_depth os s side
   unfolding book_depth depth_tells
   depth-side h g = search tests
 
@@ -109,26 +102,18 @@ module _ (os : List LegOrder) (s side : ℕ) where
   depth_is h g e t = t ∙ ap best_tells e ∙ rw (sym (depth-best-of os s side)) (search tests)
 
 -- the shut legs by what the code tests
-pub shut-undefined : (b : State) (k : ℕ) → b.defined ≤ k → shut_tells (S.Refused 4) ≡ shut_legs b k
+pub shut-undefined : (b : State) (k : ℕ) → b.defined ≤ k → shut_tells (Err F.UnknownStrategy) ≡ shut_legs b k
 unfolding shut_legs shut_tells undefined
 shut-undefined b k h = search tests
 
-pub shut-legs : (b : State) (k x : ℕ) → k < b.defined → x ≡ shut_set b k → shut_tells (S.Legs (ones x) (count_trailing_zeros 32 x)) ≡ shut_legs b k
+pub shut-legs : (b : State) (k x : ℕ) → k < b.defined → x ≡ shut_set b k → shut_tells (Ok (record { count = ones x; lowest = count_trailing_zeros 32 x })) ≡ shut_legs b k
 unfolding shut_legs shut_tells undefined lowest_of shut_set
 shut-legs b k x h e = rw (e, ← size-ones (shut_set b k) (minus-lt _ _)) (search tests)
 
--- the row by the slots that are stored
-unfoldable pub lent_n : List LegOrder → ℕ → List OrderEntry
-lent_n os i = seam (lent_at os) (replicate 32 no_order_entry) i
-
-pub row_first : (os : List LegOrder) → replicate 32 no_order_entry ≡ lent_n os 0
-unfolding lent_n
-row_first os = sym (seam-first (lent_at os) (replicate 32 no_order_entry))
-
-pub row_next : (os : List LegOrder) {i : ℕ} {row : List OrderEntry} {e : OrderEntry} → i < 32 → e ≡ lent_at os i → row ≡ lent_n os i → set row i e ≡ lent_n os (i + 1)
-unfolding lent_n
-row_next os {i} h e g = rw (e, g) (seam-next (lent_at os) (replicate 32 no_order_entry) no_order_entry i h)
-
-pub row_last : (os : List LegOrder) {i : ℕ} {row : List OrderEntry} → i ≡ 32 → row ≡ lent_n os i → row ≡ lent_row os
-unfolding lent_n lent_row
-row_last os {i} h g = rw (g, h) (seam-last (lent_at os) (replicate 32 no_order_entry) 32 (omega arith))
+-- the row by what stands at each place
+pub row-lent :
+    (os : List LegOrder) (row : List OrderEntry) → length row ≡ 32 → ((i : ℕ) (d : OrderEntry) → i < 32 → get_or row i d ≡ entry_of (get_or os i no_order)) → row ≡ lent_row os
+unfolding lent_row
+row-lent os row l h =
+    same_lists row (table (lent_at os) 32) (l ∙ sym (length-table (lent_at os) 32))
+    (λ i d k. let m : i < 32 = omega arith in h i d m ∙ sym (table-slot (lent_at os) d 32 i m))

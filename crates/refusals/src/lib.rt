@@ -1,8 +1,7 @@
-// The causes of refusals, each by what the book holds, and the refusal of each kind of event: 0 where no cause applies.
+// The causes of refusals, each by what the book holds, and the refusal of each kind of event by the first cause that applies.
 #![tactic(auto)]
 
-ghost use Rattle.std.specs.Prelude.{◌≡◌, false, not, ◌+◌, ◌<◌, eqb};
-ghost use Rattle.base.specs.Pick.{pick};
+ghost use Rattle.std.specs.Prelude.{◌≡◌, not, ◌<◌};
 ghost use Rattle.events.specs.declared.Event.TheVariants as E;
 ghost use Rattle.rules.specs.Sizes.{strategy_slots};
 ghost use Rattle.rules.specs.State.{strategy_at};
@@ -12,8 +11,10 @@ ghost use Rattle.rules.specs.declared.State.{State};
 ghost use Rattle.rules.specs.Fits.{FitOrderGiven, FitSweepGiven, FitLegOrderGiven};
 ghost use Rattle.rules.specs.Valid.{Sound};
 ghost use Rattle.ranges.specs.Fit.{Fit};
+ghost use Rattle.refusals.specs.Refusing.{refused_by, refuse_if};
 
-use entries::{count_of, old_sweep};
+use entries::{count_of, live, old_sweep};
+use events::Refusal;
 use given::sweep_given;
 use legs::free_order_slot;
 use nets::betters;
@@ -22,47 +23,40 @@ use sides::other;
 use states::{is_open, running};
 use stored_nets::net_for;
 
+// A refusal, if its cause applies.
+#[tactic(auto, unfolding(base::specs::Pick::pick))]
+fn refuse_if(cause: bool, r: Refusal) -> Result<(), Refusal>
+    ensures { result ≡ refuse_if cause r }
+{
+    if cause { Err(r) } else { Ok(()) }
+}
+
+#[tactic(auto, unfolding(rules::specs::Refusals::undefined))]
 fn undefined(b: State, k: u32) -> bool
     ensures { result ≡ undefined b k }
 {
-    let defined = b.defined as u32;
-    defined <= k
+    b.defined as u32 <= k
 }
 
 fn not_open(b: State, s: u8) -> bool
     requires { s < 32 }
     ensures { result ≡ not_open b s }
 {
-    let opened = is_open(b, s);
-    !opened
+    !is_open(b, s)
 }
 
-// Whether a row is live and of that member and number.
-fn is_live_of(m: u32, n: u32, member: u32, number: u32, quantity: u32) -> bool
-    ensures { result ≡ pick (not (eqb quantity 0)) (pick (eqb member m) (eqb number n) false) false }
-{
-    if quantity == 0 {
-        return false;
-    }
-    if member == m {
-        return number == n;
-    }
-    false
-}
-
+#[tactic(auto, unfolding(base::specs::Pick::pick, rules::specs::Refusals::is_order_of))]
 fn is_order_of(m: u32, n: u32, e: Entry) -> bool
     ensures { result ≡ is_order_of m n e }
 {
-    if e.life == 4 {
-        return false;
-    }
-    is_live_of(m, n, e.member as u32, e.number, e.units as u32)
+    live(e) && e.life != 4 && e.member as u32 == m && e.number == n
 }
 
+#[tactic(auto, unfolding(base::specs::Pick::pick, rules::specs::Refusals::is_leg_order_of, rules::specs::Events::live_order))]
 fn is_leg_order_of(m: u32, n: u32, o: LegOrder) -> bool
     ensures { result ≡ is_leg_order_of m n o }
 {
-    is_live_of(m, n, o.member as u32, o.number, o.contracts)
+    o.contracts != 0 && o.member as u32 == m && o.number == n
 }
 
 // Whether no auction runs in strategy k.
@@ -70,20 +64,18 @@ fn no_auction(b: State, k: usize) -> bool
     requires { k < strategy_slots }
     ensures { result ≡ not (running b k) }
 {
-    let runs = running(b, k);
-    !runs
+    !running(b, k)
 }
 
+#[tactic(auto, unfolding(base::specs::Pick::pick, rules::specs::Refusals::unanswerable))]
 fn unanswerable(b: State, life: u32, k: usize) -> bool
     requires { k < strategy_slots }
     ensures { result ≡ unanswerable b life k }
 {
-    if life == 2 {
-        return no_auction(b, k);
-    }
-    false
+    life == 2 && no_auction(b, k)
 }
 
+#[tactic(auto, unfolding(rules::specs::Refusals::numbers_out))]
 fn numbers_out(b: State) -> bool
     ensures { result ≡ numbers_out b }
 {
@@ -91,105 +83,74 @@ fn numbers_out(b: State) -> bool
 }
 
 // Whether no live order or leg order is of that member and number.
+#[tactic(auto, unfolding(base::specs::Pick::pick, rules::specs::Refusals::not_found))]
 fn not_found(b: State, m: u32, n: u32) -> bool
     ensures { result ≡ not_found b m n }
 {
-    let mut i: usize = 0;
-    while i < State::ROWS {
-        if is_order_of(m, n, b.entries[i]) {
-            return false;
-        }
-        if is_leg_order_of(m, n, b.orders[i]) {
-            return false;
-        }
-        i += 1;
-    }
-    true
+    !b.entries.iter().any(|e| is_order_of(m, n, *e))
+        && !b.orders.iter().any(|o| is_leg_order_of(m, n, *o))
 }
 
 // Whether the order of that number started an auction that runs.
+#[tactic(auto, unfolding(rules::specs::Refusals::is_starter))]
 fn is_starter(b: State, n: u32) -> bool
     ensures { result ≡ is_starter b n }
 {
-    let mut k: usize = 0;
-    while k < State::STRATEGIES {
-        let s = b.strategies[k];
-        if s.starter == n {
-            return true;
-        }
-        k += 1;
-    }
-    false
+    b.strategies.iter().any(|s| s.starter == n)
 }
 
+#[tactic(auto, unfolding(base::specs::Pick::pick, rules::specs::Refusals::orders_full))]
 fn orders_full(b: State) -> bool
     ensures { result ≡ orders_full b }
 {
-    let es = b.entries;
-    let live_orders = count_of(es, false);
-    State::ORDERS <= live_orders
+    State::ORDERS <= count_of(b.entries, false)
 }
 
+#[tactic(auto, unfolding(base::specs::Pick::pick, rules::specs::Refusals::sweeps_full))]
 fn sweeps_full(b: State) -> bool
     ensures { result ≡ sweeps_full b }
 {
-    let es = b.entries;
-    let live_sweeps = count_of(es, true);
-    State::SWEEPS <= live_sweeps
+    State::SWEEPS <= count_of(b.entries, true)
 }
 
 // Whether no slot of the leg orders is free.
 fn leg_orders_full(b: State) -> bool
     ensures { result ≡ leg_orders_full b }
 {
-    let os = b.orders;
-    let live = free_order_slot(os);
-    State::LEG_ORDERS <= live
+    State::LEG_ORDERS <= free_order_slot(b.orders)
 }
 
 // The refusal of a complex order.
-pub fn order_refusal(b: State, e: events::Order) -> u32
+#[tactic(auto, unfolding(base::specs::Pick::pick, rules::specs::Refusals::first_cause, rules::specs::Refusals::causes))]
+pub fn order_refusal(b: State, e: events::Order) -> Result<(), Refusal>
     requires { FitOrderGiven e }
-    ensures { result ≡ first_cause (causes b (E.Order e)) }
+    ensures { refused_by result ≡ first_cause (causes b (E.Order e)) }
 {
-    if undefined(b, e.strategy) {
-        return 4;
-    }
-    if unanswerable(b, e.life, e.strategy as usize) {
-        return 9;
-    }
-    if orders_full(b) {
-        return 12;
-    }
-    if numbers_out(b) {
-        return 13;
-    }
-    0
+    refuse_if(undefined(b, e.strategy), Refusal::UnknownStrategy)?;
+    refuse_if(
+        unanswerable(b, e.life, e.strategy as usize),
+        Refusal::NoAuction,
+    )?;
+    refuse_if(orders_full(b), Refusal::TableFull)?;
+    refuse_if(numbers_out(b), Refusal::NumbersOut)
 }
 
 // Whether a sweep replaces one.
+#[tactic(auto, unfolding(rules::specs::Events::old_sweep))]
 fn replaces(b: State, e: events::Sweep) -> bool
     requires { FitSweepGiven e × (b.last < 4294967295) }
     ensures { result ≡ replaces b e }
 {
-    let x = sweep_given(b, e);
-    let es = b.entries;
-    let old = old_sweep(es, x);
-    old < State::ROWS
+    old_sweep(b.entries, sweep_given(b, e)) < State::ROWS
 }
 
 // Whether a sweep has 0 units and none to remove.
+#[tactic(auto, unfolding(base::specs::Pick::pick, rules::specs::Refusals::removes_none))]
 fn removes_none(b: State, e: events::Sweep) -> bool
     requires { FitSweepGiven e × (b.last < 4294967295) }
     ensures { result ≡ removes_none b e }
 {
-    if e.units == 0 {
-        if replaces(b, e) {
-            return false;
-        }
-        return true;
-    }
-    false
+    e.units == 0 && !replaces(b, e)
 }
 
 // Whether a sweep has units and is no better than the leg net of its side.
@@ -197,136 +158,89 @@ fn betters_nothing(b: State, e: events::Sweep) -> bool
     requires { FitSweepGiven e × Fit b × (0 < (strategy_at b e.strategy).count) }
     ensures { result ≡ betters_nothing b e }
 {
-    if e.units == 0 {
-        return false;
-    }
     let side = e.side as u8;
-    let n = b.nets[e.strategy as usize];
-    let on = other(side);
-    if betters(true, side, e.level, net_for(n, on)) {
-        return false;
-    }
-    true
+    let net = net_for(b.nets[e.strategy as usize], other(side));
+    e.units != 0 && !betters(true, side, e.level, net)
 }
 
 // Whether a sweep needs a slot and none is free.
+#[tactic(auto, unfolding(base::specs::Pick::pick, rules::specs::Refusals::no_room))]
 fn no_room(b: State, e: events::Sweep) -> bool
     requires { FitSweepGiven e × (b.last < 4294967295) }
     ensures { result ≡ no_room b e }
 {
-    if e.units == 0 {
-        return false;
-    }
-    if replaces(b, e) {
-        return false;
-    }
-    sweeps_full(b)
+    e.units != 0 && !replaces(b, e) && sweeps_full(b)
 }
 
 // Whether a sweep needs a number and none is left.
+#[tactic(auto, unfolding(base::specs::Pick::pick, rules::specs::Refusals::sweep_numbers_out))]
 fn sweep_numbers_out(b: State, e: events::Sweep) -> bool
     ensures { result ≡ sweep_numbers_out b e }
 {
-    if e.units == 0 {
-        return false;
-    }
-    numbers_out(b)
+    e.units != 0 && numbers_out(b)
 }
 
 // The refusal of a sweep.
-pub fn sweep_refusal(b: State, e: events::Sweep) -> u32
+#[tactic(auto, unfolding(base::specs::Pick::pick, rules::specs::Refusals::first_cause, rules::specs::Refusals::causes))]
+pub fn sweep_refusal(b: State, e: events::Sweep) -> Result<(), Refusal>
     requires { FitSweepGiven e × (b.last < 4294967295) × Sound b }
-    ensures { result ≡ first_cause (causes b (E.Sweep e)) }
+    ensures { refused_by result ≡ first_cause (causes b (E.Sweep e)) }
 {
-    if undefined(b, e.strategy) {
-        return 4;
-    }
-    if no_auction(b, e.strategy as usize) {
-        return 9;
-    }
-    if removes_none(b, e) {
-        return 10;
-    }
-    if betters_nothing(b, e) {
-        return 15;
-    }
-    if no_room(b, e) {
-        return 12;
-    }
-    if sweep_numbers_out(b, e) {
-        return 13;
-    }
-    0
+    refuse_if(undefined(b, e.strategy), Refusal::UnknownStrategy)?;
+    refuse_if(no_auction(b, e.strategy as usize), Refusal::NoAuction)?;
+    refuse_if(removes_none(b, e), Refusal::NothingRemoved)?;
+    refuse_if(betters_nothing(b, e), Refusal::NothingBettered)?;
+    refuse_if(no_room(b, e), Refusal::TableFull)?;
+    refuse_if(sweep_numbers_out(b, e), Refusal::NumbersOut)
 }
 
 // The refusal of a leg order.
-pub fn leg_order_refusal(b: State, e: events::LegOrder) -> u32
+#[tactic(auto, unfolding(base::specs::Pick::pick, rules::specs::Refusals::first_cause, rules::specs::Refusals::causes))]
+pub fn leg_order_refusal(b: State, e: events::LegOrder) -> Result<(), Refusal>
     requires { FitLegOrderGiven e }
-    ensures { result ≡ first_cause (causes b (E.LegOrder e)) }
+    ensures { refused_by result ≡ first_cause (causes b (E.LegOrder e)) }
 {
-    if not_open(b, e.series as u8) {
-        return 6;
-    }
-    if leg_orders_full(b) {
-        return 12;
-    }
-    if numbers_out(b) {
-        return 13;
-    }
-    0
+    refuse_if(not_open(b, e.series as u8), Refusal::SeriesShut)?;
+    refuse_if(leg_orders_full(b), Refusal::TableFull)?;
+    refuse_if(numbers_out(b), Refusal::NumbersOut)
 }
 
 // The refusal of a cancel.
-pub fn cancel_refusal(b: State, e: events::Cancel) -> u32
-    ensures { result ≡ first_cause (causes b (E.Cancel e)) }
+#[tactic(auto, unfolding(base::specs::Pick::pick, rules::specs::Refusals::first_cause, rules::specs::Refusals::causes))]
+pub fn cancel_refusal(b: State, e: events::Cancel) -> Result<(), Refusal>
+    ensures { refused_by result ≡ first_cause (causes b (E.Cancel e)) }
 {
-    if not_found(b, e.member, e.number) {
-        return 7;
-    }
-    if is_starter(b, e.number) {
-        return 8;
-    }
-    0
+    refuse_if(not_found(b, e.member, e.number), Refusal::UnknownOrder)?;
+    refuse_if(is_starter(b, e.number), Refusal::AuctionStarter)
 }
 
 // The refusal of a clock.
-pub fn clock_refusal(b: State, e: events::Clock) -> u32
-    ensures { result ≡ first_cause (causes b (E.Clock e)) }
+#[tactic(auto, unfolding(base::specs::Pick::pick, rules::specs::Refusals::first_cause, rules::specs::Refusals::causes))]
+pub fn clock_refusal(b: State, e: events::Clock) -> Result<(), Refusal>
+    ensures { refused_by result ≡ first_cause (causes b (E.Clock e)) }
 {
-    if e.time < b.clock {
-        return 11;
-    }
-    0
+    refuse_if(e.time < b.clock, Refusal::EarlyClock)
 }
 
-pub fn specialist_refusal(b: State, e: events::Specialist) -> u32
-    ensures { result ≡ first_cause (causes b (E.Specialist e)) }
+#[tactic(auto, unfolding(base::specs::Pick::pick, rules::specs::Refusals::first_cause, rules::specs::Refusals::causes))]
+pub fn specialist_refusal(b: State, e: events::Specialist) -> Result<(), Refusal>
+    ensures { refused_by result ≡ first_cause (causes b (E.Specialist e)) }
 {
-    if undefined(b, e.strategy) {
-        return 4;
-    }
-    0
+    refuse_if(undefined(b, e.strategy), Refusal::UnknownStrategy)
 }
 
 // Whether a national bid is above a national offer, and neither is missing.
+#[tactic(auto, unfolding(base::specs::Pick::pick, rules::specs::Refusals::bid_above_offer))]
 fn bid_above_offer(e: events::National) -> bool
     ensures { result ≡ bid_above_offer e }
 {
-    if e.bid == 0 {
-        return false;
-    }
-    if e.offer == 0 {
-        return false;
-    }
-    e.offer < e.bid
+    e.bid != 0 && e.offer != 0 && e.offer < e.bid
 }
 
 // The refusal of national prices, whatever the book holds.
-pub fn national_refusal(e: events::National) -> u32
-    ensures { (b : State) → result ≡ first_cause (causes b (E.National e)) }
+#[tactic(auto, unfolding(base::specs::Pick::pick, rules::specs::Refusals::first_cause, rules::specs::Refusals::causes))]
+pub fn national_refusal(e: events::National) -> Result<(), Refusal>
+    ensures { (b : State) → refused_by result ≡ first_cause (causes b (E.National e)) }
 {
-    if bid_above_offer(e) {
-        return 14;
-    }
-    0
+    refuse_if(bid_above_offer(e), Refusal::BidAboveOffer)
 }

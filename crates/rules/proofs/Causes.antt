@@ -1,4 +1,5 @@
 -- When an event is accepted: the causes of refusals 4 to 15 in another form, both ways.
+use Rattle.std.specs.Prelude.{Result, Ok}
 use mathlib.Core.Path.{◌≡◌, refl, sym, ◌∙◌, ap}
 use mathlib.Core.Bool.{Bool, true, false, not}
 use mathlib.Core.Logic.{◌⊎◌, inl, inr, ⊎_elim}
@@ -9,6 +10,7 @@ use borrow.Author.Tests.{eqb-true, eqb-false, eq-eqb, ne_eqb, lt-leb, leb-false,
 use lib.Dec.{eqb, ltb, leb}
 use Rattle.base.specs.Pick.{pick, pick_true, pick-false, pick-by}
 use Rattle.base.specs.Walks.{sum_n}
+use Rattle.events.specs.declared.Refusal.{Refusal}
 use Rattle.events.specs.declared.Event.TheVariants as E
 use Rattle.events.specs.declared.Order.{Order as GivenOrder}
 use Rattle.events.specs.declared.Sweep.{Sweep as GivenSweep}
@@ -17,8 +19,6 @@ use Rattle.events.specs.declared.Clock.{Clock as GivenClock}
 use Rattle.events.specs.declared.National.{National as GivenNational}
 use Rattle.events.specs.declared.Range.{Range as GivenRange}
 use Rattle.events.specs.declared.Specialist.{Specialist as GivenSpecialist}
-use Rattle.events.specs.declared.Reading.{Reading}
-use Rattle.events.specs.declared.Reading.TheVariants as R
 use Rattle.rules.specs.declared.State.{State}
 use Rattle.rules.specs.State.{entry_at, strategy_at}
 use Rattle.rules.specs.Auctions.{running}
@@ -36,6 +36,7 @@ use Rattle.rules.proofs.BetterNets.{bettered, betters-it}
 use Rattle.rules.proofs.Sweeps.{old-low, old-is}
 use Rattle.rules.proofs.Refusals.{answer-is}
 use Rattle.frames.specs.Frames.{read_of}
+use Rattle.events.specs.declared.Event.{Event}
 
 pub runs_of : (b : State) (k : ℕ) → running b k ≡ true → Runs b k
 runs_of b k r = let n = eqb-false (strategy_at b k).starter 0 (not-true _ r) in omega (arith, n)
@@ -98,15 +99,15 @@ module _ (b : State) (e : GivenSpecialist) where
   specialist-accepted m = pick-false _ _ _ (lt-leb _ _ m)
 
   -- of every frame that names one: "an undefined strategy gets 4", and no other does
-  module _ (frame : List ℕ) (space : ℕ) (p : read_of frame ≡ R.Event (E.Specialist e)) where
+  module _ (frame : List ℕ) (space : ℕ) (p : read_of frame ≡ Ok (E.Specialist e)) where
     pub undefined-gets-four : record_space ≤ space → b.defined ≤ e.strategy → (step b frame space).answer ≡ 4
     unfolding refusal table_of read_causes causes first_cause undefined
-    undefined-gets-four room u = answer-is b frame space ∙ ap (λ (r : Reading). refusal b r space) p ∙ pick-false _ _ _ (le-ltb _ _ room) ∙ pick_true _ _ _ (le-leb _ _ u)
+    undefined-gets-four room u = answer-is b frame space ∙ ap (λ (r : Result Event Refusal). refusal b r space) p ∙ pick-false _ _ _ (le-ltb _ _ room) ∙ pick_true _ _ _ (le-leb _ _ u)
 
     pub four-is-undefined : (step b frame space).answer ≡ 4 → b.defined ≤ e.strategy
     unfolding refusal table_of read_causes causes first_cause undefined
     four-is-undefined a =
-        let z : refusal b (R.Event (E.Specialist e)) space ≡ 4 = sym (ap (λ (r : Reading). refusal b r space) p) ∙ sym (answer-is b frame space) ∙ a in
+        let z : refusal b (Ok (E.Specialist e)) space ≡ 4 = sym (ap (λ (r : Result Event Refusal). refusal b r space) p) ∙ sym (answer-is b frame space) ∙ a in
         let P : ℕ → Type 0 = λ (n : ℕ). n ≡ 4 → b.defined ≤ e.strategy in
         pick-by P (ltb space 15_360) (λ _ n. absurd (omega arith)) (λ _. pick-by P (leb b.defined e.strategy) (λ u _. leb-true _ _ u) (λ _ n. absurd (omega arith))) z
 

@@ -1,4 +1,5 @@
 -- What the book knows of national prices and of the execution range is what the list of events said (2026-01): for every list, any number of days.
+use Rattle.std.specs.Prelude.{Result, Ok}
 use mathlib.Core.Path.{◌≡◌, refl, sym, ◌∙◌, ap}
 use mathlib.Core.Bool.{true, false}
 use mathlib.Core.List.{List, [], ◌∷◌}
@@ -11,11 +12,10 @@ use lib.Seq.{get_or-set_same, get_or-set_other}
 use Rattle.base.specs.Pick.{pick, pick_all, pick-by, pick_true, pick-false}
 use Rattle.base.specs.All.{all-at, all_replicate}
 use Rattle.base.specs.Walks.{table, table-slot}
+use Rattle.events.specs.declared.Refusal.{Refusal}
 use Rattle.events.specs.declared.Event.{Event}
 use Rattle.events.specs.declared.Event.TheVariants as E
 use Rattle.events.specs.declared.Strategy.{Strategy as GivenStrategy}
-use Rattle.events.specs.declared.Reading.{Reading}
-use Rattle.events.specs.declared.Reading.TheVariants as R
 use Rattle.frames.specs.Frames.{read_of}
 use Rattle.rules.specs.declared.Strategy.{Strategy}
 use Rattle.rules.specs.declared.Entry.{Entry}
@@ -97,11 +97,11 @@ module _ (b : State) (n : length b.orders ≡ 32) where
 
 -- ONE ACCEPTED EVENT
 -- the book knows of series s what the event leaves, and the range
-record Learns (b : State) (x : Reading) (c : State) : Type 0 where
+record Learns (b : State) (x : Result Event Refusal) (c : State) : Type 0 where
   quote : (s : ℕ) → s < 32 → get_or c.national s no_quote ≡ quote_after x s (get_or b.national s no_quote)
   range : c.range ≡ range_after x b.range
 
-learns_nothing : {b c : State} (x : Reading) → ((s : ℕ) (q : Quote) → quote_after x s q ≡ q) → ((r : ℕ) → range_after x r ≡ r) → Same b c → Learns b x c
+learns_nothing : {b c : State} (x : Result Event Refusal) → ((s : ℕ) (q : Quote) → quote_after x s q ≡ q) → ((r : ℕ) → range_after x r ≡ r) → Same b c → Learns b x c
 learns_nothing x p q h = record { quote = λ s l. rw h.national (sym (p s _)); range = h.range ∙ sym (q _) }
 
 learns-prices : (b : State) (s : ℕ) (q : Quote) → s < length b.national → (t : ℕ) → get_or (set b.national s q) t no_quote ≡ pick (eqb s t) q (get_or b.national t no_quote)
@@ -110,22 +110,22 @@ learns-prices b s q l t =
     (λ e. rw (← (eqb-true s t e)) (get_or-set_same b.national s q no_quote l))
     (λ e. get_or-set_other b.national s t q no_quote (λ z. eqb-false s t e (sym z)))
 
-learns : (b : State) (e : Event) → Valid b → (x : Sent) → read_of x.frame ≡ R.Event e → Learns b (R.Event e) (accept b e).state
+learns : (b : State) (e : Event) → Valid b → (x : Sent) → read_of x.frame ≡ Ok e → Learns b (Ok e) (accept b e).state
 unfolding accept quote_after range_after on_national with_national on_range with_range quote_given on_day_end restart and_then fresh
-learns b (E.Strategy e) v x p = learns_nothing (R.Event (E.Strategy e)) (λ s q. refl) (λ r. refl) (same-define b v.sound.order_rows (strategy_given e))
-learns b (E.Order e) v x p = learns_nothing (R.Event (E.Order e)) (λ s q. refl) (λ r. refl) (same-order b v.sound.order_rows (order_given b e))
-learns b (E.Sweep e) v x p = learns_nothing (R.Event (E.Sweep e)) (λ s q. refl) (λ r. refl) (same-sweep b v.sound.order_rows (sweep_given b e))
-learns b (E.LegOrder e) v x p = learns_nothing (R.Event (E.LegOrder e)) (λ s q. refl) (λ r. refl) (same-leg-order b v.sound.order_rows (leg_order_given b e))
-learns b (E.Cancel e) v x p = learns_nothing (R.Event (E.Cancel e)) (λ s q. refl) (λ r. refl) (same-cancel b v.sound.order_rows e.number)
-learns b (E.Series e) v x p = learns_nothing (R.Event (E.Series e)) (λ s q. refl) (λ r. refl) (same-series b v.sound.order_rows e.series e.state)
-learns b (E.Clock e) v x p = learns_nothing (R.Event (E.Clock e)) (λ s q. refl) (λ r. refl) (same-clock b v.sound.order_rows e.time)
+learns b (E.Strategy e) v x p = learns_nothing (Ok (E.Strategy e)) (λ s q. refl) (λ r. refl) (same-define b v.sound.order_rows (strategy_given e))
+learns b (E.Order e) v x p = learns_nothing (Ok (E.Order e)) (λ s q. refl) (λ r. refl) (same-order b v.sound.order_rows (order_given b e))
+learns b (E.Sweep e) v x p = learns_nothing (Ok (E.Sweep e)) (λ s q. refl) (λ r. refl) (same-sweep b v.sound.order_rows (sweep_given b e))
+learns b (E.LegOrder e) v x p = learns_nothing (Ok (E.LegOrder e)) (λ s q. refl) (λ r. refl) (same-leg-order b v.sound.order_rows (leg_order_given b e))
+learns b (E.Cancel e) v x p = learns_nothing (Ok (E.Cancel e)) (λ s q. refl) (λ r. refl) (same-cancel b v.sound.order_rows e.number)
+learns b (E.Series e) v x p = learns_nothing (Ok (E.Series e)) (λ s q. refl) (λ r. refl) (same-series b v.sound.order_rows e.series e.state)
+learns b (E.Clock e) v x p = learns_nothing (Ok (E.Clock e)) (λ s q. refl) (λ r. refl) (same-clock b v.sound.order_rows e.time)
 learns b (E.DayEnd e) v x p = record { quote = λ s l. all-at {P = λ (q : Quote). q ≡ no_quote} no_quote refl (all_replicate no_quote refl series_count) s; range = refl }
 learns b (E.National e) v x p = record {
   quote = λ s l. learns-prices b e.series (quote_given e) (omega (arith, (event-fits x (E.National e) p).0, v.sound.quote_rows)) s;
   range = refl;
 }
 learns b (E.Range e) v x p = record { quote = λ s l. refl; range = refl }
-learns b (E.Specialist e) v x p = learns_nothing (R.Event (E.Specialist e)) (λ s q. refl) (λ r. refl) (same-shrinks (same-still b) (specialist-shrinks e.strategy (specialist_given e) b))
+learns b (E.Specialist e) v x p = learns_nothing (Ok (E.Specialist e)) (λ s q. refl) (λ r. refl) (same-shrinks (same-still b) (specialist-shrinks e.strategy (specialist_given e) b))
 
 -- ONE EVENT of any bytes: what it said if it was accepted, else nothing
 record Heard (b : State) (x : Sent) : Type 0 where
@@ -147,10 +147,10 @@ heard b x v = go (went b x)
     go (accepted_as e p c q) =
         let t : eqb (outcome b x).answer 0 ≡ true = ap (λ (o : Outcome). eqb o.answer 0) q in
         let d : next b x ≡ (accept b e).state = ap (λ (o : Outcome). o.moved.state) q in
-        let l : Learns b (R.Event e) (accept b e).state = learns b e v x p in
+        let l : Learns b (Ok e) (accept b e).state = learns b e v x p in
         record {
-          quote = λ s h. ap (λ (y : State). get_or y.national s no_quote) d ∙ l.quote s h ∙ ap (λ (r : Reading). quote_after r s (get_or b.national s no_quote)) (sym p) ∙ sym (pick_true _ _ _ t);
-          range = ap (λ (y : State). y.range) d ∙ l.range ∙ ap (λ (r : Reading). range_after r b.range) (sym p) ∙ sym (pick_true _ _ _ t);
+          quote = λ s h. ap (λ (y : State). get_or y.national s no_quote) d ∙ l.quote s h ∙ ap (λ (r : Result Event Refusal). quote_after r s (get_or b.national s no_quote)) (sym p) ∙ sym (pick_true _ _ _ t);
+          range = ap (λ (y : State). y.range) d ∙ l.range ∙ ap (λ (r : Result Event Refusal). range_after r b.range) (sym p) ∙ sym (pick_true _ _ _ t);
         }
 
 -- A LIST

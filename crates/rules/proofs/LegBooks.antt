@@ -1,5 +1,6 @@
 -- The leg orders that a list of events brought in, and the leg book that it leaves: what stands there by the log is what stands in the book, so the
 -- best prices of the log are those of the book (2026-03).
+use Rattle.std.specs.Prelude.{Ok}
 use mathlib.Core.Path.{◌≡◌, refl, sym, ◌∙◌, ap, subst}
 use mathlib.Core.Bool.{Bool, true, false}
 use mathlib.Core.Logic.{⊎_elim}
@@ -13,7 +14,6 @@ use Rattle.base.specs.Pick.{pick, pick-by, pick_true, pick-false}
 use Rattle.base.specs.Walks.{sum_n, sum_one, clash, lt-or-le}
 use Rattle.events.specs.declared.Event.{Event}
 use Rattle.events.specs.declared.Event.TheVariants as E
-use Rattle.events.specs.declared.Reading.TheVariants as R
 use Rattle.events.specs.declared.LegOrder.{LegOrder as GivenLegOrder}
 use Rattle.frames.specs.Frames.{read_of}
 use Rattle.rules.specs.declared.Entry.{Entry}
@@ -109,7 +109,7 @@ module _ (timer : ℕ) (xs : List Sent) (o : LegOrder) (i : Entered timer xs (le
 
 -- THE EVENT THAT BROUGHT ONE IN
 record LegSent (b : State) (x : Sent) (o : GivenLegOrder) : Type 0 where
-  reading : read_of x.frame ≡ R.Event (E.LegOrder o)
+  reading : read_of x.frame ≡ Ok (E.LegOrder o)
   accepted : outcome b x ≡ done b (E.LegOrder o)
 
 record AnySent (b : State) (x : Sent) : Type 0 where
@@ -122,7 +122,7 @@ unfolding pick
 sent-sweep e true w h = let z : ◌≡◌ {A = ℕ} 0 1 = cc in omega arith
 sent-sweep e false w h = let z : ◌≡◌ {A = ℕ} 0 1 = cc in omega arith
 
-sent-event : (b : State) (x : Sent) (e : Event) → read_of x.frame ≡ R.Event e → outcome b x ≡ done b e → (w : Terms) → terms_of (row_of b e) ≡ leg w → AnySent b x
+sent-event : (b : State) (x : Sent) (e : Event) → read_of x.frame ≡ Ok e → outcome b x ≡ done b e → (w : Terms) → terms_of (row_of b e) ≡ leg w → AnySent b x
 sent-event b x (E.Strategy e) p q w h = absurd (let z : ◌≡◌ {A = ℕ} 0 1 = cc in omega arith)
 sent-event b x (E.Order e) p q w h = absurd (let z : ◌≡◌ {A = ℕ} 0 1 = cc in omega arith)
 sent-event b x (E.Sweep e) p q w h = absurd (sent-sweep (sweep_given b e) (eqb e.units 0) w h)
@@ -143,7 +143,7 @@ sent-row b x w h = go (went b x)
     go (accepted_as e p c q) = sent-event b x e p q w (ap terms_of (sym (row-accepted b x e p q)) ∙ h)
 
 -- by what is logged of it
-sent-logged : (b : State) (x : Sent) (o : GivenLegOrder) → read_of x.frame ≡ R.Event (E.LegOrder o) → (outcome b x).answer ≡ 0 → LegSent b x o
+sent-logged : (b : State) (x : Sent) (o : GivenLegOrder) → read_of x.frame ≡ Ok (E.LegOrder o) → (outcome b x).answer ≡ 0 → LegSent b x o
 unfolding refused
 sent-logged b x o p a = go (went b x)
   where

@@ -75,3 +75,5 @@ pub mod Choices
 pub mod TurnLevels
 pub mod OfToday
 pub mod StoredNets
+pub mod Props
+pub mod Answers

@@ -1,19 +1,20 @@
 -- One event, accepted or refused, and then a list of them: what entered and came is what went and is there at the end.
+use Rattle.std.specs.Prelude.{Result, Ok, Err}
 use mathlib.Core.Path.{◌≡◌, refl, sym, ◌∙◌, ap, subst}
 use mathlib.Core.Bool.{Bool, true, false}
 use mathlib.Core.List.Memᴰ
 use mathlib.Core.List.{List, [], ◌∷◌, ◌++◌, map, Memᴰ}
-use Prim.Native.Nat.{ℕ, ◌+◌, ◌≤◌}
+use Prim.Native.Nat.{ℕ, ◌+◌}
 use native.Mathlib.Omega.{arith}
 use borrow.Author.Tests.{eqb-true, eqb-false, eq-eqb, ne_eqb}
 use lib.Dec.{eqb, ltb}
 use lib.IntN.{pos}
 use Rattle.base.specs.Pick.{pick, pick_all, pick_true, pick-false}
 use Rattle.base.specs.Walks.{clash}
+use Rattle.events.specs.Refusals.{refusal_number, refusal-some}
+use Rattle.events.specs.declared.Refusal.{Refusal}
 use Rattle.events.specs.declared.Event.{Event}
 use Rattle.events.specs.declared.Event.TheVariants as E
-use Rattle.events.specs.declared.Reading.{Reading}
-use Rattle.events.specs.declared.Reading.TheVariants as R
 use Rattle.events.specs.declared.Sweep.{Sweep as GivenSweep}
 use Rattle.frames.specs.Frames.{read_of}
 use Rattle.rules.specs.declared.State.{State}
@@ -25,7 +26,6 @@ use Rattle.rules.specs.Step.{Outcome, value_of, accept, refused, perform, refuse
 use Rattle.rules.specs.Records.{line_of, cents}
 use Rattle.rules.specs.Valid.{Valid}
 use Rattle.rules.specs.Totals.{Sent, Logged, outcome, after, log_of, run, lines_of, Brought, complex, leg, nothing, enters, enters_read, brought}
-use Rattle.rules.proofs.Refusals.{reads}
 use Rattle.rules.specs.Fits.{FitEvent, FitReading}
 use Rattle.rules.proofs.Ranges.{reading-fit}
 use Rattle.rules.proofs.Validity.{clear, valid-step}
@@ -39,20 +39,20 @@ done b e = record { answer = 0; value = value_of b e; moved = accept b e }
 
 pub data Went (b : State) (x : Sent) : Type 0 where
   refused_as : (n : ℕ) → (n ≡ 0 → ⊥) → outcome b x ≡ refused n b → Went b x
-  accepted_as : (e : Event) → read_of x.frame ≡ R.Event e → first_cause (causes b e) ≡ 0 → outcome b x ≡ done b e → Went b x
+  accepted_as : (e : Event) → read_of x.frame ≡ Ok e → first_cause (causes b e) ≡ 0 → outcome b x ≡ done b e → Went b x
 
 -- a frame that was refused as it was read is refused
-read-refused : (b : State) (n space : ℕ) → 2 ≤ n → refusal b (R.Refused n) space ≡ 0 → ⊥
+read-refused : (b : State) (r : Refusal) (space : ℕ) → refusal b (Err r) space ≡ 0 → ⊥
 unfolding refusal table_of read_causes
-read-refused b n space h z =
+read-refused b r space z =
     let x = clear 1 (ltb space 15_360) _ (omega arith) z in
-    let y = clear n true _ (omega arith) x.1 in
+    let y = clear (refusal_number r) true _ (refusal-some r) x.1 in
     clash refl y.0
 
-went-accepted : (b : State) (x : Sent) (r : Reading) → read_of x.frame ≡ r → outcome b x ≡ perform b r → refusal b r x.space ≡ 0 → ((n : ℕ) → r ≡ R.Refused n → 2 ≤ n) → Went b x
+went-accepted : (b : State) (x : Sent) (r : Result Event Refusal) → read_of x.frame ≡ r → outcome b x ≡ perform b r → refusal b r x.space ≡ 0 → Went b x
 unfolding perform refusal table_of read_causes
-went-accepted b x (R.Event e) p q z h = accepted_as e p (clear 1 (ltb x.space 15_360) (causes b e) (omega arith) z).1 q
-went-accepted b x (R.Refused n) p q z h = absurd (read-refused b n x.space (h n refl) z)
+went-accepted b x (Ok e) p q z = accepted_as e p (clear 1 (ltb x.space 15_360) (causes b e) (omega arith) z).1 q
+went-accepted b x (Err r) p q z = absurd (read-refused b r x.space z)
 
 outcome-yes : (b : State) (x : Sent) → eqb (refusal b (read_of x.frame) x.space) 0 ≡ true → outcome b x ≡ perform b (read_of x.frame)
 unfolding outcome step refuse_or_perform
@@ -66,20 +66,20 @@ pub went : (b : State) (x : Sent) → Went b x
 went b x = go (eqb (refusal b (read_of x.frame) x.space) 0) refl
   where
     go : (t : Bool) → eqb (refusal b (read_of x.frame) x.space) 0 ≡ t → Went b x
-    go true t = went-accepted b x (read_of x.frame) refl (outcome-yes b x t) (eqb-true _ _ t) (λ n e. ((reads x.frame).number n e).0)
+    go true t = went-accepted b x (read_of x.frame) refl (outcome-yes b x t) (eqb-true _ _ t)
     go false t = refused_as (refusal b (read_of x.frame) x.space) (eqb-false _ _ t) (outcome-no b x t)
 
 -- what two readings of one event are
-pub event-same : {e f : Event} → R.Event e ≡ R.Event f → e ≡ f
+pub event-same : {e f : Event} → ◌≡◌ {A = Result Event Refusal} (Ok e) (Ok f) → e ≡ f
 event-same h = cc
 
-pub event-fits : (x : Sent) (e : Event) → read_of x.frame ≡ R.Event e → FitEvent e
+pub event-fits : (x : Sent) (e : Event) → read_of x.frame ≡ Ok e → FitEvent e
 event-fits x e p = subst FitReading p (reading-fit x.frame)
 
 -- THE ROW that an event brought in
-unfoldable pub row_read : State → Reading → Row
-row_read b (R.Event e) = row_of b e
-row_read b (R.Refused n) = no_row
+unfoldable pub row_read : State → Result Event Refusal → Row
+row_read b (Ok e) = row_of b e
+row_read b (Err r) = no_row
 
 unfoldable pub row_in : State → Sent → Row
 row_in b x = pick (eqb (outcome b x).answer 0) (row_read b (read_of x.frame)) no_row
@@ -92,7 +92,7 @@ module _ (b : State) (x : Sent) where
   unfolding row_in refused
   row-refused n h e = pick-false _ _ _ (ap (λ (o : Outcome). eqb o.answer 0) e ∙ ne_eqb n 0 h)
 
-  pub row-accepted : (e : Event) → read_of x.frame ≡ R.Event e → outcome b x ≡ done b e → row_in b x ≡ row_of b e
+  pub row-accepted : (e : Event) → read_of x.frame ≡ Ok e → outcome b x ≡ done b e → row_in b x ≡ row_of b e
   unfolding row_in row_read
   row-accepted e p q = pick_true _ _ _ (ap (λ (o : Outcome). eqb o.answer 0) q ∙ eq-eqb 0 0 refl) ∙ rw p
 
@@ -117,7 +117,7 @@ unfolding pick enters sweep_given
 enters-sweep b e true = refl
 enters-sweep b e false = rw (some_number b.last)
 
-enters-row : (b : State) (e : Event) → enters_read (R.Event e) (value_of b e) ≡ terms_of (row_of b e)
+enters-row : (b : State) (e : Event) → enters_read (Ok e) (value_of b e) ≡ terms_of (row_of b e)
 unfolding enters_read value_of enters order_given leg_order_given
 enters-row b (E.Strategy e) = pick_all (λ (w : Brought). w ≡ nothing) _ refl refl
 enters-row b (E.Order e) = pick-false _ _ _ (some_number b.last)
@@ -135,7 +135,7 @@ brought-refused : (b : State) (x : Sent) (n : ℕ) → (n ≡ 0 → ⊥) → out
 unfolding brought refused
 brought-refused b x n h e = pick-false _ _ _ (ap (λ (o : Outcome). eqb o.answer 0) e ∙ ne_eqb n 0 h)
 
-brought-accepted : (b : State) (x : Sent) (e : Event) → read_of x.frame ≡ R.Event e → outcome b x ≡ done b e → brought (log_of x (outcome b x)) ≡ terms_of (row_of b e)
+brought-accepted : (b : State) (x : Sent) (e : Event) → read_of x.frame ≡ Ok e → outcome b x ≡ done b e → brought (log_of x (outcome b x)) ≡ terms_of (row_of b e)
 unfolding brought
 brought-accepted b x e p q = rw (p, q) (pick_true _ _ _ (eq-eqb 0 0 refl) ∙ enters-row b e)
 

@@ -1,4 +1,5 @@
 -- The specialist of each strategy is the one that the list of events named last (2026-04): for every list, any number of days.
+use Rattle.std.specs.Prelude.{Result, Ok}
 use mathlib.Core.Path.{◌≡◌, refl, sym, ◌∙◌, ap}
 use mathlib.Core.Bool.{Bool, true, false}
 use mathlib.Core.List.{List, [], ◌∷◌}
@@ -10,11 +11,10 @@ use lib.ListN.{get_or, replicate, set}
 use lib.Seq.{get_or-set_same, get_or-set_other}
 use Rattle.base.specs.Pick.{pick, pick_all, pick-by, pick_true, pick-false}
 use Rattle.base.specs.All.{all-at, all_replicate}
+use Rattle.events.specs.declared.Refusal.{Refusal}
 use Rattle.events.specs.declared.Event.{Event}
 use Rattle.events.specs.declared.Event.TheVariants as E
 use Rattle.events.specs.declared.Strategy.{Strategy as GivenStrategy}
-use Rattle.events.specs.declared.Reading.{Reading}
-use Rattle.events.specs.declared.Reading.TheVariants as R
 use Rattle.frames.specs.Frames.{read_of}
 use Rattle.rules.specs.declared.Specialist.{Specialist}
 use Rattle.rules.specs.declared.Strategy.{Strategy}
@@ -124,12 +124,12 @@ unfolding fresh
 fresh-none timer k = free-none k
 
 -- ONE ACCEPTED EVENT
-record Learns (b : State) (x : Reading) (c : State) : Type 0 where
+record Learns (b : State) (x : Result Event Refusal) (c : State) : Type 0 where
   specialist : (k : ℕ) → (strategy_at c k).specialist ≡ specialist_after x k (strategy_at b k).specialist
   unnamed : Unnamed c
 
 -- one that names none and defines none
-learns_nothing : (b : State) (e : Event) → Valid b → Unnamed b → Plain e → ((k : ℕ) (s : Specialist) → specialist_after (R.Event e) k s ≡ s) → Named b (accept b e).state → Learns b (R.Event e) (accept b e).state
+learns_nothing : (b : State) (e : Event) → Valid b → Unnamed b → Plain e → ((k : ℕ) (s : Specialist) → specialist_after (Ok e) k s ≡ s) → Named b (accept b e).state → Learns b (Ok e) (accept b e).state
 learns_nothing b e v u p same h = record {
   specialist = λ k. h k ∙ sym (same k _);
   unnamed = λ k l. h k ∙ u k (omega (arith, (accept-kin b e v.sound.order_rows p).defined));
@@ -139,7 +139,7 @@ define-more : (b : State) (t : Strategy) → b.defined ≤ (define t b).defined
 unfolding define added with_strategies with_nets
 define-more b t = pick_all (λ (c : State). b.defined ≤ c.defined) (held b t) (omega arith) (omega arith)
 
-learns : (b : State) (e : Event) → Valid b → Unnamed b → FitEvent e → first_cause (causes b e) ≡ 0 → Learns b (R.Event e) (accept b e).state
+learns : (b : State) (e : Event) → Valid b → Unnamed b → FitEvent e → first_cause (causes b e) ≡ 0 → Learns b (Ok e) (accept b e).state
 unfolding accept specialist_after on_national with_national on_range with_range on_day_end restart and_then fresh causes undefined on_specialist with_strategies specialist_given
 learns b (E.Strategy e) v u f c = record {
   specialist = named-define b e u;
@@ -181,9 +181,9 @@ heard b x v u = go (went b x)
     go (accepted_as e p c q) =
         let t : eqb (outcome b x).answer 0 ≡ true = ap (λ (o : Outcome). eqb o.answer 0) q in
         let d : next b x ≡ (accept b e).state = ap (λ (o : Outcome). o.moved.state) q in
-        let l : Learns b (R.Event e) (accept b e).state = learns b e v u (event-fits x e p) c in
+        let l : Learns b (Ok e) (accept b e).state = learns b e v u (event-fits x e p) c in
         record {
-          specialist = λ k. ap (λ (y : State). (strategy_at y k).specialist) d ∙ l.specialist k ∙ ap (λ (r : Reading). specialist_after r k (strategy_at b k).specialist) (sym p) ∙ sym (pick_true _ _ _ t);
+          specialist = λ k. ap (λ (y : State). (strategy_at y k).specialist) d ∙ l.specialist k ∙ ap (λ (r : Result Event Refusal). specialist_after r k (strategy_at b k).specialist) (sym p) ∙ sym (pick_true _ _ _ t);
           unnamed = rw d l.unnamed;
         }
 

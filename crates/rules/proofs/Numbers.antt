@@ -1,4 +1,5 @@
 -- Numbers rise within a day, so each is given once; and a strategy that is defined stays.
+use Rattle.std.specs.Prelude.{Ok}
 use mathlib.Core.Path.{◌≡◌, refl, sym, ◌∙◌, ap, subst}
 use mathlib.Core.Bool.{Bool, true, false, not}
 use mathlib.Core.Logic.{⊎_elim}
@@ -14,7 +15,6 @@ use lib.Seq.{get_or-set_other}
 use Rattle.base.specs.Pick.{pick, pick_all, pick_true}
 use Rattle.events.specs.declared.Event.{Event}
 use Rattle.events.specs.declared.Event.TheVariants as E
-use Rattle.events.specs.declared.Reading.TheVariants as R
 use Rattle.frames.specs.Frames.{read_of}
 use Rattle.rules.specs.declared.Strategy.{Strategy}
 use Rattle.rules.specs.declared.Entry.{Entry}
@@ -159,7 +159,7 @@ goes-define b t =
       strategy = λ k h. rw (get_or-set_other b.strategies b.defined k t no_strategy (λ (z : k ≡ b.defined). omega arith)) (same-strategy _);
     })
 
-accept-goes : (b : State) (e : Event) → length b.orders ≡ 32 → is_day_end (R.Event e) ≡ false → Goes b (accept b e).state (row_of b e)
+accept-goes : (b : State) (e : Event) → length b.orders ≡ 32 → is_day_end (Ok e) ≡ false → Goes b (accept b e).state (row_of b e)
 unfolding accept is_day_end
 accept-goes b (E.Strategy e) n h = goes-define b (strategy_given e)
 accept-goes b (E.Order e) n h = kin-goes (accept-kin b (E.Order e) n tt)
@@ -193,7 +193,7 @@ accept-numbered b (E.National e) c = tt
 accept-numbered b (E.Range e) c = tt
 accept-numbered b (E.Specialist e) c = tt
 
-pub ends-accepted : (b : State) (x : Sent) (e : Event) → read_of x.frame ≡ R.Event e → outcome b x ≡ done b e → ends_day (log_of x (outcome b x)) ≡ is_day_end (R.Event e)
+pub ends-accepted : (b : State) (x : Sent) (e : Event) → read_of x.frame ≡ Ok e → outcome b x ≡ done b e → ends_day (log_of x (outcome b x)) ≡ is_day_end (Ok e)
 unfolding ends_day
 ends-accepted b x e p q = rw (p, q) (pick_true _ _ _ (eq-eqb 0 0 refl))
 

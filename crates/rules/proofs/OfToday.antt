@@ -1,13 +1,13 @@
 -- 2026-05, "answers and records are those of today": no rule reads the stored nets. From two states that differ in them alone every event has one
 -- answer, one value and the same records, and leads to two states that differ in them alone.
+use Rattle.std.specs.Prelude.{Result, Ok, Err}
 use mathlib.Core.Path.{◌≡◌, refl, sym, ◌∙◌, ap}
 use mathlib.Core.Bool.{Bool, true}
 use mathlib.Core.List.{List, [], ◌∷◌, ◌++◌}
 use Prim.Native.Nat.{ℕ, zero, suc, ◌+◌, ◌-◌, ◌^◌}
 use Rattle.base.specs.Pick.{pick, pick-both}
+use Rattle.events.specs.declared.Refusal.{Refusal}
 use Rattle.events.specs.declared.Event.TheVariants as E
-use Rattle.events.specs.declared.Reading.{Reading}
-use Rattle.events.specs.declared.Reading.TheVariants as R
 use Rattle.frames.specs.Frames.{read_of}
 use Rattle.rules.specs.declared.Strategy.{Strategy}
 use Rattle.rules.specs.declared.Entry.{Entry}
@@ -33,6 +33,7 @@ use Rattle.rules.specs.Step.{Outcome, value_of, accept, refused, perform, refuse
 use Rattle.rules.specs.Totals.{Sent, Logged, outcome, after, log_of, run}
 use Rattle.rules.specs.Lookups.{live_quantity, shut_legs, leg_nets, depth_of}
 use Rattle.rules.specs.Sentences.{SameButNets, OfToday}
+use Rattle.events.specs.declared.Event.{Event}
 
 -- the state without its stored nets
 abbrev without_nets : State → State
@@ -288,35 +289,35 @@ seen_outcome x = record { answer = x.answer; value = x.value; moved = seen x.mov
 performed : {m n : Moved} (value : ℕ) → Same m n → seen_outcome (record { answer = 0; value = value; moved = m }) ≡ seen_outcome (record { answer = 0; value = value; moved = n })
 performed value e = ap (λ (m : Moved). record { answer = 0; value = value; moved = m }) e.is
 
-perform-seen : (b : State) (r : Reading) → seen_outcome (perform b r) ≡ seen_outcome (perform (without_nets b) r)
+perform-seen : (b : State) (r : Result Event Refusal) → seen_outcome (perform b r) ≡ seen_outcome (perform (without_nets b) r)
 unfolding perform refused value_of accept number_of order_given sweep_given leg_order_given on_national with_national on_range with_range on_specialist with_strategies with_nets
-perform-seen b (R.Refused n) = refl
-perform-seen b (R.Event (E.Strategy e)) = performed _ (define-blind _ b)
-perform-seen b (R.Event (E.Order e)) = performed _ (on_order-blind _ b)
-perform-seen b (R.Event (E.Sweep e)) = performed _ (on_sweep-blind _ b)
-perform-seen b (R.Event (E.LegOrder e)) = performed _ (on_leg_order-blind _ b)
-perform-seen b (R.Event (E.Cancel e)) = performed _ (cancel_number-blind _ b)
-perform-seen b (R.Event (E.Series e)) = performed _ (on_series-blind _ _ b)
-perform-seen b (R.Event (E.Clock e)) = performed _ (on_clock-blind _ b)
-perform-seen b (R.Event (E.DayEnd e)) = performed _ (on_day_end-blind _ b)
-perform-seen b (R.Event (E.National e)) = refl
-perform-seen b (R.Event (E.Range e)) = refl
-perform-seen b (R.Event (E.Specialist e)) = refl
+perform-seen b (Err r) = refl
+perform-seen b (Ok (E.Strategy e)) = performed _ (define-blind _ b)
+perform-seen b (Ok (E.Order e)) = performed _ (on_order-blind _ b)
+perform-seen b (Ok (E.Sweep e)) = performed _ (on_sweep-blind _ b)
+perform-seen b (Ok (E.LegOrder e)) = performed _ (on_leg_order-blind _ b)
+perform-seen b (Ok (E.Cancel e)) = performed _ (cancel_number-blind _ b)
+perform-seen b (Ok (E.Series e)) = performed _ (on_series-blind _ _ b)
+perform-seen b (Ok (E.Clock e)) = performed _ (on_clock-blind _ b)
+perform-seen b (Ok (E.DayEnd e)) = performed _ (on_day_end-blind _ b)
+perform-seen b (Ok (E.National e)) = refl
+perform-seen b (Ok (E.Range e)) = refl
+perform-seen b (Ok (E.Specialist e)) = refl
 
-refusal-same : (b : State) (r : Reading) (space : ℕ) → refusal b r space ≡ refusal (without_nets b) r space
+refusal-same : (b : State) (r : Result Event Refusal) (space : ℕ) → refusal b r space ≡ refusal (without_nets b) r space
 unfolding refusal table_of read_causes causes undefined not_found is_starter unanswerable removes_none strategies_full orders_full sweeps_full leg_orders_full no_room numbers_out sweep_numbers_out betters_nothing number_of old_sweep sweep_given leg_net with_nets
-refusal-same b (R.Refused n) space = refl
-refusal-same b (R.Event (E.Strategy e)) space = refl
-refusal-same b (R.Event (E.Order e)) space = refl
-refusal-same b (R.Event (E.Sweep e)) space = refl
-refusal-same b (R.Event (E.LegOrder e)) space = refl
-refusal-same b (R.Event (E.Cancel e)) space = refl
-refusal-same b (R.Event (E.Series e)) space = refl
-refusal-same b (R.Event (E.Clock e)) space = refl
-refusal-same b (R.Event (E.DayEnd e)) space = refl
-refusal-same b (R.Event (E.National e)) space = refl
-refusal-same b (R.Event (E.Range e)) space = refl
-refusal-same b (R.Event (E.Specialist e)) space = refl
+refusal-same b (Err r) space = refl
+refusal-same b (Ok (E.Strategy e)) space = refl
+refusal-same b (Ok (E.Order e)) space = refl
+refusal-same b (Ok (E.Sweep e)) space = refl
+refusal-same b (Ok (E.LegOrder e)) space = refl
+refusal-same b (Ok (E.Cancel e)) space = refl
+refusal-same b (Ok (E.Series e)) space = refl
+refusal-same b (Ok (E.Clock e)) space = refl
+refusal-same b (Ok (E.DayEnd e)) space = refl
+refusal-same b (Ok (E.National e)) space = refl
+refusal-same b (Ok (E.Range e)) space = refl
+refusal-same b (Ok (E.Specialist e)) space = refl
 
 step-seen : (b : State) (frame : List ℕ) (space : ℕ) → seen_outcome (step b frame space) ≡ seen_outcome (step (without_nets b) frame space)
 unfolding step refuse_or_perform refused with_nets

@@ -1,4 +1,5 @@
 -- Every strategy that is defined was given by an event of the list, and its ratios are those of each event that answered its number.
+use Rattle.std.specs.Prelude.{Ok}
 use mathlib.Core.Path.{◌≡◌, refl, sym, ◌∙◌, ap, subst}
 use mathlib.Core.Bool.{Bool, true, false}
 use mathlib.Core.Logic.{◌⊎◌, inl, inr, ⊎_elim}
@@ -14,7 +15,6 @@ use Rattle.base.specs.Pick.{pick, pick_true, pick-false}
 use Rattle.base.specs.Walks.{all-every, first_n, first-le, first_holds, lt-or-le}
 use Rattle.events.specs.declared.Event.{Event}
 use Rattle.events.specs.declared.Event.TheVariants as E
-use Rattle.events.specs.declared.Reading.TheVariants as R
 use Rattle.events.specs.declared.Strategy.{Strategy as GivenStrategy}
 use Rattle.frames.specs.Frames.{read_of}
 use Rattle.rules.specs.declared.Leg.{Leg}
@@ -43,7 +43,7 @@ pub record Gave (b : State) (x : Sent) (e : GivenStrategy) : Type 0 where
   pub value : (outcome b x).value ≡ number_of b (strategy_given e)
   pub state : next b x ≡ define (strategy_given e) b
 
-gave-accepted : (b : State) (x : Sent) (e : GivenStrategy) → read_of x.frame ≡ R.Event (E.Strategy e) → first_cause (causes b (E.Strategy e)) ≡ 0 → outcome b x ≡ done b (E.Strategy e) → Gave b x e
+gave-accepted : (b : State) (x : Sent) (e : GivenStrategy) → read_of x.frame ≡ Ok (E.Strategy e) → first_cause (causes b (E.Strategy e)) ≡ 0 → outcome b x ≡ done b (E.Strategy e) → Gave b x e
 unfolding causes accept value_of strategies_full
 gave-accepted b x e p c q =
     let y = clear 5 (ill_formed e) _ (omega arith) c in
@@ -59,7 +59,7 @@ no_answer : (b : State) (x : Sent) (n : ℕ) → (n ≡ 0 → ⊥) → outcome b
 unfolding refused
 no_answer b x n h q z = h (sym (ap (λ (o : Outcome). o.answer) q) ∙ z)
 
-pub gave : (b : State) (x : Sent) (e : GivenStrategy) → read_of x.frame ≡ R.Event (E.Strategy e) → (outcome b x).answer ≡ 0 → Gave b x e
+pub gave : (b : State) (x : Sent) (e : GivenStrategy) → read_of x.frame ≡ Ok (E.Strategy e) → (outcome b x).answer ≡ 0 → Gave b x e
 gave b x e p a = go (went b x)
   where
     go : Went b x → Gave b x e
@@ -96,14 +96,14 @@ number-held t b h = first_holds (same_at b t) b.defined h
 -- AN EVENT THAT ENDS NO DAY defines none, or the next one
 pub record New (b : State) (x : Sent) : Type 0 where
   pub event : GivenStrategy
-  pub reading : read_of x.frame ≡ R.Event (E.Strategy event)
+  pub reading : read_of x.frame ≡ Ok (E.Strategy event)
   pub answer : (outcome b x).answer ≡ 0
   pub value : (outcome b x).value ≡ b.defined
   pub defined : (next b x).defined ≡ b.defined + 1
   pub strategy : strategy_at (next b x) b.defined ≡ strategy_given event
   pub definition : Definition (legs_given event) event.count
 
-new-or : (b : State) (x : Sent) → Valid b → (e : GivenStrategy) → read_of x.frame ≡ R.Event (E.Strategy e) → (outcome b x).answer ≡ 0 → ((next b x).defined ≡ b.defined) ⊎ New b x
+new-or : (b : State) (x : Sent) → Valid b → (e : GivenStrategy) → read_of x.frame ≡ Ok (E.Strategy e) → (outcome b x).answer ≡ 0 → ((next b x).defined ≡ b.defined) ⊎ New b x
 new-or b x v e p a = go (held b (strategy_given e)) refl
   where
     go : (t : Bool) → held b (strategy_given e) ≡ t → ((next b x).defined ≡ b.defined) ⊎ New b x
@@ -122,7 +122,7 @@ new-or b x v e p a = go (held b (strategy_given e)) refl
 plain-same : (b : State) (x : Sent) (e : Event) → Valid b → outcome b x ≡ done b e → Plain e → (next b x).defined ≡ b.defined
 plain-same b x e v q p = ap (λ (o : Outcome). o.moved.state.defined) q ∙ (accept-kin b e v.sound.order_rows p).defined
 
-defines : (b : State) (x : Sent) (e : Event) → Valid b → read_of x.frame ≡ R.Event e → outcome b x ≡ done b e → is_day_end (R.Event e) ≡ false → ((next b x).defined ≡ b.defined) ⊎ New b x
+defines : (b : State) (x : Sent) (e : Event) → Valid b → read_of x.frame ≡ Ok e → outcome b x ≡ done b e → is_day_end (Ok e) ≡ false → ((next b x).defined ≡ b.defined) ⊎ New b x
 unfolding is_day_end
 defines b x (E.Strategy e) v p q h = new-or b x v e p (ap (λ (o : Outcome). o.answer) q)
 defines b x (E.Order e) v p q h = inl (plain-same b x (E.Order e) v q tt)
@@ -272,7 +272,7 @@ module _ (b : State) (x : Sent) (e : GivenStrategy) (k : ℕ) (v : Valid b) (g :
 
 -- the event that answered is the first of the list, or a later one
 record Here (e : GivenStrategy) (k : ℕ) (x : Logged) : Type 0 where
-  pub reading : x.reading ≡ R.Event (E.Strategy e)
+  pub reading : x.reading ≡ Ok (E.Strategy e)
   pub answer : x.answer ≡ 0
   pub value : x.value ≡ k
 

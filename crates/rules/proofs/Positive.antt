@@ -1,4 +1,5 @@
 -- "No fill record has quantity 0."
+use Rattle.std.specs.Prelude.{Result, Ok, Err}
 use mathlib.Core.Path.{◌≡◌, refl, ◌∙◌}
 use mathlib.Core.List.{List}
 use Prim.Native.Nat.{ℕ, zero, suc, ◌*◌, ◌≤◌, ◌<◌, min}
@@ -26,10 +27,9 @@ use Rattle.rules.specs.Events.{live_order, enter, enter_order}
 use Rattle.rules.specs.Given.{order_given, leg_order_given}
 use Rattle.rules.specs.Step.{Outcome, refused, perform, refuse_or_perform, step}
 use Rattle.rules.specs.Valid.{Sound}
+use Rattle.events.specs.declared.Refusal.{Refusal}
 use Rattle.events.specs.declared.Event.{Event}
 use Rattle.events.specs.declared.Event.TheVariants as E
-use Rattle.events.specs.declared.Reading.{Reading}
-use Rattle.events.specs.declared.Reading.TheVariants as R
 use Rattle.frames.specs.Frames.{read_of}
 use Rattle.rules.proofs.Tables.{behind-length}
 use Rattle.rules.proofs.Entering.{fit-past}
@@ -164,10 +164,10 @@ starts b (E.National e) r = tt
 starts b (E.Range e) r = tt
 starts b (E.Specialist e) r = tt
 
-perform-filled : (b : State) (r : Reading) → Ratios b → All Filled (perform b r).moved.records
+perform-filled : (b : State) (r : Result Event Refusal) → Ratios b → All Filled (perform b r).moved.records
 unfolding perform refused
-perform-filled b (R.Refused n) r = all_nil
-perform-filled b (R.Event e) r = accept-told positive-kept b e (starts b e r)
+perform-filled b (Err c) r = all_nil
+perform-filled b (Ok e) r = accept-told positive-kept b e (starts b e r)
 
 pub fills-positive : (b : State) → Sound b → (frame : List ℕ) (space : ℕ) → All Filled (step b frame space).moved.records
 unfolding step refuse_or_perform refused

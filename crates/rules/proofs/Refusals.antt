@@ -1,4 +1,5 @@
 -- Refusals are exact: the answer is a number exactly where its cause applies and none that is checked before it does, and 0 where none applies.
+use Rattle.std.specs.Prelude.{Result, Ok, Err}
 use mathlib.Core.Path.{◌≡◌, refl, sym, ◌∙◌, ap}
 use mathlib.Core.Bool.{Bool, true, false}
 use mathlib.Core.List.{List, [], ◌∷◌}
@@ -10,10 +11,11 @@ use lib.Dec.{eqb, ltb}
 use lib.ListN.{length, get_or}
 use Rattle.base.specs.Pick.{pick, pick_true, pick-false, pick-by, pick_all}
 use Rattle.base.specs.Walks.{clash}
+use Rattle.events.specs.Refusals.{refusal_number, refusal_of, refusal-some, number-refusal}
+use Rattle.events.specs.declared.Refusal.{Refusal}
+use Rattle.events.specs.declared.Refusal.TheVariants as F
 use Rattle.events.specs.declared.Event.{Event}
 use Rattle.events.specs.declared.Event.TheVariants as E
-use Rattle.events.specs.declared.Reading.{Reading}
-use Rattle.events.specs.declared.Reading.TheVariants as R
 use Rattle.events.specs.Rows.{event_of}
 use Rattle.events.specs.declared.Kind.{Kind}
 use Rattle.events.specs.declared.Kind.TheVariants as K
@@ -109,8 +111,8 @@ causes-in-order b (E.Range e) = tt
 causes-in-order b (E.Specialist e) = (omega arith, omega arith, tt)
 
 -- a reading refuses by 2 or 3 only
-pub record Read (r : Reading) : Type 0 where
-  pub number : (n : ℕ) → r ≡ R.Refused n → (2 ≤ n) × (n ≤ 3)
+pub record Read (r : Result Event Refusal) : Type 0 where
+  pub number : (c : Refusal) → r ≡ Err c → (2 ≤ refusal_number c) × (refusal_number c ≤ 3)
 
 order-less : (r q : ℕ) (cs : List Cause) → q ≤ r → InOrder r cs → InOrder q cs
 order-less r q [] h o = tt
@@ -124,14 +126,14 @@ read-listed zero h k = absurd (omega arith)
 read-listed (suc zero) h k = absurd (omega arith)
 read-listed (suc (suc (suc (suc n)))) h k = absurd (omega arith)
 
-table-in-order : (b : State) (r : Reading) (space : ℕ) → Read r → InOrder 0 (table_of b r space)
+table-in-order : (b : State) (r : Result Event Refusal) (space : ℕ) → Read r → InOrder 0 (table_of b r space)
 unfolding table_of read_causes rank position pick
-table-in-order b (R.Refused n) space h = let l = h.number n refl in let p = read-listed n l.0 l.1 in (omega arith, omega arith, (p.0, p.1, tt))
-table-in-order b (R.Event e) space h = (omega arith, omega arith, order-less 3 1 (causes b e) (omega arith) (causes-in-order b e))
+table-in-order b (Err r) space h = let l = h.number r refl in let p = read-listed (refusal_number r) l.0 l.1 in (omega arith, omega arith, (p.0, p.1, tt))
+table-in-order b (Ok e) space h = (omega arith, omega arith, order-less 3 1 (causes b e) (omega arith) (causes-in-order b e))
 
 -- "The smallest number that applies is given .. and never otherwise", with the refusals that were added "checked at the place named", for a frame
 -- that was read
-table-exact : (b : State) (r : Reading) (space : ℕ) → Read r → FirstRefusal (table_of b r space) (refusal b r space)
+table-exact : (b : State) (r : Result Event Refusal) (space : ℕ) → Read r → FirstRefusal (table_of b r space) (refusal b r space)
 unfolding refusal
 table-exact b r space h = first-exact 0 (table_of b r space) (table-in-order b r space h)
 
@@ -142,43 +144,45 @@ judge-number f =
     let two : P 2 = inr (omega arith, omega arith) in
     pick_all P _ two (pick_all P _ (pick_all P _ (pick_all P _ (inl refl) (inr (omega arith, omega arith))) two) two)
 
-event-number : (k : Kind) (v : List ℕ) (n : ℕ) → event_of k v ≡ R.Refused n → (2 ≤ n) × (n ≤ 3)
-event-number K.Strategy v n e = absurd (let z : ◌≡◌ {A = ℕ} 0 1 = cc in omega arith)
-event-number K.Order v n e = absurd (let z : ◌≡◌ {A = ℕ} 0 1 = cc in omega arith)
-event-number K.Sweep v n e = absurd (let z : ◌≡◌ {A = ℕ} 0 1 = cc in omega arith)
-event-number K.LegOrder v n e = absurd (let z : ◌≡◌ {A = ℕ} 0 1 = cc in omega arith)
-event-number K.Cancel v n e = absurd (let z : ◌≡◌ {A = ℕ} 0 1 = cc in omega arith)
-event-number K.Series v n e = absurd (let z : ◌≡◌ {A = ℕ} 0 1 = cc in omega arith)
-event-number K.Clock v n e = absurd (let z : ◌≡◌ {A = ℕ} 0 1 = cc in omega arith)
-event-number K.DayEnd v n e = absurd (let z : ◌≡◌ {A = ℕ} 0 1 = cc in omega arith)
-event-number K.National v n e = absurd (let z : ◌≡◌ {A = ℕ} 0 1 = cc in omega arith)
-event-number K.Range v n e = absurd (let z : ◌≡◌ {A = ℕ} 0 1 = cc in omega arith)
-event-number K.Specialist v n e = absurd (let z : ◌≡◌ {A = ℕ} 0 1 = cc in omega arith)
-event-number K.Unknown v n e = let z : 2 ≡ n = cc in (omega arith, omega arith)
+event-number : (k : Kind) (v : List ℕ) (r : Refusal) → event_of k v ≡ Err r → (2 ≤ refusal_number r) × (refusal_number r ≤ 3)
+event-number K.Strategy v r e = absurd (let z : ◌≡◌ {A = ℕ} 0 1 = cc in omega arith)
+event-number K.Order v r e = absurd (let z : ◌≡◌ {A = ℕ} 0 1 = cc in omega arith)
+event-number K.Sweep v r e = absurd (let z : ◌≡◌ {A = ℕ} 0 1 = cc in omega arith)
+event-number K.LegOrder v r e = absurd (let z : ◌≡◌ {A = ℕ} 0 1 = cc in omega arith)
+event-number K.Cancel v r e = absurd (let z : ◌≡◌ {A = ℕ} 0 1 = cc in omega arith)
+event-number K.Series v r e = absurd (let z : ◌≡◌ {A = ℕ} 0 1 = cc in omega arith)
+event-number K.Clock v r e = absurd (let z : ◌≡◌ {A = ℕ} 0 1 = cc in omega arith)
+event-number K.DayEnd v r e = absurd (let z : ◌≡◌ {A = ℕ} 0 1 = cc in omega arith)
+event-number K.National v r e = absurd (let z : ◌≡◌ {A = ℕ} 0 1 = cc in omega arith)
+event-number K.Range v r e = absurd (let z : ◌≡◌ {A = ℕ} 0 1 = cc in omega arith)
+event-number K.Specialist v r e = absurd (let z : ◌≡◌ {A = ℕ} 0 1 = cc in omega arith)
+event-number K.Unknown v r e = let z : F.BadFrame ≡ r = cc in rw (← z) (omega arith, omega arith)
 
 pub reads : (f : List ℕ) → Read (read_of f)
 unfolding read_of
-reads f = record { number = λ n. pick-by (λ (r : Reading). r ≡ R.Refused n → (2 ≤ n) × (n ≤ 3)) (eqb (judge_of f) 0) (λ _. event-number (kind_at f) (row_at f) n) (other n) }
+reads f = record { number = λ c. pick-by (λ (r : Result Event Refusal). r ≡ Err c → (2 ≤ refusal_number c) × (refusal_number c ≤ 3)) (eqb (judge_of f) 0) (λ _. event-number (kind_at f) (row_at f) c) (other c) }
   where
-    other : (n : ℕ) → eqb (judge_of f) 0 ≡ false → R.Refused (judge_of f) ≡ R.Refused n → (2 ≤ n) × (n ≤ 3)
-    other n t e =
-        let z : judge_of f ≡ n = cc in
-        ⊎_elim (λ h. absurd (eqb-false (judge_of f) 0 t h)) (λ h. (omega arith, omega arith)) (judge-number f)
+    other : (c : Refusal) → eqb (judge_of f) 0 ≡ false → ◌≡◌ {A = Result Event Refusal} (Err (refusal_of (judge_of f))) (Err c) → (2 ≤ refusal_number c) × (refusal_number c ≤ 3)
+    other c t e =
+        let z : refusal_of (judge_of f) ≡ c = cc in
+        ⊎_elim (λ h. absurd (eqb-false (judge_of f) 0 t h))
+        (λ h. rw (← z, number-refusal (judge_of f) (omega (arith, h.0)) (omega (arith, h.1))) h) (judge-number f)
 
 -- a frame that was refused as it was read is refused
-refused-some : (b : State) (space n : ℕ) → 2 ≤ n → refusal b (R.Refused n) space ≡ 0 → ⊥
+refused-some : (b : State) (space : ℕ) (r : Refusal) → refusal b (Err r) space ≡ 0 → ⊥
 unfolding refusal table_of read_causes first_cause
-refused-some b space n l =
+refused-some b space r =
+    let l = refusal-some r in
     pick-by (λ (x : ℕ). x ≡ 0 → ⊥) (ltb space 15_360) (λ _ e. omega arith)
     (λ _. pick-by (λ (x : ℕ). x ≡ 0 → ⊥) true (λ _ e. omega arith) (λ t _. clash refl t))
 
-performed : (b : State) (r : Reading) (space : ℕ) → Read r → refusal b r space ≡ 0 → (perform b r).answer ≡ 0
+performed : (b : State) (r : Result Event Refusal) (space : ℕ) → Read r → refusal b r space ≡ 0 → (perform b r).answer ≡ 0
 unfolding perform
-performed b (R.Event e) space h z = refl
-performed b (R.Refused n) space h z = absurd (refused-some b space n (h.number n refl).0 z)
+performed b (Ok e) space h z = refl
+performed b (Err r) space h z = absurd (refused-some b space r z)
 
 -- the answer is the refusal of the table
-answer-read : (b : State) (r : Reading) (space : ℕ) → Read r → (refuse_or_perform b r space).answer ≡ refusal b r space
+answer-read : (b : State) (r : Result Event Refusal) (space : ℕ) → Read r → (refuse_or_perform b r space).answer ≡ refusal b r space
 unfolding refuse_or_perform refused
 answer-read b r space h =
     pick-by (λ (o : Outcome). o.answer ≡ refusal b r space) (eqb (refusal b r space) 0)
@@ -214,7 +218,7 @@ pub refusal-only :
 refusal-only b frame space n = exact-only _ _ n (table-in-order b (read_of frame) space (reads frame)) (refusals-exact b frame space)
 
 -- A REFUSED EVENT leaves the state as it was and writes nothing
-refused-read : (b : State) (r : Reading) (space : ℕ) → Read r → ((refuse_or_perform b r space).answer ≡ 0 → ⊥) → (refuse_or_perform b r space).moved ≡ still b
+refused-read : (b : State) (r : Result Event Refusal) (space : ℕ) → Read r → ((refuse_or_perform b r space).answer ≡ 0 → ⊥) → (refuse_or_perform b r space).moved ≡ still b
 unfolding refuse_or_perform refused
 refused-read b r space h some =
     pick-by (λ (o : Outcome). o.moved ≡ still b) (eqb (refusal b r space) 0)

@@ -1,14 +1,14 @@
 -- NO EVENT WRITES MORE THAN 2,560 RECORDS, whatever its frame, from any state that is sound.
+use Rattle.std.specs.Prelude.{Result, Ok, Err}
 use Prim.Native.Nat.{ℕ, ◌≤◌, ◌<◌}
 use native.Mathlib.Omega.{arith}
 use mathlib.Core.List.{List}
 use lib.ListN.{length}
 use Rattle.base.specs.All.{All, all-at, all_map}
 use Rattle.base.specs.Pick.{pick_all}
+use Rattle.events.specs.declared.Refusal.{Refusal}
 use Rattle.events.specs.declared.Event.{Event}
 use Rattle.events.specs.declared.Event.TheVariants as E
-use Rattle.events.specs.declared.Reading.{Reading}
-use Rattle.events.specs.declared.Reading.TheVariants as R
 use Rattle.frames.specs.Frames.{read_of}
 use Rattle.rules.specs.declared.Strategy.{Strategy}
 use Rattle.rules.specs.declared.State.{State}
@@ -45,12 +45,12 @@ accept-few b (E.National e) six = omega arith
 accept-few b (E.Range e) six = omega arith
 accept-few b (E.Specialist e) six = omega arith
 
-perform-few : (b : State) (r : Reading) → Six b → length (perform b r).moved.records ≤ 2560
+perform-few : (b : State) (r : Result Event Refusal) → Six b → length (perform b r).moved.records ≤ 2560
 unfolding perform refused
-perform-few b (R.Refused n) six = omega arith
-perform-few b (R.Event e) six = accept-few b e six
+perform-few b (Err r) six = omega arith
+perform-few b (Ok e) six = accept-few b e six
 
-pub room-read : (b : State) → Sound b → (r : Reading) (space : ℕ) → length (refuse_or_perform b r space).moved.records ≤ 2560
+pub room-read : (b : State) → Sound b → (r : Result Event Refusal) (space : ℕ) → length (refuse_or_perform b r space).moved.records ≤ 2560
 unfolding refuse_or_perform refused
 room-read b h r space =
     pick_all (λ (o : Outcome). length o.moved.records ≤ 2560) _ (perform-few b r (six-sound b h)) (omega arith)

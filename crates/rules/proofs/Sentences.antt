@@ -1,4 +1,5 @@
 -- Every accepted event meets its sentence, in every state that frames lead to.
+use Rattle.std.specs.Prelude.{Result, Ok, Err}
 use mathlib.Core.Path.{◌≡◌, refl, ap}
 use mathlib.Core.List.{List}
 use Prim.Native.Nat.{ℕ, ◌≤◌}
@@ -6,10 +7,9 @@ use native.Mathlib.Omega.{arith}
 use borrow.Author.Tests.{eqb-true, eqb-false}
 use lib.Dec.{eqb, ltb}
 use Rattle.base.specs.Pick.{pick-by}
+use Rattle.events.specs.declared.Refusal.{Refusal}
 use Rattle.events.specs.declared.Event.{Event}
 use Rattle.events.specs.declared.Event.TheVariants as E
-use Rattle.events.specs.declared.Reading.{Reading}
-use Rattle.events.specs.declared.Reading.TheVariants as R
 use Rattle.frames.specs.Frames.{read_of}
 use Rattle.rules.specs.declared.State.{State}
 use Rattle.rules.specs.State.{fresh}
@@ -51,17 +51,17 @@ pub reached-fresh : (timer : ℕ) → 1 ≤ timer → timer ≤ 5000 → Reached
 reached-fresh timer h m = record { valid = valid-fresh timer h m; sweeps = one-sweep-fresh timer }
 
 -- a reading that nothing refuses
-no-refusal : (b : State) (r : Reading) (space : ℕ) (e : Event) → r ≡ R.Event e → ReachedState b → FitReading r → refusal b r space ≡ 0 → AcceptedEvent b e
+no-refusal : (b : State) (r : Result Event Refusal) (space : ℕ) (e : Event) → r ≡ Ok e → ReachedState b → FitReading r → refusal b r space ≡ 0 → AcceptedEvent b e
 unfolding refusal table_of read_causes
 no-refusal b r space e q h f z =
     record { valid = h.valid; fit = rw q at f; clear = (clear 1 (ltb space 15_360) (causes b e) (omega arith) (rw q at z)).1 }
 
-sweeps-perform : (b : State) (r : Reading) (space : ℕ) → ReachedState b → FitReading r → refusal b r space ≡ 0 → OneSweep (perform b r).moved.state
+sweeps-perform : (b : State) (r : Result Event Refusal) (space : ℕ) → ReachedState b → FitReading r → refusal b r space ≡ 0 → OneSweep (perform b r).moved.state
 unfolding perform refused
-sweeps-perform b (R.Refused n) space h f z = h.sweeps
-sweeps-perform b (R.Event e) space h f z = one-sweep-kept b e (no-refusal b (R.Event e) space e refl h f z) h.sweeps
+sweeps-perform b (Err r) space h f z = h.sweeps
+sweeps-perform b (Ok e) space h f z = one-sweep-kept b e (no-refusal b (Ok e) space e refl h f z) h.sweeps
 
-sweeps-refuse_or_perform : (b : State) (r : Reading) (space : ℕ) → ReachedState b → FitReading r → OneSweep (refuse_or_perform b r space).moved.state
+sweeps-refuse_or_perform : (b : State) (r : Result Event Refusal) (space : ℕ) → ReachedState b → FitReading r → OneSweep (refuse_or_perform b r space).moved.state
 unfolding refuse_or_perform refused
 sweeps-refuse_or_perform b r space h f =
     pick-by (λ (o : Outcome). OneSweep o.moved.state) (eqb (refusal b r space) 0) (λ z. sweeps-perform b r space h f (eqb-true _ _ z)) (λ _. h.sweeps)
@@ -75,16 +75,16 @@ pub record Held (b : State) (e : Event) (x : Moved) : Type 0 where
   pub moves : x ≡ accept b e
   pub sentence : Sentence b e
 
-decide-sentence : (b : State) (r : Reading) (space : ℕ) (e : Event) → r ≡ R.Event e → ReachedState b → FitReading r → (refuse_or_perform b r space).answer ≡ 0 → Held b e (refuse_or_perform b r space).moved
+decide-sentence : (b : State) (r : Result Event Refusal) (space : ℕ) (e : Event) → r ≡ Ok e → ReachedState b → FitReading r → (refuse_or_perform b r space).answer ≡ 0 → Held b e (refuse_or_perform b r space).moved
 unfolding refuse_or_perform perform refused
 decide-sentence b r space e q h f =
     pick-by (λ (o : Outcome). o.answer ≡ 0 → Held b e o.moved) (eqb (refusal b r space) 0)
     (λ z _. record {
-      moves = ap (λ (x : Reading). (perform b x).moved) q;
+      moves = ap (λ (x : Result Event Refusal). (perform b x).moved) q;
       sentence = event-sentence b e (no-refusal b r space e q h f (eqb-true _ _ z)) h.sweeps;
     })
     (λ z n. absurd (eqb-false _ _ z n))
 
-pub step-sentence : (b : State) → ReachedState b → (frame : List ℕ) (space : ℕ) (e : Event) → read_of frame ≡ R.Event e → (step b frame space).answer ≡ 0 → Held b e (step b frame space).moved
+pub step-sentence : (b : State) → ReachedState b → (frame : List ℕ) (space : ℕ) (e : Event) → read_of frame ≡ Ok e → (step b frame space).answer ≡ 0 → Held b e (step b frame space).moved
 unfolding step
 step-sentence b h frame space e q = decide-sentence b (read_of frame) space e q h (reading-fit frame)

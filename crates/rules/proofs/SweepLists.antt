@@ -1,5 +1,6 @@
 -- Sweeps must better the leg market (2026-03), over lists of events, from the log alone: every record that a sweep writes belongs to one that
 -- bettered at its arrival, and every sweep that was refused 15 bettered nothing.
+use Rattle.std.specs.Prelude.{Ok}
 use mathlib.Core.Path.{◌≡◌, sym, ◌∙◌, ap, subst}
 use mathlib.Core.Logic.{⊎_elim}
 use mathlib.Core.List.Memᴰ
@@ -10,7 +11,6 @@ use borrow.Author.Tests.{le-leb}
 use lib.Dec.{leb}
 use Rattle.base.specs.Pick.{pick, pick_true}
 use Rattle.events.specs.declared.Event.TheVariants as E
-use Rattle.events.specs.declared.Reading.TheVariants as R
 use Rattle.events.specs.declared.Strategy.{Strategy as GivenStrategy}
 use Rattle.events.specs.declared.Sweep.{Sweep as GivenSweep}
 use Rattle.rules.specs.declared.State.{State}
@@ -68,7 +68,7 @@ module _ (timer : ℕ) (low : 1 ≤ timer) (high : timer ≤ 5000) (xs : List Se
   -- books are those that the events before x left
   pub swept : (l : Line) → Memᴰ l (lines_of log) → l.kind ≤ 3 →
       (before : List Logged) (x : Logged) (behind : List Logged) → log ≡ before ++ (x ∷ behind) →
-      (s : GivenSweep) → x.reading ≡ R.Event (E.Sweep s) → x.value ≡ l.number →
+      (s : GivenSweep) → x.reading ≡ Ok (E.Sweep s) → x.value ≡ l.number →
       (e : GivenStrategy) → Answered e s.strategy log → Bettered before e s
   swept l m k before x behind is s p n e a =
       let some : x.value ≡ 0 → ⊥ = λ z. some_number l m k (sym n ∙ z) in

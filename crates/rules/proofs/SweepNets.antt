@@ -1,5 +1,6 @@
 -- Sweeps must better the leg market (2026-03): an accepted sweep of some units is better than the leg net of its side or that net is unknown, and
 -- refusal 15 is given exactly where a sweep is not, and nothing that is checked before applies; sweeps that are in stay when the legs move.
+use Rattle.std.specs.Prelude.{Result, Ok, Err}
 use mathlib.Core.Path.{◌≡◌, refl, sym, ◌∙◌, ap, subst}
 use mathlib.Core.Bool.{Bool, true, false, not}
 use mathlib.Core.Logic.{◌⊎◌, inl, ⊎_elim}
@@ -11,10 +12,10 @@ use lib.Dec.{eqb, ltb}
 use lib.ListN.{get_or}
 use Rattle.base.specs.Pick.{pick, pick_true, pick-false, pick_no, pick_all, pick-by}
 use Rattle.base.specs.Walks.{clash, lt-or-le}
+use Rattle.events.specs.Refusals.{refusal_number}
+use Rattle.events.specs.declared.Refusal.{Refusal}
 use Rattle.events.specs.declared.Event.{Event}
 use Rattle.events.specs.declared.Event.TheVariants as E
-use Rattle.events.specs.declared.Reading.{Reading}
-use Rattle.events.specs.declared.Reading.TheVariants as R
 use Rattle.events.specs.declared.Sweep.{Sweep as GivenSweep}
 use Rattle.events.specs.declared.LegOrder.{LegOrder as GivenLegOrder}
 use Rattle.events.specs.declared.Cancel.{Cancel as GivenCancel}
@@ -54,11 +55,11 @@ use Rattle.rules.proofs.Causes.{runs_of, sweep-may}
 
 -- AN ACCEPTED SWEEP: "From now on a sweep of 1 unit or more has to be above the bid net when it buys, below the offer net when it sells. Where that
 -- net is unknown, every price betters it."
-pub sweep-bettered : (b : State) → Valid b → (frame : List ℕ) (space : ℕ) (e : GivenSweep) → read_of frame ≡ R.Event (E.Sweep e) → (step b frame space).answer ≡ 0 → 0 < e.units →
+pub sweep-bettered : (b : State) → Valid b → (frame : List ℕ) (space : ℕ) (e : GivenSweep) → read_of frame ≡ Ok (E.Sweep e) → (step b frame space).answer ≡ 0 → 0 < e.units →
     NetUnknown b e.side e.strategy ⊎ BetterThanNet b e.side e.strategy e.level
 unfolding refusal table_of read_causes
 sweep-bettered b v frame space e p a some =
-    let z : refusal b (R.Event (E.Sweep e)) space ≡ 0 = ap (λ (r : Reading). refusal b r space) (sym p) ∙ sym (answer-is b frame space) ∙ a in
+    let z : refusal b (Ok (E.Sweep e)) space ≡ 0 = ap (λ (r : Result Event Refusal). refusal b r space) (sym p) ∙ sym (answer-is b frame space) ∙ a in
     let c : first_cause (causes b (E.Sweep e)) ≡ 0 = (clear 1 (ltb space 15_360) _ (omega arith) z).1 in
     (sweep-may b v e (event-fits (record { frame = frame; space = space }) (E.Sweep e) p) c).betters some
 
@@ -68,7 +69,7 @@ record IsSweep (e : Event) : Type 0 where
   sweep : GivenSweep
   is : e ≡ E.Sweep sweep
 
-only-sweeps : (b : State) (e : Event) (space : ℕ) → applies (table_of b (R.Event e) space) 15 ≡ true → IsSweep e
+only-sweeps : (b : State) (e : Event) (space : ℕ) → applies (table_of b (Ok e) space) 15 ≡ true → IsSweep e
 unfolding table_of read_causes causes applies pick
 only-sweeps b (E.Strategy e) space h = absurd (clash h refl)
 only-sweeps b (E.Order e) space h = absurd (clash h refl)
@@ -82,9 +83,9 @@ only-sweeps b (E.National e) space h = absurd (clash h refl)
 only-sweeps b (E.Range e) space h = absurd (clash h refl)
 only-sweeps b (E.Specialist e) space h = absurd (clash h refl)
 
-not-read : (b : State) (n space : ℕ) → n ≤ 3 → applies (table_of b (R.Refused n) space) 15 ≡ true → ⊥
+not-read : (b : State) (r : Refusal) (space : ℕ) → refusal_number r ≤ 3 → applies (table_of b (Err r) space) 15 ≡ true → ⊥
 unfolding table_of read_causes applies pick
-not-read b n space l h = clash h (pick-false (eqb n 15) _ _ (ne_eqb n 15 (λ z. omega arith)))
+not-read b r space l h = clash h (pick-false (eqb (refusal_number r) 15) _ _ (ne_eqb (refusal_number r) 15 (λ z. omega arith)))
 
 -- a cause that is checked before and does not apply, and the one that does
 passed : (n m : ℕ) (c : Bool) (cs : List Cause) → (n ≡ m → ⊥) → first_cause ((n if c) ∷ cs) ≡ m → (c ≡ false) × (first_cause cs ≡ m)
@@ -102,7 +103,7 @@ unfolding first_cause
 no-cause = refl
 
 module _ (b : State) (frame : List ℕ) (space : ℕ) where
-  of-sweep : (e : GivenSweep) → read_of frame ≡ R.Event (E.Sweep e) → refusal b (R.Event (E.Sweep e)) space ≡ 15 → BettersNothing b frame space
+  of-sweep : (e : GivenSweep) → read_of frame ≡ Ok (E.Sweep e) → refusal b (Ok (E.Sweep e)) space ≡ 15 → BettersNothing b frame space
   unfolding refusal table_of read_causes causes undefined betters_nothing
   of-sweep e p a =
       let s = passed 1 15 (ltb space 15_360) _ (λ z. omega arith) a in
@@ -127,12 +128,12 @@ module _ (b : State) (frame : List ℕ) (space : ℕ) where
   pub fifteen-why : (step b frame space).answer ≡ 15 → BettersNothing b frame space
   fifteen-why a = by (read_of frame) refl (rw a at ((refusals-exact b frame space).some (λ z. omega arith)))
     where
-      by : (r : Reading) → read_of frame ≡ r → applies (table_of b (read_of frame) space) 15 ≡ true → BettersNothing b frame space
-      by (R.Refused n) p h = absurd (not-read b n space ((reads frame).number n p).1 (rw p at h))
-      by (R.Event e) p h =
+      by : (r : Result Event Refusal) → read_of frame ≡ r → applies (table_of b (read_of frame) space) 15 ≡ true → BettersNothing b frame space
+      by (Err r) p h = absurd (not-read b r space ((reads frame).number r p).1 (rw p at h))
+      by (Ok e) p h =
           let i : IsSweep e = only-sweeps b e space (rw p at h) in
-          let q : read_of frame ≡ R.Event (E.Sweep i.sweep) = p ∙ ap R.Event i.is in
-          of-sweep i.sweep q (ap (λ (r : Reading). refusal b r space) (sym q) ∙ sym (answer-is b frame space) ∙ a)
+          let q : read_of frame ≡ Ok (E.Sweep i.sweep) = p ∙ ap Ok i.is in
+          of-sweep i.sweep q (ap (λ (r : Result Event Refusal). refusal b r space) (sym q) ∙ sym (answer-is b frame space) ∙ a)
 
   -- and there it is
   pub fifteen-given : BettersNothing b frame space → (step b frame space).answer ≡ 15
@@ -142,7 +143,7 @@ module _ (b : State) (frame : List ℕ) (space : ℕ) where
       let some : eqb e.units 0 ≡ false = ne_eqb e.units 0 (λ z. omega (arith, x.units)) in
       let nothing : betters_nothing b e ≡ true = pick-false _ _ _ some ∙ ap not (better-no b e.side e.strategy e.level x.nothing) in
       answer-is b frame space
-      ∙ ap (λ (r : Reading). refusal b r space) x.reading
+      ∙ ap (λ (r : Result Event Refusal). refusal b r space) x.reading
       ∙ pick-false _ _ _ (le-ltb _ _ x.room)
       ∙ pick-false _ _ _ (lt-leb _ _ x.defined)
       ∙ pick-false _ _ _ (ap not (runs b e.strategy x.auction))
@@ -150,14 +151,14 @@ module _ (b : State) (frame : List ℕ) (space : ℕ) where
       ∙ pick_true _ _ _ nothing
 
 -- "Where that net is unknown, every price betters it.": no sweep is refused 15 there
-pub unknown-lets-in : (b : State) → Valid b → (frame : List ℕ) (space : ℕ) (e : GivenSweep) → read_of frame ≡ R.Event (E.Sweep e) → NetUnknown b e.side e.strategy → (step b frame space).answer ≡ 15 → ⊥
+pub unknown-lets-in : (b : State) → Valid b → (frame : List ℕ) (space : ℕ) (e : GivenSweep) → read_of frame ≡ Ok (E.Sweep e) → NetUnknown b e.side e.strategy → (step b frame space).answer ≡ 15 → ⊥
 unknown-lets-in b v frame space e p u a =
     let t : BettersNothing b frame space = fifteen-why b frame space a in
     let q : t.sweep ≡ e = sweep-same (sym t.reading ∙ p) in
     clash (betters-it b e.side e.strategy e.level v.sound (event-fits (record { frame = frame; space = space }) (E.Sweep e) p).side (inl u))
     (better-no b e.side e.strategy e.level (subst (λ (s : GivenSweep). NoBetterThanNet b s.side s.strategy s.level) q t.nothing))
   where
-    sweep-same : {s t : GivenSweep} → R.Event (E.Sweep s) ≡ R.Event (E.Sweep t) → s ≡ t
+    sweep-same : {s t : GivenSweep} → ◌≡◌ {A = Result Event Refusal} (Ok (E.Sweep s)) (Ok (E.Sweep t)) → s ≡ t
     sweep-same h = cc
 
 -- SWEEPS ALREADY IN "are not looked at again when the legs move": a leg order, whatever it trades, and a cancel leave every sweep as it was

@@ -1,5 +1,6 @@
 -- A sweep against the leg net of its side, from the log alone (2026-03): that net is the sum, in cents, of the best prices that the list left, over
 -- the legs of the event that defined the strategy; and where a price is missing there is none.
+use Rattle.std.specs.Prelude.{Ok}
 use mathlib.Core.Path.{◌≡◌, refl, sym, ◌∙◌, ap}
 use mathlib.Core.Bool.{true}
 use mathlib.Core.Logic.{⊎_elim}
@@ -11,7 +12,6 @@ use lib.ListN.{get_or}
 use Rattle.base.specs.Pick.{pick, pick-by}
 use Rattle.base.specs.All.{all-at}
 use Rattle.events.specs.declared.Event.TheVariants as E
-use Rattle.events.specs.declared.Reading.TheVariants as R
 use Rattle.events.specs.declared.Strategy.{Strategy as GivenStrategy}
 use Rattle.events.specs.declared.Sweep.{Sweep as GivenSweep}
 use Rattle.frames.specs.Frames.{read_of}
@@ -46,7 +46,7 @@ pub record Arrived (b : State) (s : GivenSweep) : Type 0 where
   pub betters : betters true s.side s.level (own_net b s.side s.strategy) ≡ true
 
 -- an accepted one whose value is not 0
-pub arrived : (b : State) → Valid b → (x : Sent) (s : GivenSweep) → read_of x.frame ≡ R.Event (E.Sweep s) → (outcome b x).answer ≡ 0 → ((outcome b x).value ≡ 0 → ⊥) → Arrived b s
+pub arrived : (b : State) → Valid b → (x : Sent) (s : GivenSweep) → read_of x.frame ≡ Ok (E.Sweep s) → (outcome b x).answer ≡ 0 → ((outcome b x).value ≡ 0 → ⊥) → Arrived b s
 unfolding refused value_of
 arrived b v x s p a some = go (went b x)
   where

@@ -1,4 +1,5 @@
 -- Every state that events lead to is valid, and a refused event leaves the state as it was.
+use Rattle.std.specs.Prelude.{Result, Ok, Err}
 use mathlib.Core.Path.{◌≡◌, refl, sym, ◌∙◌, ap}
 use mathlib.Core.Bool.{Bool, true, false, not}
 use mathlib.Core.Logic.{◌⊎◌, inl, inr, ⊎_elim}
@@ -13,10 +14,9 @@ use lib.Seq.{get_or-set_same, get_or-set_other}
 use Rattle.base.specs.Pick.{pick, pick-by, pick_true, pick-false, pick_yes}
 use Rattle.base.specs.Walks.{sum_n, first_n, any-holds, any_where, first_holds, clash, lt-or-le}
 use Rattle.base.specs.All.{all_set}
+use Rattle.events.specs.declared.Refusal.{Refusal}
 use Rattle.events.specs.declared.Event.{Event}
 use Rattle.events.specs.declared.Event.TheVariants as E
-use Rattle.events.specs.declared.Reading.{Reading}
-use Rattle.events.specs.declared.Reading.TheVariants as R
 use Rattle.events.specs.declared.Strategy.{Strategy as GivenStrategy}
 use Rattle.events.specs.declared.Order.{Order as GivenOrder}
 use Rattle.events.specs.declared.Sweep.{Sweep as GivenSweep}
@@ -337,12 +337,12 @@ accept-valid b (E.National e) v f c = national-valid e.series (quote_given e) b 
 accept-valid b (E.Range e) v f c = range-valid e.range b v f
 accept-valid b (E.Specialist e) v f c = specialist-valid e.strategy (specialist_given e) b v f.3
 
-perform-valid : (b : State) (r : Reading) (space : ℕ) → Valid b → FitReading r → refusal b r space ≡ 0 → Valid (perform b r).moved.state
+perform-valid : (b : State) (r : Result Event Refusal) (space : ℕ) → Valid b → FitReading r → refusal b r space ≡ 0 → Valid (perform b r).moved.state
 unfolding perform refused refusal table_of read_causes
-perform-valid b (R.Refused n) space v f c = v
-perform-valid b (R.Event e) space v f c = accept-valid b e v f (clear 1 (ltb space 15_360) (causes b e) (omega arith) c).1
+perform-valid b (Err r) space v f c = v
+perform-valid b (Ok e) space v f c = accept-valid b e v f (clear 1 (ltb space 15_360) (causes b e) (omega arith) c).1
 
-pub decide-valid : (b : State) (r : Reading) (space : ℕ) → Valid b → FitReading r → Valid (refuse_or_perform b r space).moved.state
+pub decide-valid : (b : State) (r : Result Event Refusal) (space : ℕ) → Valid b → FitReading r → Valid (refuse_or_perform b r space).moved.state
 unfolding refuse_or_perform refused
 decide-valid b r space v f =
     pick-by (λ (o : Outcome). Valid o.moved.state) (eqb (refusal b r space) 0)

@@ -1,5 +1,5 @@
 -- The worked examples of document 01, "To be proved of the rules": one table, and one theorem for all its rows.
-use Rattle.std.specs.Prelude.{◌≡◌, refl, List, [], ◌∷◌, ◌++◌, map, ℕ, replicate, take}
+use Rattle.std.specs.Prelude.{◌≡◌, refl, List, [], ◌∷◌, ◌++◌, map, ℕ, replicate, take, Ok}
 use Rattle.base.specs.All.{All, all_nil, all_cons}
 use Rattle.base.specs.Pick
 use Rattle.base.specs.Walks
@@ -33,7 +33,6 @@ use Rattle.std.specs.Int.Count
 use Rattle.events.specs.declared.Event.{Event}
 use Rattle.events.specs.declared.Event.TheVariants as E
 use Rattle.events.specs.declared.Leg.{Leg as GivenLeg}
-use Rattle.events.specs.declared.Reading.TheVariants as R
 use Rattle.rules.specs.declared.State.{State}
 use Rattle.rules.specs.declared.Record.{Record}
 
@@ -93,7 +92,7 @@ unfolding
     Records.kind_number
     Lookups.live_quantity Lookups.shut_legs Lookups.depth_of Lookups.well_formed Lookups.row_depth
     Count.ones_in Count.count_trailing_zeros
-performed b e = Step.refuse_or_perform b (R.Event e) 15_360
+performed b e = Step.refuse_or_perform b (Ok e) 15_360
 
 -- the state after a list of events
 abbrev after_events : State → List Event → State

@@ -1,11 +1,10 @@
 -- The ranges that the book's functions ask of an event's values. A frame that reads as an event has them (proofs Ranges.reading-fit); they are
 -- wider than the table of fields where nothing rests on its lower end.
-use Rattle.std.specs.Prelude.{ℕ, ◌≤◌, ◌<◌, get_or}
+use Rattle.std.specs.Prelude.{ℕ, ◌≤◌, ◌<◌, get_or, Result, Ok, Err}
 use Rattle.base.specs.All.{All}
+use Rattle.events.specs.declared.Refusal.{Refusal}
 use Rattle.events.specs.declared.Event.{Event}
 use Rattle.events.specs.declared.Event.TheVariants as E
-use Rattle.events.specs.declared.Reading.{Reading}
-use Rattle.events.specs.declared.Reading.TheVariants as R
 use Rattle.events.specs.declared.Strategy.{Strategy as GivenStrategy}
 use Rattle.events.specs.declared.Order.{Order as GivenOrder}
 use Rattle.events.specs.declared.Sweep.{Sweep as GivenSweep}
@@ -66,6 +65,6 @@ FitEvent (E.Range e) = e.range ≤ 9999
 FitEvent (E.Specialist e) = (1 ≤ e.member) × (e.member ≤ 65_535) × (e.strategy < strategy_slots) × (e.percentage ≤ 100)
 
 -- a frame that is refused has none
-abbrev pub FitReading : Reading → Type 0
-FitReading (R.Event e) = FitEvent e
-FitReading (R.Refused n) = Unit {0}
+abbrev pub FitReading : Result Event Refusal → Type 0
+FitReading (Ok e) = FitEvent e
+FitReading (Err r) = Unit {0}

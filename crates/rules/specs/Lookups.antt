@@ -1,5 +1,5 @@
 -- "Lookups": live quantity, shut legs, depth; leg nets (2026-05).
-use Rattle.std.specs.Prelude.{Bool, true, false, List, [], ◌∷◌, map, ℕ, ◌+◌, eqb, leb, ltb, ℤ, get_or, length}
+use Rattle.std.specs.Prelude.{Bool, true, false, List, [], ◌∷◌, map, ℕ, ◌+◌, eqb, leb, ltb, ℤ, get_or, length, Option, Some, None, Result, Ok, Err}
 use Rattle.base.specs.Pick.{pick}
 use Rattle.base.specs.Walks.{sum_n, slot, all_n}
 use Rattle.base.specs.Sets.{size_of, lowest_of}
@@ -7,12 +7,11 @@ use Rattle.rules.specs.Sizes.{table_rows}
 use Rattle.rules.specs.declared.LegOrder.{LegOrder}
 use Rattle.rules.specs.declared.State.{State}
 use Rattle.rules.specs.declared.OrderEntry.{OrderEntry}
-use Rattle.rules.specs.declared.Depth.{Depth}
-use Rattle.rules.specs.declared.Depth.TheVariants as D
-use Rattle.rules.specs.declared.Shut.{Shut}
-use Rattle.rules.specs.declared.Shut.TheVariants as S
+use Rattle.rules.specs.declared.Best.{Best}
+use Rattle.rules.specs.declared.ShutLegs.{ShutLegs}
 use Rattle.rules.specs.declared.StrategyNets.{StrategyNets}
-use Rattle.rules.specs.declared.StrategyNets.TheVariants as N
+use Rattle.events.specs.declared.Refusal.{Refusal}
+use Rattle.events.specs.Refusals.{refusal_number}
 use Rattle.rules.specs.State.{entry_at, order_at, bid_net, offer_net}
 use Rattle.rules.specs.Records.{cents}
 use Rattle.rules.specs.Strategies.{shut_set}
@@ -89,21 +88,23 @@ row_depth row s side =
     (pick (ltb table_rows (length row)) (refused_by 3)
     (pick (all_n (well_formed_at row) (length row)) (depth_of (map as_order row) s side) (refused_by 3))))
 
--- the paper's number and values of each case of a depth: price and contracts, none where it is empty, or the refusal
-unfoldable pub depth_tells : Depth → LookedUp
-depth_tells (D.Best price contracts) = values (price ∷ (contracts ∷ []))
-depth_tells D.Empty = values []
-depth_tells (D.Refused n) = refused_by n
+-- the paper's values of a depth: price and contracts, none where it is empty, or the refusal
+unfoldable pub depth_tells : Result (Option Best) Refusal → LookedUp
+depth_tells (Ok (Some b)) = values (b.price ∷ (b.contracts ∷ []))
+depth_tells (Ok None) = values []
+depth_tells (Err r) = refused_by (refusal_number r)
 
 -- .. of shut legs: count and lowest series, or the refusal
-unfoldable pub shut_tells : Shut → LookedUp
-shut_tells (S.Legs count lowest) = values (count ∷ (lowest ∷ []))
-shut_tells (S.Refused n) = refused_by n
+unfoldable pub shut_tells : Result ShutLegs Refusal → LookedUp
+shut_tells (Ok s) = values (s.count ∷ (s.lowest ∷ []))
+shut_tells (Err r) = refused_by (refusal_number r)
+
+-- a net as a lookup answers it
+unfoldable pub net_told : Option ℤ → ToldNet
+net_told (Some net) = known net
+net_told None = unknown
 
 -- .. of leg nets: each in cents or unknown, or the refusal
-unfoldable pub nets_tells : StrategyNets → LookedUp
-nets_tells (N.Both bid offer) = nets (known bid) (known offer)
-nets_tells (N.BidAlone bid) = nets (known bid) unknown
-nets_tells (N.OfferAlone offer) = nets unknown (known offer)
-nets_tells N.Unknown = nets unknown unknown
-nets_tells (N.Refused n) = refused_by n
+unfoldable pub nets_tells : Result StrategyNets Refusal → LookedUp
+nets_tells (Ok n) = nets (net_told n.bid) (net_told n.offer)
+nets_tells (Err r) = refused_by (refusal_number r)

@@ -1,12 +1,12 @@
 -- "Refusals by cause": the causes of each kind with their numbers, and the first that applies in the order in which they are checked.
-use Rattle.std.specs.Prelude.{Bool, true, false, not, List, [], ◌∷◌, ℕ, suc, eqb, ltb, leb}
+use Rattle.std.specs.Prelude.{Bool, true, false, not, List, [], ◌∷◌, ℕ, suc, eqb, ltb, leb, Result, Ok, Err}
 use Rattle.base.specs.Pick.{pick, both, either}
 use Rattle.base.specs.Walks.{sum_n, any_n}
 use Rattle.base.specs.Sets.{has}
+use Rattle.events.specs.Refusals.{refusal_number}
+use Rattle.events.specs.declared.Refusal.{Refusal}
 use Rattle.events.specs.declared.Event.{Event}
 use Rattle.events.specs.declared.Event.TheVariants as E
-use Rattle.events.specs.declared.Reading.{Reading}
-use Rattle.events.specs.declared.Reading.TheVariants as R
 use Rattle.events.specs.declared.Strategy.{Strategy as GivenStrategy}
 use Rattle.events.specs.declared.Sweep.{Sweep as GivenSweep}
 use Rattle.events.specs.declared.National.{National as GivenNational}
@@ -183,14 +183,14 @@ causes b (E.Range e) = []
 causes b (E.Specialist e) = (4 if undefined b e.strategy) ∷ []
 
 -- those of a frame of any bytes, as it is read: 2 and 3 are the reader's, the rest need an event
-unfoldable pub read_causes : State → Reading → List Cause
-read_causes b (R.Refused n) = (n if true) ∷ []
-read_causes b (R.Event e) = causes b e
+unfoldable pub read_causes : State → Result Event Refusal → List Cause
+read_causes b (Err r) = (refusal_number r if true) ∷ []
+read_causes b (Ok e) = causes b e
 
 -- the whole table, for a frame that reads so and a record space of that length
-unfoldable pub table_of : State → Reading → ℕ → List Cause
+unfoldable pub table_of : State → Result Event Refusal → ℕ → List Cause
 table_of b r space = (1 if ltb space record_space) ∷ read_causes b r
 
 -- the first that applies
-unfoldable pub refusal : State → Reading → ℕ → ℕ
+unfoldable pub refusal : State → Result Event Refusal → ℕ → ℕ
 refusal b r space = first_cause (table_of b r space)

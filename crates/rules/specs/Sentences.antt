@@ -3,7 +3,7 @@
 -- Sentences.event-sentence, step-sentence; of the passes: Groups, PassEnds, Bars, WholeFills; of the causes: Causes; of best prices: Bests;
 -- of the stored nets: StoredNets, OfToday).
 -- Many a rule that is changed in its definition and in the code alike is refused here; docs/RULES.md has the list, and what no sentence says.
-use Rattle.std.specs.Prelude.{◌≡◌, Bool, true, false, not, ◌⊎◌, ℕ, suc, ◌+◌, ◌-◌, ◌*◌, ◌/◌, ◌^◌, ◌≤◌, ◌<◌, min, max, eqb, get_or, replicate, take, length}
+use Rattle.std.specs.Prelude.{◌≡◌, Bool, true, false, not, ◌⊎◌, ℕ, suc, ◌+◌, ◌-◌, ◌*◌, ◌/◌, ◌^◌, ◌≤◌, ◌<◌, min, max, eqb, get_or, replicate, take, length, Ok}
 use mathlib.Core.List.{List, [], ◌∷◌, ◌++◌, Memᴰ}
 use Rattle.base.specs.Pick.{pick, both}
 use Rattle.base.specs.Walks.{sum_n, slot, any_n}
@@ -12,7 +12,6 @@ use Rattle.base.specs.Sets.{has}
 use Rattle.base.specs.Gcd.{Divides}
 use Rattle.events.specs.declared.Event.{Event}
 use Rattle.events.specs.declared.Event.TheVariants as E
-use Rattle.events.specs.declared.Reading.TheVariants as R
 use Rattle.events.specs.declared.Strategy.{Strategy as GivenStrategy}
 use Rattle.events.specs.declared.Order.{Order as GivenOrder}
 use Rattle.events.specs.declared.Sweep.{Sweep as GivenSweep}
@@ -776,7 +775,7 @@ pub record SweepMay (b : State) (e : GivenSweep) : Type 0 where
 -- better than a known leg net of its side
 pub record BettersNothing (b : State) (frame : List ℕ) (space : ℕ) : Type 0 where
   pub sweep : GivenSweep
-  pub reading : read_of frame ≡ R.Event (E.Sweep sweep)
+  pub reading : read_of frame ≡ Ok (E.Sweep sweep)
   pub room : record_space ≤ space
   pub defined : sweep.strategy < b.defined
   pub auction : Runs b sweep.strategy

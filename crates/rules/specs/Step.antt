@@ -1,14 +1,13 @@
 -- One event: a frame of any bytes, and a record space of any length.
-use Rattle.std.specs.Prelude.{List, ℕ, eqb, length}
+use Rattle.std.specs.Prelude.{List, ℕ, eqb, length, Result, Ok, Err}
 use Rattle.base.specs.Pick.{pick}
+use Rattle.events.specs.Refusals.{refusal_number, refusal_of}
+use Rattle.events.specs.declared.Refusal.{Refusal}
 use Rattle.events.specs.declared.Event.{Event}
 use Rattle.events.specs.declared.Event.TheVariants as E
-use Rattle.events.specs.declared.Reading.{Reading}
-use Rattle.events.specs.declared.Reading.TheVariants as R
 use Rattle.frames.specs.Frames.{read_of}
 use Rattle.rules.specs.declared.State.{State}
-use Rattle.rules.specs.declared.Answer.{Answer}
-use Rattle.rules.specs.declared.Answer.TheVariants as A
+use Rattle.rules.specs.declared.Accepted.{Accepted}
 use Rattle.rules.specs.Moves.{Moved, still}
 use Rattle.rules.specs.Strategies.{number_of, define}
 use Rattle.rules.specs.Events.{on_order, on_sweep, on_leg_order, cancel_number, on_series, on_clock, on_day_end}
@@ -56,12 +55,12 @@ unfoldable pub refused : ℕ → State → Outcome
 refused n b = record { answer = n; value = 0; moved = still b }
 
 -- the outcome of an event that nothing refuses
-unfoldable pub perform : State → Reading → Outcome
-perform b (R.Refused n) = refused n b
-perform b (R.Event e) = record { answer = 0; value = value_of b e; moved = accept b e }
+unfoldable pub perform : State → Result Event Refusal → Outcome
+perform b (Err r) = refused (refusal_number r) b
+perform b (Ok e) = record { answer = 0; value = value_of b e; moved = accept b e }
 
 -- the refusal, or else the event is performed
-unfoldable pub refuse_or_perform : State → Reading → ℕ → Outcome
+unfoldable pub refuse_or_perform : State → Result Event Refusal → ℕ → Outcome
 refuse_or_perform b r space = pick (eqb (refusal b r space) 0) (perform b r) (refused (refusal b r space) b)
 
 -- "each event goes in with the book and hands a book back"
@@ -69,20 +68,20 @@ unfoldable pub step : State → List ℕ → ℕ → Outcome
 step b frame space = refuse_or_perform b (read_of frame) space
 
 -- "An accepted event answers a value and a record count"; a refused one, "number only"
-unfoldable pub answer_of : Outcome → Answer
-answer_of o = pick (eqb o.answer 0) (A.Accepted o.value (length o.moved.records)) (A.Refused o.answer)
+unfoldable pub answer_of : Outcome → Result Accepted Refusal
+answer_of o = pick (eqb o.answer 0) (Ok (record { value = o.value; records = length o.moved.records })) (Err (refusal_of o.answer))
 
 -- the paper's number, value and count of an answer
-unfoldable pub answer_number : Answer → ℕ
-answer_number (A.Accepted value count) = 0
-answer_number (A.Refused n) = n
+unfoldable pub answer_number : Result Accepted Refusal → ℕ
+answer_number (Ok a) = 0
+answer_number (Err r) = refusal_number r
 
 -- its value
-unfoldable pub answer_value : Answer → ℕ
-answer_value (A.Accepted value count) = value
-answer_value (A.Refused n) = 0
+unfoldable pub answer_value : Result Accepted Refusal → ℕ
+answer_value (Ok a) = a.value
+answer_value (Err r) = 0
 
 -- its number of records
-unfoldable pub answer_count : Answer → ℕ
-answer_count (A.Accepted value count) = count
-answer_count (A.Refused n) = 0
+unfoldable pub answer_count : Result Accepted Refusal → ℕ
+answer_count (Ok a) = a.records
+answer_count (Err r) = 0

@@ -1,12 +1,11 @@
 -- "The totals after a list": what is summed, from events, answers and records alone, and what is claimed of it.
-use Rattle.std.specs.Prelude.{◌≡◌, Bool, true, false, ℕ, zero, suc, ◌+◌, ◌*◌, ◌/◌, ◌≤◌, ◌<◌, eqb, leb, get_or, ℤ, pos, neg_ℤ, ◌+ℤ◌, ◌-ℤ◌, ◌*ℤ◌, ◌≤ℤ◌, ◌<ℤ◌}
+use Rattle.std.specs.Prelude.{◌≡◌, Bool, true, false, ℕ, zero, suc, ◌+◌, ◌*◌, ◌/◌, ◌≤◌, ◌<◌, eqb, leb, get_or, ℤ, pos, neg_ℤ, ◌+ℤ◌, ◌-ℤ◌, ◌*ℤ◌, ◌≤ℤ◌, ◌<ℤ◌, Result, Ok, Err}
 use mathlib.Core.List.{List, [], ◌∷◌, ◌++◌, map, Memᴰ}
 use Rattle.base.specs.Pick.{pick}
 use Rattle.base.specs.Walks.{sum_n}
+use Rattle.events.specs.declared.Refusal.{Refusal}
 use Rattle.events.specs.declared.Event.{Event}
 use Rattle.events.specs.declared.Event.TheVariants as E
-use Rattle.events.specs.declared.Reading.{Reading}
-use Rattle.events.specs.declared.Reading.TheVariants as R
 use Rattle.events.specs.declared.Strategy.{Strategy as GivenStrategy}
 use Rattle.events.specs.declared.Sweep.{Sweep as GivenSweep}
 use Rattle.events.specs.declared.LegOrder.{LegOrder as GivenLegOrder}
@@ -30,7 +29,7 @@ pub record Sent : Type 0 where
 
 -- what came of it: the event, if the frame carries one, the answer and value, and the records as they are read at the answer
 pub record Logged : Type 0 where
-  pub reading : Reading
+  pub reading : Result Event Refusal
   pub answer : ℕ
   pub value : ℕ
   pub lines : List Line
@@ -132,9 +131,9 @@ enters (E.Range e) n = nothing
 enters (E.Specialist e) n = nothing
 
 -- "whose value isn't 0"
-unfoldable pub enters_read : Reading → ℕ → Brought
-enters_read (R.Refused n) v = nothing
-enters_read (R.Event e) v = pick (eqb v 0) nothing (enters e v)
+unfoldable pub enters_read : Result Event Refusal → ℕ → Brought
+enters_read (Err r) v = nothing
+enters_read (Ok e) v = pick (eqb v 0) nothing (enters e v)
 
 -- "an accepted event"
 unfoldable pub brought : Logged → Brought
@@ -166,7 +165,7 @@ ratio_in e s = sum_n (ratio_at (legs_given e) (divisor (legs_given e) e.count) s
 pub record Answered (e : GivenStrategy) (k : ℕ) (log : List Logged) : Type 0 where
   pub entry : Logged
   pub sent : Memᴰ entry log
-  pub reading : entry.reading ≡ R.Event (E.Strategy e)
+  pub reading : entry.reading ≡ Ok (E.Strategy e)
   pub answer : entry.answer ≡ 0
   pub value : entry.value ≡ k
 
@@ -204,19 +203,19 @@ cash log side [] = pos 0
 cash log side (l ∷ ls) = cash_of log side l +ℤ cash log side ls
 
 -- an accepted day end
-unfoldable pub is_day_end : Reading → Bool
-is_day_end (R.Refused n) = false
-is_day_end (R.Event (E.Strategy e)) = false
-is_day_end (R.Event (E.Order e)) = false
-is_day_end (R.Event (E.Sweep e)) = false
-is_day_end (R.Event (E.LegOrder e)) = false
-is_day_end (R.Event (E.Cancel e)) = false
-is_day_end (R.Event (E.Series e)) = false
-is_day_end (R.Event (E.Clock e)) = false
-is_day_end (R.Event (E.DayEnd e)) = true
-is_day_end (R.Event (E.National e)) = false
-is_day_end (R.Event (E.Range e)) = false
-is_day_end (R.Event (E.Specialist e)) = false
+unfoldable pub is_day_end : Result Event Refusal → Bool
+is_day_end (Err r) = false
+is_day_end (Ok (E.Strategy e)) = false
+is_day_end (Ok (E.Order e)) = false
+is_day_end (Ok (E.Sweep e)) = false
+is_day_end (Ok (E.LegOrder e)) = false
+is_day_end (Ok (E.Cancel e)) = false
+is_day_end (Ok (E.Series e)) = false
+is_day_end (Ok (E.Clock e)) = false
+is_day_end (Ok (E.DayEnd e)) = true
+is_day_end (Ok (E.National e)) = false
+is_day_end (Ok (E.Range e)) = false
+is_day_end (Ok (E.Specialist e)) = false
 
 -- accepted, and a day end
 unfoldable pub ends_day : Logged → Bool
@@ -230,34 +229,34 @@ OneDay (x ∷ (y ∷ ys)) = (ends_day x ≡ false) × OneDay (y ∷ ys)
 
 -- 2026-01, from the log alone: "prices known when it was made". What an accepted event says of the national prices of series s, which were q: kind 9
 -- sets those of its series, a day end leaves a fresh book.
-unfoldable pub quote_after : Reading → ℕ → Quote → Quote
-quote_after (R.Refused n) s q = q
-quote_after (R.Event (E.Strategy e)) s q = q
-quote_after (R.Event (E.Order e)) s q = q
-quote_after (R.Event (E.Sweep e)) s q = q
-quote_after (R.Event (E.LegOrder e)) s q = q
-quote_after (R.Event (E.Cancel e)) s q = q
-quote_after (R.Event (E.Series e)) s q = q
-quote_after (R.Event (E.Clock e)) s q = q
-quote_after (R.Event (E.DayEnd e)) s q = no_quote
-quote_after (R.Event (E.National e)) s q = pick (eqb e.series s) (record { bid = e.bid; offer = e.offer }) q
-quote_after (R.Event (E.Range e)) s q = q
-quote_after (R.Event (E.Specialist e)) s q = q
+unfoldable pub quote_after : Result Event Refusal → ℕ → Quote → Quote
+quote_after (Err c) s q = q
+quote_after (Ok (E.Strategy e)) s q = q
+quote_after (Ok (E.Order e)) s q = q
+quote_after (Ok (E.Sweep e)) s q = q
+quote_after (Ok (E.LegOrder e)) s q = q
+quote_after (Ok (E.Cancel e)) s q = q
+quote_after (Ok (E.Series e)) s q = q
+quote_after (Ok (E.Clock e)) s q = q
+quote_after (Ok (E.DayEnd e)) s q = no_quote
+quote_after (Ok (E.National e)) s q = pick (eqb e.series s) (record { bid = e.bid; offer = e.offer }) q
+quote_after (Ok (E.Range e)) s q = q
+quote_after (Ok (E.Specialist e)) s q = q
 
 -- .. and of the execution range, which was r
-unfoldable pub range_after : Reading → ℕ → ℕ
-range_after (R.Refused n) r = r
-range_after (R.Event (E.Strategy e)) r = r
-range_after (R.Event (E.Order e)) r = r
-range_after (R.Event (E.Sweep e)) r = r
-range_after (R.Event (E.LegOrder e)) r = r
-range_after (R.Event (E.Cancel e)) r = r
-range_after (R.Event (E.Series e)) r = r
-range_after (R.Event (E.Clock e)) r = r
-range_after (R.Event (E.DayEnd e)) r = 9999
-range_after (R.Event (E.National e)) r = r
-range_after (R.Event (E.Range e)) r = e.range
-range_after (R.Event (E.Specialist e)) r = r
+unfoldable pub range_after : Result Event Refusal → ℕ → ℕ
+range_after (Err c) r = r
+range_after (Ok (E.Strategy e)) r = r
+range_after (Ok (E.Order e)) r = r
+range_after (Ok (E.Sweep e)) r = r
+range_after (Ok (E.LegOrder e)) r = r
+range_after (Ok (E.Cancel e)) r = r
+range_after (Ok (E.Series e)) r = r
+range_after (Ok (E.Clock e)) r = r
+range_after (Ok (E.DayEnd e)) r = 9999
+range_after (Ok (E.National e)) r = r
+range_after (Ok (E.Range e)) r = e.range
+range_after (Ok (E.Specialist e)) r = r
 
 -- the national prices of series s after a list of events, which were q before it: those of the last accepted kind 9 of that series
 unfoldable pub quoted : Quote → List Logged → ℕ → Quote
@@ -271,19 +270,19 @@ range_said r (x ∷ xs) = range_said (pick (eqb x.answer 0) (range_after x.readi
 
 -- 2026-04, from the log alone: what an accepted event says of the specialist of strategy k, which was s. "It sets the strategy's specialist until
 -- day end"
-unfoldable pub specialist_after : Reading → ℕ → Specialist → Specialist
-specialist_after (R.Refused n) k s = s
-specialist_after (R.Event (E.Strategy e)) k s = s
-specialist_after (R.Event (E.Order e)) k s = s
-specialist_after (R.Event (E.Sweep e)) k s = s
-specialist_after (R.Event (E.LegOrder e)) k s = s
-specialist_after (R.Event (E.Cancel e)) k s = s
-specialist_after (R.Event (E.Series e)) k s = s
-specialist_after (R.Event (E.Clock e)) k s = s
-specialist_after (R.Event (E.DayEnd e)) k s = record { member = 0; percentage = 0 }
-specialist_after (R.Event (E.National e)) k s = s
-specialist_after (R.Event (E.Range e)) k s = s
-specialist_after (R.Event (E.Specialist e)) k s = pick (eqb e.strategy k) (record { member = e.member; percentage = e.percentage }) s
+unfoldable pub specialist_after : Result Event Refusal → ℕ → Specialist → Specialist
+specialist_after (Err c) k s = s
+specialist_after (Ok (E.Strategy e)) k s = s
+specialist_after (Ok (E.Order e)) k s = s
+specialist_after (Ok (E.Sweep e)) k s = s
+specialist_after (Ok (E.LegOrder e)) k s = s
+specialist_after (Ok (E.Cancel e)) k s = s
+specialist_after (Ok (E.Series e)) k s = s
+specialist_after (Ok (E.Clock e)) k s = s
+specialist_after (Ok (E.DayEnd e)) k s = record { member = 0; percentage = 0 }
+specialist_after (Ok (E.National e)) k s = s
+specialist_after (Ok (E.Range e)) k s = s
+specialist_after (Ok (E.Specialist e)) k s = pick (eqb e.strategy k) (record { member = e.member; percentage = e.percentage }) s
 
 -- "the last one named holds": the specialist of strategy k after a list of events, which was s before it
 unfoldable pub named_last : Specialist → List Logged → ℕ → Specialist
@@ -340,7 +339,7 @@ pub record LegStands (log : List Logged) (s side price : ℕ) : Type 0 where
   pub entry : Logged
   pub sent : Memᴰ entry log
   pub order : GivenLegOrder
-  pub reading : entry.reading ≡ R.Event (E.LegOrder order)
+  pub reading : entry.reading ≡ Ok (E.LegOrder order)
   pub answer : entry.answer ≡ 0
   pub of_series : order.series ≡ s
   pub on_side : order.side ≡ side
@@ -376,14 +375,14 @@ pub record NotBettered (log : List Logged) (e : GivenStrategy) (s : GivenSweep) 
 
 -- event x brought in sweep s: "an accepted event of kind 2, 3 or 4 whose value isn't 0"
 pub record SweepIn (x : Logged) (s : GivenSweep) : Type 0 where
-  pub reading : x.reading ≡ R.Event (E.Sweep s)
+  pub reading : x.reading ≡ Ok (E.Sweep s)
   pub answer : x.answer ≡ 0
   pub value : x.value ≡ 0 → ⊥
 
 -- event x of the list, after those before it, is a sweep of 1 unit or more in a strategy that one of them defined, and it betters nothing
 pub record NothingBettered (log before : List Logged) (x : Logged) : Type 0 where
   pub sweep : GivenSweep
-  pub reading : x.reading ≡ R.Event (E.Sweep sweep)
+  pub reading : x.reading ≡ Ok (E.Sweep sweep)
   pub units : 0 < sweep.units
   pub defined : Defined sweep.strategy before
   pub nothing : (e : GivenStrategy) → Answered e sweep.strategy log → NotBettered before e sweep

@@ -171,34 +171,23 @@ pub struct OrderEntry {
     pub price: u32,
 }
 
-// The best price of a series and side and its contracts, nothing, or a refusal.
+// The shut legs of a strategy: how many, and the lowest series.
 #[derive(Clone, Copy)]
-pub enum Depth {
-    Best(u32, u32),
-    Empty,
-    Refused(u32),
+pub struct ShutLegs {
+    pub count: u32,
+    pub lowest: u32,
 }
 
-// The shut legs of a strategy: how many, and the lowest series; or a refusal.
+// The leg nets of a strategy, in cents: the bid net and the offer net, none where one is unknown.
 #[derive(Clone, Copy)]
-pub enum Shut {
-    Legs(u32, u32),
-    Refused(u32),
+pub struct StrategyNets {
+    pub bid: Option<i32>,
+    pub offer: Option<i32>,
 }
 
-// The leg nets of a strategy, in cents: bid and offer net, one of them where the other is unknown, or none; or a refusal.
+// What an accepted event answers: its value and the number of its records.
 #[derive(Clone, Copy)]
-pub enum StrategyNets {
-    Both(i32, i32),
-    BidAlone(i32),
-    OfferAlone(i32),
-    Unknown,
-    Refused(u32),
-}
-
-// The answer to an event: its value and the number of its records, or the refusal.
-#[derive(Clone, Copy)]
-pub enum Answer {
-    Accepted(u32, usize),
-    Refused(u32),
+pub struct Accepted {
+    pub value: u32,
+    pub records: usize,
 }

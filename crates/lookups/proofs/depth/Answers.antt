@@ -1,14 +1,11 @@
-use Rattle.lookups.specs.Lookups.{depth-series, depth-side, depth_is, tells-empty, tells-best}
+-- proofs/depth/Answers.antt
+use Rattle.lookups.specs.Lookups.{depth-series, depth-side, depth_is, tells-best}
+use Rattle.lookups.proofs.depth.Goals.{then-s-gt31-via-then-s-gt31, then-s-gt31-via-else-s-gt31+then-side-gt1}
 use Rattle.lookups.proofs.depth.Goals as goal
 
 pub returns-then-s-gt31 : goal.returns-then-s-gt31
-returns-then-s-gt31 c = depth-series _ _ _ c.if-s-gt31.true
-
-pub returns-then-side-gt1 : goal.returns-then-side-gt1
-returns-then-side-gt1 c = depth-side _ _ _ c.if-s-gt31.false c.if-side-gt1.true
-
-pub returns-then-b-eq0 : goal.returns-then-b-eq0
-returns-then-b-eq0 c = depth_is _ _ _ c.if-s-gt31.false c.if-side-gt1.false c.best_of-b.ensures (tells-empty _ c.if-b-eq0.true)
+returns-then-s-gt31 c =
+    elim c.then-s-gt31.branch [ then-s-gt31-via-then-s-gt31 w ↦ depth-series _ _ _ w.if-s-gt31.true | then-s-gt31-via-else-s-gt31+then-side-gt1 w ↦ depth-side _ _ _ w.if-s-gt31.false w.if-side-gt1.true ]
 
 pub returns : goal.returns
-returns c = depth_is _ _ _ c.if-s-gt31.false c.if-side-gt1.false c.best_of-b.ensures (tells-best _ c.if-b-eq0.false)
+returns c = depth_is _ _ _ c.if-s-gt31.false c.if-side-gt1.false c.best_of-b.ensures (tells-best _ c.then_some.ensures)

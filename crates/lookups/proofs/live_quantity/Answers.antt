@@ -1,39 +1,42 @@
-use Rattle.lookups.specs.Lookups.{live-first, live-next, live-last, live-most}
-use Prim.Native.Nat.{◌+◌, ◌≤◌}
+-- proofs/live_quantity/Answers.antt
+use Rattle.std.proofs.Common.{◌≡◌, rules}
+use Rattle.std.specs.List.{sum_by}
+use Rattle.std.proofs.lemmas.Iterator.{YieldsList-from_slice, YieldsList-from_map}
+use Rattle.std.proofs.lemmas.Iterator.Consumers.{fits_by_from_yields_list}
 use native.Mathlib.Omega.{arith}
+use Rattle.rules.specs.Lookups.{live_quantity}
+use Rattle.lookups.specs.Lookups.{units_under, contracts_under, units-are, contracts-are, units-most, contracts-most}
 use Rattle.lookups.proofs.live_quantity.Goals as goal
 
-pub loop-i-init : goal.loop-i-init
-loop-i-init c = (omega arith, live-first _ _)
+pub sum-units-requires-clause-fits : goal.sum-units-requires-clause-fits
+sum-units-requires-clause-fits c =
+    let e = units-are c.args.b c.args.n c.requires.sound.entry_rows in
+    let m = units-most c.args.b c.args.n c.requires.sound.entries in
+    fits_by_from_yields_list (units_under c.args.b c.args.n) c.args.b.entries c.map.result _
+    (YieldsList-from_map _ _ (YieldsList-from_slice c.args.b.entries cc) c.map.ensures.closure (λ x r q k. search rules)) (omega (arith, e, m))
 
-pub offset_bounds-b-i : goal.offset_bounds-b-i
-offset_bounds-b-i c = omega arith
+pub sum-contracts-requires-clause-fits : goal.sum-contracts-requires-clause-fits
+sum-contracts-requires-clause-fits c =
+    let e = contracts-are c.args.b c.args.n c.requires.sound.order_rows in
+    let m = contracts-most c.args.b c.args.n c.requires.sound.orders in
+    fits_by_from_yields_list (contracts_under c.args.b c.args.n) c.args.b.orders c.map-2.result _
+    (YieldsList-from_map _ _ (YieldsList-from_slice c.args.b.orders cc) c.map-2.ensures.closure (λ x r q k. search rules)) (omega (arith, e, m))
 
-pub bounds-b-i : goal.bounds-b-i
-bounds-b-i c = omega arith
-
-pub offset_bounds-b-i-in-loop-i : goal.offset_bounds-b-i-in-loop-i
-offset_bounds-b-i-in-loop-i c = omega arith
-
-pub bounds-b-i-in-loop-i : goal.bounds-b-i-in-loop-i
-bounds-b-i-in-loop-i c = omega arith
-
-pub overflow_add-quantity : goal.overflow_add-quantity
-overflow_add-quantity c = let most-is : c.loop-i.quantity + (c.held_by-units.result + c.held_by-contracts.result) ≤ 639936 = live-most c.args.b c.args.n c.requires.sound.entries c.requires.sound.orders c.loop-i.i c.held_by-units.ensures c.held_by-contracts.ensures c.loop-i.invariant.1 c.loop-i-test.true in
-    omega (arith, most-is)
-
-pub overflow_add-quantity-in-loop-i : goal.overflow_add-quantity-in-loop-i
-overflow_add-quantity-in-loop-i c = let most-is : c.loop-i.quantity + (c.held_by-units.result + c.held_by-contracts.result) ≤ 639936 = live-most c.args.b c.args.n c.requires.sound.entries c.requires.sound.orders c.loop-i.i c.held_by-units.ensures c.held_by-contracts.ensures c.loop-i.invariant.1 c.loop-i-test.true in
-    omega (arith, most-is)
-
-pub overflow_add-i : goal.overflow_add-i
-overflow_add-i c = omega arith
-
-pub loop-i-smaller : goal.loop-i-smaller
-loop-i-smaller c = omega arith
-
-pub loop-i-preserved : goal.loop-i-preserved
-loop-i-preserved c = (omega arith, live-next _ _ _ c.loop-i.invariant.1 c.held_by-units.ensures c.held_by-contracts.ensures)
+pub overflow_add-result : goal.overflow_add-result
+overflow_add-result c =
+    let u : c.sum-units.result ≡ sum_by (units_under c.args.b c.args.n) c.args.b.entries = search rules in
+    let v : c.sum-contracts.result ≡ sum_by (contracts_under c.args.b c.args.n) c.args.b.orders = search rules in
+    let e = units-are c.args.b c.args.n c.requires.sound.entry_rows in
+    let g = contracts-are c.args.b c.args.n c.requires.sound.order_rows in
+    let m = units-most c.args.b c.args.n c.requires.sound.entries in
+    let n = contracts-most c.args.b c.args.n c.requires.sound.orders in
+    record { fits = omega arith }
 
 pub returns : goal.returns
-returns c = live-last _ _ (omega arith) c.loop-i.invariant.1
+unfolding live_quantity
+returns c =
+    let u : c.sum-units.result ≡ sum_by (units_under c.args.b c.args.n) c.args.b.entries = search rules in
+    let v : c.sum-contracts.result ≡ sum_by (contracts_under c.args.b c.args.n) c.args.b.orders = search rules in
+    let e = units-are c.args.b c.args.n c.requires.sound.entry_rows in
+    let g = contracts-are c.args.b c.args.n c.requires.sound.order_rows in
+    rw (u, v, e, g)

@@ -1,11 +1,20 @@
+-- proofs/nets/Answers.antt
+use Rattle.rules.specs.Lookups.{nets_tells}
 use Rattle.lookups.specs.LegNets.{nets-undefined, row-undefined, stored-fits, nets-stored, row-stored}
 use Rattle.lookups.proofs.nets.Goals as goal
 
-pub returns-then-defined-strategy : goal.returns-then-defined-strategy
-returns-then-defined-strategy c = record { result_value = nets-undefined _ _ c.if-defined-strategy.true; result_value_2 = row-undefined _ _ c.if-defined-strategy.true }
+pub returns-then-b-strategy : goal.returns-then-b-strategy
+returns-then-b-strategy c = record { result_value = nets-undefined _ _ c.if-b-strategy.true; result_value_2 = row-undefined _ _ c.if-b-strategy.true }
 
-pub told_nets-requires : goal.told_nets-requires
-told_nets-requires c = stored-fits _ c.requires _ c.if-defined-strategy.false
+pub told_net-requires : goal.told_net-requires
+told_net-requires c = (stored-fits _ c.requires _ c.if-b-strategy.false).0
+
+pub told_net-requires-2 : goal.told_net-requires-2
+told_net-requires-2 c = (stored-fits _ c.requires _ c.if-b-strategy.false).1
 
 pub returns : goal.returns
-returns c = record { result_value = nets-stored _ c.requires _ c.if-defined-strategy.false c.told_nets.ensures; result_value_2 = row-stored _ _ c.if-defined-strategy.false c.told_nets.ensures }
+unfolding nets_tells
+returns c = record {
+  result_value = nets-stored _ c.requires _ c.if-b-strategy.false (rw (c.told_net.ensures, c.told_net-2.ensures));
+  result_value_2 = row-stored _ _ c.if-b-strategy.false (rw (c.told_net.ensures, c.told_net-2.ensures));
+}

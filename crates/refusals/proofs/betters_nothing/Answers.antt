@@ -1,11 +1,14 @@
-use Rattle.refusals.specs.Refusing.{withdraws, is-better, no-better}
+-- proofs/betters_nothing/Answers.antt
+use Rattle.base.specs.Pick.{pick}
+use Rattle.std.proofs.lemmas.Grind.{common_steps}
+use native.Mathlib.Omega.{arith}
+use Rattle.refusals.specs.Refusing.{betters-none}
+use Rattle.rules.specs.Refusals.{betters_nothing}
 use Rattle.refusals.proofs.betters_nothing.Goals as goal
 
-pub returns-then-e-eq0 : goal.returns-then-e-eq0
-returns-then-e-eq0 c = withdraws _ _ c.if-e-eq0.true
+pub returns-then-e-ne0 : goal.returns-then-e-ne0
+returns-then-e-ne0 c = betters-none _ _ c.if-e-ne0.true c.requires c.other.ensures c.net_for-net.ensures c.betters.ensures
 
-pub returns-then-betters : goal.returns-then-betters
-returns-then-betters c = is-better _ _ c.if-e-eq0.false c.requires c.other-on.ensures c.net_for.ensures c.betters.ensures c.if-betters.true
-
-pub returns : goal.returns
-returns c = no-better _ _ c.if-e-eq0.false c.requires c.other-on.ensures c.net_for.ensures c.betters.ensures c.if-betters.false
+pub returns-else-e-ne0 : goal.returns-else-e-ne0
+unfolding betters_nothing pick
+returns-else-e-ne0 c = grind (arith, common_steps)

@@ -1,38 +1,30 @@
-use Rattle.refusals.specs.Refusing.{order-found, leg-order-found, neither-found}
-use Rattle.base.specs.Walks.{passed_first, passed-next}
-use Rattle.base.specs.Pick.{told}
-use native.Mathlib.Omega.{arith}
+-- proofs/not_found/Answers.antt
+use Rattle.std.proofs.Common.{◌≡◌, rules, length, ◌∙◌, ap}
+use Rattle.std.proofs.lemmas.Iterator.{YieldsList-from_slice}
+use Rattle.std.proofs.lemmas.Iterator.Search.{any_from_yields_List}
+use borrow.Author.Tests.{tests}
+use Rattle.base.specs.Chains.{any-slots}
+use Rattle.base.specs.Pick.{pick}
+use Rattle.base.specs.Walks.{any_n}
+use Rattle.rules.specs.State.{no_entry, no_order}
+use Rattle.rules.specs.Refusals.{not_found, is_order_of, is_leg_order_of, order_at_is, leg_order_at_is}
 use Rattle.refusals.proofs.not_found.Goals as goal
 
-pub loop-i-init : goal.loop-i-init
-loop-i-init c = (omega arith, passed_first _, passed_first _)
+pub returns-then-not-any : goal.returns-then-not-any
+unfolding not_found pick
+returns-then-not-any c =
+    let l : length c.args.b.entries ≡ 32 = search rules in
+    let k : length c.args.b.orders ≡ 32 = search rules in
+    let f = any_from_yields_List (is_order_of c.args.m c.args.n) _ _ c.any.result c.any.ensures.ran (YieldsList-from_slice c.args.b.entries cc) (λ x b q k. search (rules, tests)) in
+    let g = any_from_yields_List (is_leg_order_of c.args.m c.args.n) _ _ c.any-then-not-any.result c.any-then-not-any.ensures.ran (YieldsList-from_slice c.args.b.orders cc) (λ x b q k. search (rules, tests)) in
+    let u = any-slots no_entry (is_order_of c.args.m c.args.n) c.args.b.entries ∙ ap (any_n (order_at_is c.args.b c.args.m c.args.n)) l in
+    let v = any-slots no_order (is_leg_order_of c.args.m c.args.n) c.args.b.orders ∙ ap (any_n (leg_order_at_is c.args.b c.args.m c.args.n)) k in
+    rw (g, v, ← u, ← f, c.if-not-any.true)
 
-pub offset_bounds-b-i : goal.offset_bounds-b-i
-offset_bounds-b-i c = omega arith
-
-pub bounds-b-i : goal.bounds-b-i
-bounds-b-i c = omega arith
-
-pub returns-then-is_order_of : goal.returns-then-is_order_of
-returns-then-is_order_of c = order-found _ _ _ _ c.loop-i-test.true (told c.is_order_of.ensures c.if-is_order_of.true)
-
-pub offset_bounds-b-i-in-loop-i : goal.offset_bounds-b-i-in-loop-i
-offset_bounds-b-i-in-loop-i c = omega arith
-
-pub bounds-b-i-in-loop-i : goal.bounds-b-i-in-loop-i
-bounds-b-i-in-loop-i c = omega arith
-
-pub returns-then-is_leg_order_of : goal.returns-then-is_leg_order_of
-returns-then-is_leg_order_of c = leg-order-found _ _ _ _ c.loop-i-test.true (told c.is_leg_order_of.ensures c.if-is_leg_order_of.true)
-
-pub overflow_add-i : goal.overflow_add-i
-overflow_add-i c = omega arith
-
-pub loop-i-smaller : goal.loop-i-smaller
-loop-i-smaller c = omega arith
-
-pub loop-i-preserved : goal.loop-i-preserved
-loop-i-preserved c = (omega arith, passed-next _ _ c.loop-i.invariant.1 (told c.is_order_of.ensures c.if-is_order_of.false), passed-next _ _ c.loop-i.invariant.2 (told c.is_leg_order_of.ensures c.if-is_leg_order_of.false))
-
-pub returns : goal.returns
-returns c = neither-found _ _ _ _ c.loop-i-test.false c.loop-i.invariant.1 c.loop-i.invariant.2
+pub returns-else-not-any : goal.returns-else-not-any
+unfolding not_found pick
+returns-else-not-any c =
+    let l : length c.args.b.entries ≡ 32 = search rules in
+    let f = any_from_yields_List (is_order_of c.args.m c.args.n) _ _ c.any.result c.any.ensures.ran (YieldsList-from_slice c.args.b.entries cc) (λ x b q k. search (rules, tests)) in
+    let u = any-slots no_entry (is_order_of c.args.m c.args.n) c.args.b.entries ∙ ap (any_n (order_at_is c.args.b c.args.m c.args.n)) l in
+    rw (← u, ← f, c.if-not-any.false)

@@ -1,10 +1,15 @@
-use Rattle.book.specs.Premises.{specialist-accepts, specialist-value}
-use Rattle.book.specs.Outcomes.{took, took-refused}
+-- proofs/Book/specialist/Answers.antt
+use Rattle.std.proofs.lemmas.Result.{err_from_is_err_and}
 use Rattle.records.specs.Done.{done-still}
+use Rattle.book.specs.Outcomes.{took, took-refused, rule-valid}
+use Rattle.book.specs.Premises.{specialist-accepts, specialist-value}
 use Rattle.book.proofs.Book.specialist.Goals as goal
 
-pub returns-then-r-ne0 : goal.returns-then-r-ne0
-returns-then-r-ne0 c = took-refused _ _ _ c.specialist_refusal-r.ensures c.requires c.if-r-ne0.true c.refuse.ensures
+pub returns-in_err-specialist_refusal : goal.returns-in_err-specialist_refusal
+returns-in_err-specialist_refusal c = λ s l. let p = err_from_is_err_and c.from_residual.result c.from_residual.ensures.1 in rw (p.1, p.2) (took-refused _ _ s (c.args.self.now.valid, c.requires, l) c.in_err-specialist_refusal.ensures)
+
+pub admit-requires : goal.admit-requires
+admit-requires c = rule-valid _ _ c.args.self.now.valid c.requires c.in_ok-specialist_refusal.ensures (specialist-accepts _ _ c.specialist_given.ensures c.set_specialist-c.ensures)
 
 pub returns : goal.returns
-returns c = took _ _ _ c.specialist_refusal-r.ensures c.requires c.if-r-ne0.false (specialist-accepts _ _ c.specialist_given-p.ensures c.set_specialist-c.ensures) (done-still _ _ _) (specialist-value _ _) c.admit.ensures
+returns c = λ s l. took _ _ s (c.args.self.now.valid, c.requires, l) c.in_ok-specialist_refusal.ensures (specialist-accepts _ _ c.specialist_given.ensures c.set_specialist-c.ensures) (done-still _ _ _) (specialist-value _ _) c.admit.ensures

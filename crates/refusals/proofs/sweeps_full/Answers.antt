@@ -1,9 +1,0 @@
-use Rattle.rules.specs.Refusals.{sweeps_full}
-use Rattle.base.specs.Pick.{pick}
-use mathlib.Core.Path.{ap}
-use lib.Dec.{leb}
-use Rattle.refusals.proofs.sweeps_full.Goals as goal
-
-pub returns : goal.returns
-unfolding sweeps_full pick
-returns c = ap (leb 16) c.count_of-live_sweeps.ensures
