@@ -1,17 +1,19 @@
 -- Texts put into a space of bytes from a place on; everything else stays as it was.
 use Rattle.std.specs.Prelude.{◌≡◌, refl, true, false, List, [], ◌∷◌, ◌++◌, ℕ, zero, suc, ◌+◌, ◌*◌, ◌/◌, ◌%◌, ◌^◌, ◌≤◌, ◌<◌, ltb, ℤ, pos, negsuc, nat_abs, length, take, drop, get_or, set}
-use Rattle.std.proofs.Common.{sym, ◌∙◌, ap, append_assoc, append-nil, add-zero, add-suc, suc-add, div-add-mod', pow-suc, add-one, arith, SFits, to_z, of_z, to_z-of_z, length-append, take_at, drop_at, drop-drop, take-suc, lt-ltb, le-ltb, ltb-true, None, Some}
+use Rattle.std.proofs.Common.{sym, ◌∙◌, ap, append_assoc, append-nil, add-zero, add-suc, suc-add, div-add-mod', pow-suc, add-one, arith, SFits, to_z, of_z, to_z-of_z, length-append, take_at, drop_at, drop-drop, take-suc, lt-ltb, le-ltb, ltb-true, None, Some, Ok, Err}
 use Rattle.std.proofs.Math.Nat.{div-div-eq-div-mul}
 use Rattle.std.specs.Int.{w32}
 use Rattle.std.specs.Int.Signed.{lt_z}
 use Rattle.std.proofs.lemmas.List.Edits.{sets}
 use Rattle.std.proofs.Math.Seq.{length-sets, take-length}
 use Rattle.base.specs.Pick.{pick, pick-by, pick_true, pick-false}
-use Rattle.rules.specs.declared.Answer.TheVariants as A
-use Rattle.rules.specs.Lookups.{ToldNet}
+use Rattle.events.specs.declared.Refusal.{Refusal}
+use Rattle.events.specs.Refusals.{refusal_number}
+use Rattle.rules.specs.declared.Accepted.{Accepted}
+use Rattle.rules.specs.Lookups.{ToldNet, net_told}
 use Rattle.rules.specs.Step.{answer_number, answer_value, answer_count}
 use Rattle.lines.specs.declared.Text.{Text}
-use Rattle.lines.specs.Lines.{digits, decimal, signed, spaced, text_line, record_lines, event_line, event_text, net_text, told_line, net_tells}
+use Rattle.lines.specs.Lines.{digits, decimal, signed, spaced, text_line, record_lines, event_line, event_text, net_text, told_line}
 
 -- there is room for k bytes behind the text
 abbrev pub Room : Text → ℕ → Type 0
@@ -220,24 +222,25 @@ listing-chunk sp {i = i} xs rest p e h l w =
 
 -- an event, by its answer
 pub put-accepted :
-    (i : ℕ) (sp : List ℤ) (n : ℕ) {v w : ℕ} → w ≡ v → {s q r : Text} → Within 86 s q (text_line 69 (pos i ∷ (pos 0 ∷ (pos w ∷ (pos n ∷ []))))) →
-    Within (74 * n) q r (record_lines n sp) → Within (86 + 74 * answer_count (A.Accepted v n)) s r (event_text i (A.Accepted v n) sp)
+    (i : ℕ) (sp : List ℤ) (a : Accepted) {w : ℕ} → w ≡ a.value → {s q r : Text} →
+    Within 86 s q (text_line 69 (pos i ∷ (pos 0 ∷ (pos w ∷ (pos a.records ∷ []))))) → Within (74 * a.records) q r (record_lines a.records sp) →
+    Within (86 + 74 * answer_count (Ok a)) s r (event_text i (Ok a) sp)
 unfolding event_text event_line answer_number answer_value answer_count
-put-accepted i sp n e p q = rw (← e) (record { put = put_then p.put q.put; few = omega (arith, p.few, q.few) })
+put-accepted i sp a e p q = rw (← e) (record { put = put_then p.put q.put; few = omega (arith, p.few, q.few) })
 
 pub put-refused :
-    (i : ℕ) (sp : List ℤ) {n m : ℕ} → m ≡ n → {s q : Text} → Within 86 s q (text_line 69 (pos i ∷ (pos m ∷ (pos 0 ∷ (pos 0 ∷ []))))) →
-    Within (86 + 74 * answer_count (A.Refused n)) s q (event_text i (A.Refused n) sp)
+    (i : ℕ) (sp : List ℤ) (f : Refusal) {m : ℕ} → m ≡ refusal_number f → {s q : Text} → Within 86 s q (text_line 69 (pos i ∷ (pos m ∷ (pos 0 ∷ (pos 0 ∷ []))))) →
+    Within (86 + 74 * answer_count (Err f)) s q (event_text i (Err f) sp)
 unfolding event_text event_line record_lines answer_number answer_value answer_count
-put-refused i sp e p = rw (← e, append-nil) p
+put-refused i sp f e p = rw (← e, append-nil) p
 
 -- a net after a space, by its case
-pub put-known : {z : ℤ} → SFits w32 z → {s q : Text} → Within 12 s q (32 ∷ signed (to_z w32 (of_z w32 z))) → Within 12 s q (32 ∷ net_text (net_tells (Some z)))
-unfolding net_text net_tells
+pub put-known : {z : ℤ} → SFits w32 z → {s q : Text} → Within 12 s q (32 ∷ signed (to_z w32 (of_z w32 z))) → Within 12 s q (32 ∷ net_text (net_told (Some z)))
+unfolding net_text net_told
 put-known f w = rw (to_z-of_z f) at w
 
-pub put-unknown : {s q r : Text} → Put s q (32 ∷ []) → Put q r (45 ∷ []) → Within 12 s r (32 ∷ net_text (net_tells None))
-unfolding net_text net_tells
+pub put-unknown : {s q r : Text} → Put s q (32 ∷ []) → Put q r (45 ∷ []) → Within 12 s r (32 ∷ net_text (net_told None))
+unfolding net_text net_told
 put-unknown p q = record { put = put_then p q; few = omega (arith, p.next, q.next) }
 
 pub put-told :

@@ -4,11 +4,13 @@
 ghost use Rattle.std.specs.Prelude.{◌+◌, ◌-◌, ◌*◌, ◌≤◌, ◌<◌, ◌≡◌, [], ◌∷◌, pos, length, take, map};
 ghost use Rattle.base.specs.Chains.{unless_zero};
 ghost use Rattle.frames.specs.Number.{number};
+ghost use Rattle.rules.specs.Lookups.{net_told};
 ghost use Rattle.rules.specs.Step.{answer_number, answer_value, answer_count};
-ghost use Rattle.lines.specs.Lines.{decimal, signed, spaced, text_line, record_lines, event_text, net_text, told_line, net_tells};
+ghost use Rattle.lines.specs.Lines.{decimal, signed, spaced, text_line, record_lines, event_text, net_text, told_line};
 ghost use Rattle.lines.specs.Cuts.{told_length, needed_of, cut_of};
 
-use rules::Answer;
+use events::Refusal;
+use rules::Accepted;
 
 // The number of two bytes at a place.
 pub fn two_bytes(bytes: &[u8], at: usize) -> usize
@@ -194,24 +196,26 @@ impl<'a> Text<'a> {
     }
 
     // What is printed of an event: its line, and the lines of its records, which stand in the space.
-    pub fn event(&mut self, index: u64, answer: Answer, space: &[i32])
+    pub fn event(&mut self, index: u64, answer: Result<Accepted, Refusal>, space: &[i32])
         requires answer_in_bounds { Room self.old (86 + 74 * answer_count answer) }
         requires answer_in_bounds_2 { answer_count answer * 6 ≤ length space.now }
         ensures { Within (86 + 74 * answer_count answer) self.old self.new (event_text index answer space.now) }
     {
         match answer {
-            Answer::Accepted(value, count) => {
-                self.line(b'E', &[index, 0, u64::from(value), count as u64]);
-                self.records(space, count);
+            Ok(Accepted { value, records }) => {
+                self.line(b'E', &[index, 0, u64::from(value), records as u64]);
+                self.records(space, records);
             }
-            Answer::Refused(number) => self.line(b'E', &[index, u64::from(number), 0, 0]),
+            Err(refusal) => {
+                self.line(b'E', &[index, u64::from(u32::from(refusal)), 0, 0]);
+            }
         }
     }
 
     // A space and a net, `-` where it is unknown.
     fn net(&mut self, net: Option<i32>)
         requires { Room self.old 12 }
-        ensures { Within 12 self.old self.new (32 ∷ net_text (net_tells net)) }
+        ensures { Within 12 self.old self.new (32 ∷ net_text (net_told net)) }
     {
         match net {
             Some(x) => self.signed(x),
@@ -225,7 +229,7 @@ impl<'a> Text<'a> {
     // The line of a letter, a number and two nets, as they are told.
     pub fn told(&mut self, letter: u8, i: u64, x: Option<i32>, y: Option<i32>)
         requires { Room self.old 47 }
-        ensures { Within 47 self.old self.new (told_line letter i (net_tells x) (net_tells y)) }
+        ensures { Within 47 self.old self.new (told_line letter i (net_told x) (net_told y)) }
     {
         self.push(letter);
         self.number(i);

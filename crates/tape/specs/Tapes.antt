@@ -1,8 +1,8 @@
 -- What `tape` does with the rest of the input.
-use Rattle.std.specs.Prelude.{◌≡◌, true, false, List, [], ℕ, ◌+◌, ◌*◌, ◌≤◌, eqb, ℤ, length, take, drop}
+use Rattle.std.specs.Prelude.{◌≡◌, true, false, List, [], ℕ, ◌+◌, ◌*◌, ◌≤◌, eqb, ℤ, length, take, drop, Err}
 use Rattle.std.proofs.Common.{◌∙◌, append-nil, arith, eq-eqb, ne_eqb}
 use Rattle.base.specs.Pick.{pick, pick_true, pick-false}
-use Rattle.rules.specs.declared.Answer.TheVariants as A
+use Rattle.events.specs.declared.Refusal.TheVariants as F
 use Rattle.rules.specs.Step.{step, answer_count}
 use Rattle.rules.specs.declared.State.{State}
 use Rattle.book.specs.declared.Book.{Book}
@@ -18,7 +18,7 @@ use Rattle.turns.specs.Turns.{Tape, Turn, Tells, event_turn}
 unfoldable pub frame_turn : State → ℕ → List ℕ → Turn
 frame_turn b index rest =
     pick (eqb (length rest) 0) (record { state = b; text = []; rest = rest; on = false })
-    (pick (eqb (cut_of rest) 0) (record { state = b; text = event_line index (A.Refused 2); rest = rest; on = false })
+    (pick (eqb (cut_of rest) 0) (record { state = b; text = event_line index (Err F.BadFrame); rest = rest; on = false })
     (event_turn (step b (take (cut_of rest) rest) 15360) index (drop (cut_of rest) rest)))
 
 -- a turn: what the rules say of the rest of the input
@@ -41,7 +41,7 @@ turn-ended b index rest e = pick_true _ _ _ (eq-eqb _ _ e)
 
 turn-cut :
     (b : State) (index : ℕ) (rest : List ℕ) → (length rest ≡ 0 → ⊥) → cut_of rest ≡ 0 →
-    frame_turn b index rest ≡ record { state = b; text = event_line index (A.Refused 2); rest = rest; on = false }
+    frame_turn b index rest ≡ record { state = b; text = event_line index (Err F.BadFrame); rest = rest; on = false }
 unfolding frame_turn
 turn-cut b index rest h e = pick-false _ _ _ (ne_eqb _ _ h) ∙ pick_true _ _ _ (eq-eqb _ _ e)
 
@@ -62,7 +62,7 @@ ended i index s e =
     }
 
 pub ended-cut :
-    (i : Input) (index : ℕ) {s q : Text} → (i.at ≡ i.«end» → ⊥) → cut_of (rest_of i) ≡ 0 → Within 189526 s q (event_line index (A.Refused 2)) → Ended i index s q
+    (i : Input) (index : ℕ) {s q : Text} → (i.at ≡ i.«end» → ⊥) → cut_of (rest_of i) ≡ 0 → Within 189526 s q (event_line index (Err F.BadFrame)) → Ended i index s q
 ended-cut i index h e w =
     record {
       turned = λ b.
@@ -84,6 +84,6 @@ turned-event {b} i index {n = n} e h w p =
 
 pub cut-told :
     (index : ℕ) (space : List ℤ) {s q : Text} →
-    Within (86 + 74 * answer_count (A.Refused 2)) s q (event_text index (A.Refused 2) space) → Within 189526 s q (event_line index (A.Refused 2))
+    Within (86 + 74 * answer_count (Err F.BadFrame)) s q (event_text index (Err F.BadFrame) space) → Within 189526 s q (event_line index (Err F.BadFrame))
 unfolding event_text record_lines answer_count
 cut-told index space w = record { put = rw append-nil at w.put; few = omega (arith, w.few) }

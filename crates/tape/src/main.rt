@@ -10,17 +10,17 @@ ghost use Rattle.streams.specs.Rests.{rest_of};
 ghost use Rattle.tape.specs.Tapes.{Turned, Ended};
 
 use book::Book;
+use events::Refusal;
 use lines::{Text, cut, needed};
-use rules::Answer;
 use streams::Input;
 use turns::{Program, run, tell};
 
 // The line of a last frame that is cut short, or whose length is under 4.
 fn tell_cut(index: u64, space: &[i32], text: &mut Text)
     requires { Room text.old 189526 }
-    ensures { Within 189526 text.old text.new (event_line index (Answer.Refused 2)) }
+    ensures { Within 189526 text.old text.new (event_line index (Err Refusal.BadFrame)) }
 {
-    text.event(index, Answer::Refused(2), space);
+    text.event(index, Err(Refusal::BadFrame), space);
 }
 
 // The last turn, where no whole frame comes: nothing, or refusal 2. The book and the input stay.

@@ -5,7 +5,6 @@
 ghost use Rattle.std.specs.Prelude.{◌≡◌, true, List, ℕ, ◌+◌, ◌≤◌, length};
 ghost use Rattle.base.specs.Chains.{unless_zero};
 ghost use Rattle.rules.specs.Sizes.{record_space};
-ghost use Rattle.rules.specs.Valid.{Valid};
 ghost use Rattle.lines.specs.Puts.{Room};
 ghost use Rattle.streams.specs.Rests.{More};
 ghost use Rattle.turns.specs.Turns.{Tells, Turning};
@@ -20,13 +19,11 @@ pub const ROOM: usize = 189526;
 
 // One event: its frame goes to the book, with a record space of any length, and what is printed of it goes behind the text.
 pub fn tell(book: &mut Book, index: u64, frame: &[u8], space: &mut [i32], text: &mut Text)
-    requires valid { Valid book.old.state }
-    requires room { Room text.old 189526 }
+    requires { Room text.old 189526 }
     ensures { Tells book.old.state index frame.now (length space.old) text.old text.new book.new }
 {
-    let taken = book.step(frame, space);
-    *book = taken.book;
-    text.event(index, taken.answer, space);
+    let answer = book.step(frame, space);
+    text.event(index, answer, space);
 }
 
 // The record space of an event.
@@ -59,11 +56,9 @@ pub trait Program {
         space: &mut [i32],
         text: &mut Text,
     ) -> bool
-        requires valid { Valid book.old.state }
         requires space_len { length space.old ≡ record_space }
         requires room { Room text.old 189526 }
         ensures turned { turned (record { book = book.old; input = input.old; text = text.old; on = true }) index (record { book = book.new; input = input.new; text = text.new; on = result }) }
-        ensures valid { Valid book.new.state }
         ensures size { length text.new.out.now ≡ length text.old.out.now };
 }
 

@@ -12,5 +12,5 @@ loop-index-init g c =
 pub loop-index-preserved : goal.loop-index-preserved
 loop-index-preserved g c =
     let e = ap is_some (c.first.ensures ∙ ap (λ (l : List ℕ). unless_zero (g.P.Program.first_of l)) c.rest.ensures) in
-    running-next c.loop-index.invariant c.fill.ensures c.turn.ensures.turned c.turn.ensures.valid
+    running-next c.loop-index.invariant c.fill.ensures c.turn.ensures.turned
     (record { book = refl; input = refl; room = c.settle.ensures.room; space = c.settle.ensures.space }) (settled c.settle.ensures (c.is_some-more.ensures ∙ e))
