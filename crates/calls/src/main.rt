@@ -7,19 +7,19 @@ ghost use Rattle.base.specs.Chains.{unless_zero};
 ghost use Rattle.base.specs.Walks.{join_n};
 ghost use Rattle.rules.specs.Sizes.{record_space};
 ghost use Rattle.rules.specs.declared.State.{State};
-ghost use Rattle.rules.specs.Valid.{Valid};
 ghost use Rattle.lines.specs.Puts.{Room, Within};
 ghost use Rattle.streams.specs.Rests.{left, rest_of};
 ghost use Rattle.turns.specs.Turns.{Tells};
 ghost use Rattle.calls.specs.Items.{item_needed, item_of, lent_of};
-ghost use Rattle.calls.specs.Listings.{live_at, shut_line, nets_line, depth_at, depth_line, is_best, lookup_text, cut_line};
+ghost use Rattle.calls.specs.Listings.{live_at, shut_line, nets_line, depth_at, depth_line, best_of, is_best, lookup_text, cut_line};
 ghost use Rattle.calls.specs.Printed.{Printed};
 ghost use Rattle.calls.specs.Calls.{ItemTurned, ItemsEnded};
 
 use book::Book;
 use depths::depth_in;
+use events::Refusal;
 use lines::{Text, two_bytes};
-use rules::{Depth, Shut, StrategyNets};
+use rules::Best;
 use streams::{Input, drain};
 use turns::{Program, run, tell};
 
@@ -60,7 +60,6 @@ fn lent(item: &[u8]) -> usize
 
 // One call: the item's frame goes to the book with the space that it is lent, and what is printed of it goes behind the text.
 fn tell_item(book: &mut Book, index: u64, item: &[u8], space: &mut [i32], text: &mut Text)
-    requires valid { Valid book.old.state }
     requires in_bounds { 4 ≤ length item.now }
     requires space_len { length space.old ≡ record_space }
     requires room { Room text.old 189526 }
@@ -76,7 +75,6 @@ trait Lookup {
 
     // The line of a place, if it has one.
     fn put(&self, book: &Book, place: u32, text: &mut Text)
-        requires valid { Valid book.now.state }
         requires place_bound { place < 100000 }
         requires room { Room text.old 86 }
         ensures { Within 86 text.old text.new (line book.now.state place) };
@@ -98,20 +96,21 @@ impl Lookup for Live {
 }
 
 // The shut legs of the strategies that are defined.
-struct ShutLegs;
+struct Shut;
 
-impl Lookup for ShutLegs {
+impl Lookup for Shut {
     ghost line = { shut_line };
 
     fn put(&self, book: &Book, place: u32, text: &mut Text) {
-        match book.shut_legs(place) {
-            Shut::Legs(count, lowest) => {
-                text.line(
-                    b'S',
-                    &[u64::from(place), u64::from(count), u64::from(lowest)],
-                );
-            }
-            Shut::Refused(_) => {}
+        if let Ok(legs) = book.shut_legs(place) {
+            text.line(
+                b'S',
+                &[
+                    u64::from(place),
+                    u64::from(legs.count),
+                    u64::from(legs.lowest),
+                ],
+            );
         }
     }
 }
@@ -123,44 +122,45 @@ impl Lookup for Nets {
     ghost line = { nets_line };
 
     fn put(&self, book: &Book, place: u32, text: &mut Text) {
-        let k = u64::from(place);
-        match book.nets(place) {
-            StrategyNets::Both(bid, offer) => text.told(b'N', k, Some(bid), Some(offer)),
-            StrategyNets::BidAlone(bid) => text.told(b'N', k, Some(bid), None),
-            StrategyNets::OfferAlone(offer) => text.told(b'N', k, None, Some(offer)),
-            StrategyNets::Unknown => text.told(b'N', k, None, None),
-            StrategyNets::Refused(_) => {}
+        if let Ok(nets) = book.nets(place) {
+            text.told(b'N', u64::from(place), nets.bid, nets.offer);
         }
     }
 }
 
-// Whether a depth is that price with those contracts.
-fn is_best(d: Depth, price: u32, contracts: u32) -> bool
-    ensures { result ≡ is_best d price contracts }
+// The best price of a depth, none where it is empty or refused.
+fn best_of(depth: Result<Option<Best>, Refusal>) -> Option<Best>
+    ensures { result ≡ best_of depth }
 {
-    match d {
-        Depth::Best(p, c) => p == price && c == contracts,
-        Depth::Empty | Depth::Refused(_) => false,
+    depth.ok().flatten()
+}
+
+// Whether a best price is that price with those contracts.
+fn is_best(held: Option<Best>, price: u32, contracts: u32) -> bool
+    ensures { result ≡ is_best held price contracts }
+{
+    match held {
+        Some(best) => best.price == price && best.contracts == contracts,
+        None => false,
     }
 }
 
 // The line of a series and side, if its depth is not empty. The depth is looked up twice, in the book and in a row that is
 // lent; that both are one is proved, so the line is left out nowhere.
 fn put_depth(book: &Book, series: u32, side: u32, text: &mut Text)
-    requires valid { Valid book.now.state }
-    requires room { Room text.old 86 }
+    requires { Room text.old 86 }
     ensures { Within 86 text.old text.new (depth_line book.now.state series side) }
 {
-    let held = book.depth(series, side);
-    if let Depth::Best(price, contracts) = depth_in(book.order_row(), series, side) {
-        if is_best(held, price, contracts) {
+    let held = best_of(book.depth(series, side));
+    if let Some(best) = best_of(depth_in(book.order_row(), series, side)) {
+        if is_best(held, best.price, best.contracts) {
             text.line(
                 b'D',
                 &[
                     u64::from(series),
                     u64::from(side),
-                    u64::from(price),
-                    u64::from(contracts),
+                    u64::from(best.price),
+                    u64::from(best.contracts),
                 ],
             );
         }
@@ -180,7 +180,6 @@ impl Lookup for Depths {
 
 // The lines of the first n places of a lookup, each where there is room again.
 fn list<L: Lookup, R: Print + Eprint>(lookup: &L, n: u32, rt: &R, book: &Book, text: &mut Text)
-    requires valid { Valid book.now.state }
     requires n_bound { n ≤ 100000 }
     requires room { 86 ≤ length text.old.out.now }
     ensures { Printed text.old text.new (join_n (L.line book.now.state) n) }
@@ -193,12 +192,11 @@ fn list<L: Lookup, R: Print + Eprint>(lookup: &L, n: u32, rt: &R, book: &Book, t
 
 // What the lookups say of the book.
 fn list_lookups<R: Print + Eprint>(rt: &R, book: &Book, text: &mut Text)
-    requires valid { Valid book.now.state }
-    requires room { 86 ≤ length text.old.out.now }
+    requires { 86 ≤ length text.old.out.now }
     ensures { Printed text.old text.new (lookup_text book.now.state) }
 {
     list(&Live, 100000, rt, book, text);
-    list(&ShutLegs, 16, rt, book, text);
+    list(&Shut, 16, rt, book, text);
     list(&Nets, 16, rt, book, text);
     list(&Depths, 64, rt, book, text);
 }
@@ -215,7 +213,6 @@ fn put_cut(left: usize, text: &mut Text)
 
 // The last turn, where no whole item comes: `cut` where one was begun, and the lookups. The book and the input stay.
 fn tell_end<R: Print + Eprint>(rt: &R, book: &Book, input: &Input, text: &mut Text)
-    requires valid { Valid book.now.state }
     requires nothing { item_of (rest_of input.now) ≡ 0 }
     requires room { Room text.old 189526 }
     ensures { ItemsEnded book.now input.now text.old text.new }

@@ -4,14 +4,14 @@ use Rattle.calls.specs.Printed.{printed-then, printed-length}
 use Rattle.calls.proofs.list_lookups.Goals as goal
 
 pub list-requires-2-clause-room : goal.list-requires-2-clause-room
-list-requires-2-clause-room g c = omega (arith, c.requires.room, printed-length c.list.ensures)
+list-requires-2-clause-room g c = omega (arith, c.requires, printed-length c.list.ensures)
 
 pub list-requires-3-clause-room : goal.list-requires-3-clause-room
-list-requires-3-clause-room g c = omega (arith, c.requires.room, printed-length c.list.ensures, printed-length c.list-2.ensures)
+list-requires-3-clause-room g c = omega (arith, c.requires, printed-length c.list.ensures, printed-length c.list-2.ensures)
 
 pub list-requires-4-clause-room : goal.list-requires-4-clause-room
 list-requires-4-clause-room g c =
-    omega (arith, c.requires.room, printed-length c.list.ensures, printed-length c.list-2.ensures, printed-length c.list-3.ensures)
+    omega (arith, c.requires, printed-length c.list.ensures, printed-length c.list-2.ensures, printed-length c.list-3.ensures)
 
 pub returns : goal.returns
 unfolding lookup_text live_lines shut_lines nets_lines depth_lines
