@@ -124,7 +124,8 @@ impl<'a> Text<'a> {
         self.push(b'0' + (n % 10) as u8);
     }
 
-    // The digits of a number, the highest first. Two go at once: most numbers are short.
+    // The digits of a number, the highest first. Two go at once: most numbers are short. Not by `write!`, which answers a Result
+    // at each call: where the room is required there is nothing that it could refuse.
     fn decimal(&mut self, n: u64)
         requires { Room self.old (length (decimal n)) }
         ensures { Put self.old self.new (decimal n) }

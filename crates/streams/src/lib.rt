@@ -30,7 +30,7 @@ fn read_on<I: Read, R: Eprint>(reader: &mut I, rt: &R, block: &mut [u8], n: usiz
     }
 }
 
-// Reads until the block has `need` bytes or no more come.
+// Reads until the block has `need` bytes or no more come. By a `while`, since how much a read gives is not known before it.
 fn read_up<I: Read, R: Eprint>(
     reader: &mut I,
     rt: &R,
