@@ -1,10 +1,8 @@
 -- Items and ends of the input.
-use Rattle.std.specs.Prelude.{◌≡◌, refl, [], ◌∷◌, negsuc}
+use Rattle.std.specs.Prelude.{◌≡◌, refl, [], ◌∷◌, negsuc, None, Some, Ok}
 use Rattle.base.specs.Pick.{pick}
 use Rattle.frames.specs.Number.{number}
-use Rattle.rules.specs.declared.Depth.TheVariants.{Best}
-use Rattle.rules.specs.declared.StrategyNets.TheVariants.{BidAlone}
-use Rattle.rules.specs.Lookups.{depth_tells, nets_tells}
+use Rattle.rules.specs.Lookups.{depth_tells, nets_tells, net_told}
 use Rattle.lines.specs.Lines.{digits, decimal, signed, spaced, text_line, net_text, told_line}
 use Rattle.calls.specs.Items.{item_of, lent_of}
 use Rattle.calls.specs.Listings.{cut_line, depth_text, nets_text}
@@ -41,11 +39,11 @@ unfolding cut_line pick
 cut-text = refl
 
 -- `D 0 1 300 3`
-depth-text : depth_text 0 1 (depth_tells (Best 300 3)) ≡ 68 ∷ (32 ∷ (48 ∷ (32 ∷ (49 ∷ (32 ∷ (51 ∷ (48 ∷ (48 ∷ (32 ∷ (51 ∷ (10 ∷ [])))))))))))
+depth-text : depth_text 0 1 (depth_tells (Ok (Some (record { price = 300; contracts = 3 })))) ≡ 68 ∷ (32 ∷ (48 ∷ (32 ∷ (49 ∷ (32 ∷ (51 ∷ (48 ∷ (48 ∷ (32 ∷ (51 ∷ (10 ∷ [])))))))))))
 unfolding depth_text depth_tells text_line spaced signed decimal digits pick
 depth-text = refl
 
 -- `N 3 -15 -`
-nets-text : nets_text 3 (nets_tells (BidAlone (negsuc 14))) ≡ 78 ∷ (32 ∷ (51 ∷ (32 ∷ (45 ∷ (49 ∷ (53 ∷ (32 ∷ (45 ∷ (10 ∷ [])))))))))
-unfolding nets_text nets_tells told_line net_text signed decimal digits pick
+nets-text : nets_text 3 (nets_tells (Ok (record { bid = Some (negsuc 14); offer = None }))) ≡ 78 ∷ (32 ∷ (51 ∷ (32 ∷ (45 ∷ (49 ∷ (53 ∷ (32 ∷ (45 ∷ (10 ∷ [])))))))))
+unfolding nets_text nets_tells net_told told_line net_text signed decimal digits pick
 nets-text = refl

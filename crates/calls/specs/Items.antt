@@ -1,8 +1,10 @@
 -- The first item of the rest of the input: the frame's length and that of the record space, two bytes each, little-endian; then the frame.
-use Rattle.std.specs.Prelude.{◌≡◌, List, ℕ, ◌+◌, ◌≤◌, ◌<◌, ltb, length}
-use Rattle.std.proofs.Common.{arith, ltb-false}
+use Rattle.std.specs.Prelude.{◌≡◌, List, ℕ, ◌+◌, ◌≤◌, ◌<◌, min, ltb, length, None, Some}
+use Rattle.std.proofs.Common.{◌∙◌, ap, arith, ltb-true, ltb-false}
+use Rattle.base.specs.Chains.{unless_zero}
 use Rattle.base.specs.Pick.{pick, pick_all, pick-by, tests}
 use Rattle.frames.specs.Number.{number}
+use Rattle.lines.specs.Cuts.{whole-some}
 use Rattle.rules.specs.Sizes.{record_space}
 
 -- the length of an item whose first two bytes tell that of its frame
@@ -27,17 +29,23 @@ pub needed-more : (rest : List ℕ) {n : ℕ} → n ≡ number 2 rest 0 → 4 �
 unfolding item_needed
 needed-more rest e l = rw e (search tests)
 
-pub item-short : (rest : List ℕ) → length rest < 4 → 0 ≡ item_of rest
+pub item-short : (rest : List ℕ) → length rest < 4 → None ≡ unless_zero (item_of rest)
 unfolding item_of
-item-short rest l = search tests
+item-short rest l = ap unless_zero (let z : 0 ≡ item_of rest = search tests in z)
 
-pub item-cut : (rest : List ℕ) {n : ℕ} → n ≡ number 2 rest 0 → 4 ≤ length rest → length rest < 4 + n → 0 ≡ item_of rest
+pub item-cut : (rest : List ℕ) {n : ℕ} → n ≡ number 2 rest 0 → 4 ≤ length rest → length rest < 4 + n → None ≡ unless_zero (item_of rest)
 unfolding item_of
-item-cut rest e l h = let k : length rest < told_item rest = omega arith in search tests
+item-cut rest e l h =
+    let k : length rest < told_item rest = omega arith in
+    let z : 0 ≡ item_of rest = search tests in
+    ap unless_zero z
 
-pub item-whole : (rest : List ℕ) {n : ℕ} → n ≡ number 2 rest 0 → 4 ≤ length rest → 4 + n ≤ length rest → 4 + n ≡ item_of rest
+pub item-whole : (rest : List ℕ) {n : ℕ} → n ≡ number 2 rest 0 → 4 ≤ length rest → 4 + n ≤ length rest → Some (4 + n) ≡ unless_zero (item_of rest)
 unfolding item_of
-item-whole rest e l h = let k : told_item rest ≤ length rest = omega arith in rw e (search tests)
+item-whole rest e l h =
+    let k : told_item rest ≤ length rest = omega arith in
+    let z : told_item rest ≡ item_of rest = search tests in
+    whole-some _ _ (omega arith) (ap (λ (n : ℕ). 4 + n) e ∙ z)
 
 pub item-within : (rest : List ℕ) → item_of rest ≤ length rest
 unfolding item_of
@@ -52,13 +60,9 @@ item-lengths rest =
     let P : ℕ → Type 0 = λ (n : ℕ). (n ≡ 0 → ⊥) → 4 ≤ n in
     pick_all P _ (λ h. absurd (h (omega arith))) (pick_all P _ (λ h. absurd (h (omega arith))) (λ h. omega arith))
 
-pub lent_cut : (item : List ℕ) {m : ℕ} → m ≡ number 2 item 2 → 15360 < m → 15360 ≡ lent_of item
+pub lent-min : (item : List ℕ) {m : ℕ} → m ≡ number 2 item 2 → min m 15360 ≡ lent_of item
 unfolding lent_of
-lent_cut item e h = let k : 15360 < number 2 item 2 = omega arith in search tests
-
-pub lent-whole : (item : List ℕ) {m : ℕ} → m ≡ number 2 item 2 → m ≤ 15360 → m ≡ lent_of item
-unfolding lent_of
-lent-whole item e h = let k : number 2 item 2 ≤ 15360 = omega arith in rw e (search tests)
+lent-min item e = rw e (pick-by (λ (n : ℕ). min (number 2 item 2) 15360 ≡ n) _ (λ x. omega (arith, ltb-true _ _ x)) (λ x. omega (arith, ltb-false _ _ x)))
 
 pub lent-most : (item : List ℕ) → lent_of item ≤ 15360
 unfolding lent_of

@@ -1,54 +1,42 @@
 -- Text that is put into a space piece by piece and written out on the way.
-use Rattle.std.specs.Prelude.{◌≡◌, refl, List, [], ◌++◌, ℕ, ◌+◌, ◌≤◌, length}
-use Rattle.std.proofs.Common.{◌∙◌, append_assoc, append-nil, add-one, arith}
+use Rattle.std.specs.Prelude.{◌≡◌, refl, List, [], ◌++◌, ℕ, ◌+◌, ◌⊎◌, length}
+use Rattle.std.proofs.Common.{◌∙◌, ap, inl, inr, append_assoc, append-nil, add-one, MutBor}
 use Rattle.base.specs.Pick.{pick_all}
 use Rattle.base.specs.Walks.{join_n}
+use Rattle.lines.specs.declared.Text.{Text}
 use Rattle.lines.specs.Puts.{Put, Within, put-length}
-use Rattle.streams.specs.declared.Text.{Text}
 use Rattle.streams.specs.Texts.{Drains, end_after}
 
 -- The text t was printed: its pieces were put one behind the other, each behind what is in the space, and what is in the space may be written
--- out before a piece, which then starts at 0. The space s with a text of a bytes became q with one of m.
-pub data Printed : List ℕ → List ℕ → ℕ → ℕ → List ℕ → Type 0 where
-  printed-none : (s : List ℕ) (a : ℕ) → Printed s s a a []
-  printed-out : {s q : List ℕ} {a m : ℕ} {t : List ℕ} → Printed s q a m t → Printed s q a 0 t
-  printed-put : {s q r : List ℕ} {a m k : ℕ} {t u : List ℕ} → Printed s q a m t → Put q r m k u → Printed s r a k (t ++ u)
-
--- the same, and what is left of it lies in the space
-pub record Listed (s q : List ℕ) (a m : ℕ) (t : List ℕ) : Type 0 where
-  pub text : Printed s q a m t
-  pub within : m ≤ length q
+-- out before a piece, which then starts at 0. The text s became q.
+pub data Printed : Text → Text → List ℕ → Type 0 where
+  printed-none : (s : Text) → Printed s s []
+  printed-out : {s q r : Text} {t : List ℕ} → Printed s q t → (r.used ≡ q.used) ⊎ (r.used ≡ 0) → r.out ≡ q.out → Printed s r t
+  printed-put : {s q r : Text} {t u : List ℕ} → Printed s q t → Put q r u → Printed s r (t ++ u)
 
 -- laws
 
-pub printed-one : {s q : List ℕ} {a m : ℕ} {t : List ℕ} → Put s q a m t → Printed s q a m t
-printed-one {s} {q} {a} p = printed-put (printed-none s a) p
+pub printed-one : {s q : Text} {t : List ℕ} → Put s q t → Printed s q t
+printed-one {s} p = printed-put (printed-none s) p
 
-pub printed-then : {s q r : List ℕ} {a m k : ℕ} {t u : List ℕ} → Printed s q a m t → Printed q r m k u → Printed s r a k (t ++ u)
-printed-then {t = t} p (printed-none s a) = rw (append-nil t) p
-printed-then p (printed-out x) = printed-out (printed-then p x)
+pub printed-then : {s q r : Text} {t u : List ℕ} → Printed s q t → Printed q r u → Printed s r (t ++ u)
+printed-then {t = t} p (printed-none s) = rw (append-nil t) p
+printed-then p (printed-out x e f) = printed-out (printed-then p x) e f
 printed-then {t = t} p (printed-put {t = v} {u = w} x y) = rw (← append_assoc t v w) (printed-put (printed-then p x) y)
 
-pub printed-length : {s q : List ℕ} {a m : ℕ} {t : List ℕ} → Printed s q a m t → length q ≡ length s
-printed-length (printed-none s a) = refl
-printed-length (printed-out x) = printed-length x
+pub printed-length : {s q : Text} {t : List ℕ} → Printed s q t → length q.out.now ≡ length s.out.now
+printed-length (printed-none s) = refl
+printed-length (printed-out x e f) = ap (λ (m : MutBor (List ℕ)). length m.now) f ∙ printed-length x
 printed-length (printed-put x y) = put-length y ∙ printed-length x
 
-pub listed_then : {s q r : List ℕ} {a m k : ℕ} {t u : List ℕ} → Listed s q a m t → Listed q r m k u → Listed s r a k (t ++ u)
-listed_then x y = record { text = printed-then x.text y.text; within = y.within }
-
 -- lines in turn: each where there is room again
-pub listed-first : (f : ℕ → List ℕ) (s : List ℕ) (a : ℕ) → a ≤ length s → Listed s s a a (join_n f 0)
+pub listed-first : (f : ℕ → List ℕ) (s : Text) → Printed s s (join_n f 0)
 unfolding join_n
-listed-first f s a h = record { text = printed-none s a; within = h }
+listed-first f s = printed-none s
 
-pub listed_next :
-    (f : ℕ → List ℕ) {s q r : List ℕ} {a m k i : ℕ} {x : Text} →
-    Listed s q a m (join_n f i) → Drains m 86 (length q) x → Within 86 q r x.used k (f i) → Listed s r a k (join_n f (i + 1))
+pub listed-next :
+    (f : ℕ → List ℕ) {s q x r : Text} {i : ℕ} → Printed s q (join_n f i) → Drains q x 86 → Within 86 x r (f i) → Printed s r (join_n f (i + 1))
 unfolding join_n end_after
-listed_next f {s} {q} {r} {a} {m} {k} {i} {x} l d w =
-    let p : Printed s q a x.used (join_n f i) = rw d.place (pick_all (λ (n : ℕ). Printed s q a n (join_n f i)) _ l.text (printed-out l.text)) in
-    record { text = rw (add-one i) (printed-put p w.put); within = omega (arith, w.few, d.room, put-length w.put) }
-
-pub listed-last : (f : ℕ → List ℕ) {s q : List ℕ} {a m i n : ℕ} → i ≡ n → Listed s q a m (join_n f i) → Listed s q a m (join_n f n)
-listed-last f e l = rw e at l
+listed-next f {q = q} {x = x} {i = i} l d w =
+    let k : (x.used ≡ q.used) ⊎ (x.used ≡ 0) = rw d.place (pick_all (λ (n : ℕ). (n ≡ q.used) ⊎ (n ≡ 0)) _ (inl refl) (inr refl)) in
+    rw (add-one i) (printed-put (printed-out l k d.space) w.put)

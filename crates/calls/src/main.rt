@@ -2,25 +2,26 @@
 // space that it is lent; to standard output what `tape` prints of each, and at the end what the lookups say of the book.
 #![tactic(auto)]
 
-ghost use Rattle.std.specs.Prelude.{◌≡◌, ◌+◌, ◌≤◌, ◌<◌, length, drop};
+ghost use Rattle.std.specs.Prelude.{◌≡◌, List, ℕ, ◌+◌, ◌≤◌, ◌<◌, length, drop};
+ghost use Rattle.base.specs.Chains.{unless_zero};
+ghost use Rattle.base.specs.Walks.{join_n};
 ghost use Rattle.rules.specs.Sizes.{record_space};
-ghost use Rattle.rules.specs.Valid.{Valid};
-ghost use Rattle.lines.specs.Puts.{Within};
-ghost use Rattle.lookups.specs.Lookups.{lent_row};
-ghost use Rattle.streams.specs.Rests.{Lies, rest_of, More};
+ghost use Rattle.rules.specs.declared.State.{State};
+ghost use Rattle.lines.specs.Puts.{Room, Within};
+ghost use Rattle.streams.specs.Rests.{left, rest_of};
 ghost use Rattle.turns.specs.Turns.{Tells};
 ghost use Rattle.calls.specs.Items.{item_needed, item_of, lent_of};
-ghost use Rattle.calls.specs.Listings.{live_line, shut_line, nets_line, depth_line, is_best, live_lines, shut_lines, nets_lines, depth_lines, lookup_text, cut_line};
-ghost use Rattle.calls.specs.Printed.{Listed};
-ghost use Rattle.calls.specs.Calls.{ItemsEnded};
+ghost use Rattle.calls.specs.Listings.{live_at, shut_line, nets_line, depth_at, depth_line, best_of, is_best, lookup_text, cut_line};
+ghost use Rattle.calls.specs.Printed.{Printed};
+ghost use Rattle.calls.specs.Calls.{ItemTurned, ItemsEnded};
 
 use book::Book;
 use depths::depth_in;
-use lines::{Net, put_byte, put_four, put_three, put_told, put_two, two_bytes};
-use rules::{Depth, OrderEntry, Shut, StrategyNets};
-use std::io::Read;
-use streams::{Rest, drain, fill, input_block, settle, text_space, write_out};
-use turns::{ROOM, Told, record_space, tell};
+use events::Refusal;
+use lines::{Text, two_bytes};
+use rules::Best;
+use streams::{Input, drain};
+use turns::{Program, run, tell};
 
 // The bytes of text that one line of the lookups needs at most.
 const LINE: usize = 86;
@@ -35,18 +36,18 @@ fn needed(rest: &[u8]) -> usize
     4 + two_bytes(rest, 0)
 }
 
-// The length of the first item of the rest of the input; 0 where the input ends before or inside it.
-fn item(rest: &[u8]) -> usize
-    ensures { result ≡ item_of rest.now }
+// The length of the first item of the rest of the input; none where the input ends before or inside it.
+fn item(rest: &[u8]) -> Option<usize>
+    ensures { result ≡ unless_zero (item_of rest.now) }
 {
     if rest.len() < 4 {
-        return 0;
+        return None;
     }
     let n = 4 + two_bytes(rest, 0);
     if rest.len() < n {
-        return 0;
+        return None;
     }
-    n
+    Some(n)
 }
 
 // The length of the record space that an item is lent.
@@ -54,310 +55,208 @@ fn lent(item: &[u8]) -> usize
     requires { 4 ≤ length item.now }
     ensures { result ≡ lent_of item.now }
 {
-    let m = two_bytes(item, 2);
-    if Book::RECORD_SPACE < m {
-        return Book::RECORD_SPACE;
-    }
-    m
-}
-
-// Reads until the first item of the rest is whole or no more comes.
-fn fill_item<I: Read, R: Eprint>(input: &mut I, rt: &R, block: &mut [u8], r: Rest) -> Rest
-    requires { Lies r block.old }
-    ensures { More block.old block.new r result }
-{
-    let q = fill(input, rt, block, r, 4);
-    let at = q.at;
-    let end = q.end;
-    if end - at < 4 {
-        return q;
-    }
-    let need = needed(&block[at..end]);
-    fill(input, rt, block, q, need)
+    two_bytes(item, 2).min(Book::RECORD_SPACE)
 }
 
 // One call: the item's frame goes to the book with the space that it is lent, and what is printed of it goes behind the text.
-fn tell_item(
-    book: Book,
-    index: u64,
-    item: &[u8],
-    space: &mut [i32],
-    out: &mut [u8],
-    used: usize,
-) -> Told
-    requires valid { Valid book.state }
+fn tell_item(book: &mut Book, index: u64, item: &[u8], space: &mut [i32], text: &mut Text)
     requires in_bounds { 4 ≤ length item.now }
     requires space_len { length space.old ≡ record_space }
-    requires used_in_bounds { used + 189526 ≤ length out.old }
-    ensures { Tells book.state index (drop 4 item.now) (lent_of item.now) out.old out.new used result }
+    requires room { Room text.old 189526 }
+    ensures { Tells book.old.state index (drop 4 item.now) (lent_of item.now) text.old text.new book.new }
 {
     let m = lent(item);
-    tell(book, index, &item[4..], &mut space[..m], out, used)
+    tell(book, index, &item[4..], &mut space[..m], text);
 }
 
-// The line of a number, if something of it is live.
-fn put_live(book: Book, number: u32, out: &mut [u8], used: usize) -> usize
-    requires valid { Valid book.state }
-    requires used_in_bounds { used + 86 ≤ length out.old }
-    ensures { Within 86 out.old out.new used result (live_line book.state number) }
-{
-    let quantity = book.live_quantity(number);
-    if quantity == 0 {
-        return used;
+// A lookup of the book, which prints a line, or nothing, for each of its places.
+trait Lookup {
+    ghost line: { State → ℕ → List ℕ };
+
+    // The line of a place, if it has one.
+    fn put(&self, book: &Book, place: u32, text: &mut Text)
+        requires place_bound { place < 100000 }
+        requires room { Room text.old 86 }
+        ensures { Within 86 text.old text.new (line book.now.state place) };
+}
+
+// The numbers from 1 on of which something is live.
+struct Live;
+
+impl Lookup for Live {
+    ghost line = { live_at };
+
+    fn put(&self, book: &Book, place: u32, text: &mut Text) {
+        let number = place + 1;
+        let quantity = book.live_quantity(number);
+        if quantity != 0 {
+            text.line(b'L', &[u64::from(number), u64::from(quantity)]);
+        }
     }
-    put_two(out, used, b'L', number as u64, quantity as u64)
 }
 
-// The line of a strategy, if it is defined.
-fn put_shut(book: Book, strategy: u32, out: &mut [u8], used: usize) -> usize
-    requires valid { Valid book.state }
-    requires used_in_bounds { used + 86 ≤ length out.old }
-    ensures { Within 86 out.old out.new used result (shut_line book.state strategy) }
-{
-    let shut = book.shut_legs(strategy);
-    match shut {
-        Shut::Legs(count, lowest) => {
-            put_three(
-                out,
-                used,
+// The shut legs of the strategies that are defined.
+struct Shut;
+
+impl Lookup for Shut {
+    ghost line = { shut_line };
+
+    fn put(&self, book: &Book, place: u32, text: &mut Text) {
+        if let Ok(legs) = book.shut_legs(place) {
+            text.line(
                 b'S',
-                strategy as u64,
-                count as u64,
-                lowest as u64,
-            )
+                &[
+                    u64::from(place),
+                    u64::from(legs.count),
+                    u64::from(legs.lowest),
+                ],
+            );
         }
-        Shut::Refused(_) => used,
     }
 }
 
-// The line of a strategy's nets, if it is defined.
-fn put_nets(book: Book, strategy: u32, out: &mut [u8], used: usize) -> usize
-    requires valid { Valid book.state }
-    requires used_in_bounds { used + 86 ≤ length out.old }
-    ensures { Within 86 out.old out.new used result (nets_line book.state strategy) }
-{
-    let k = strategy as u64;
-    let nets = book.nets(strategy);
-    match nets {
-        StrategyNets::Both(bid, offer) => {
-            put_told(out, used, b'N', k, Net::Known(bid), Net::Known(offer))
+// The nets of the strategies that are defined.
+struct Nets;
+
+impl Lookup for Nets {
+    ghost line = { nets_line };
+
+    fn put(&self, book: &Book, place: u32, text: &mut Text) {
+        if let Ok(nets) = book.nets(place) {
+            text.told(b'N', u64::from(place), nets.bid, nets.offer);
         }
-        StrategyNets::BidAlone(bid) => {
-            put_told(out, used, b'N', k, Net::Known(bid), Net::Unknown)
-        }
-        StrategyNets::OfferAlone(offer) => {
-            put_told(out, used, b'N', k, Net::Unknown, Net::Known(offer))
-        }
-        StrategyNets::Unknown => put_told(out, used, b'N', k, Net::Unknown, Net::Unknown),
-        StrategyNets::Refused(_) => used,
     }
 }
 
-// Whether a depth is that price with those contracts.
-fn is_best(d: Depth, price: u32, contracts: u32) -> bool
-    ensures { result ≡ is_best d price contracts }
+// The best price of a depth, none where it is empty or refused.
+fn best_of(depth: Result<Option<Best>, Refusal>) -> Option<Best>
+    ensures { result ≡ best_of depth }
 {
-    match d {
-        Depth::Best(p, c) => {
-            if p == price {
-                return c == contracts;
-            }
-            false
-        }
-        Depth::Empty => false,
-        Depth::Refused(_) => false,
+    depth.ok().flatten()
+}
+
+// Whether a best price is that price with those contracts.
+fn is_best(held: Option<Best>, price: u32, contracts: u32) -> bool
+    ensures { result ≡ is_best held price contracts }
+{
+    match held {
+        Some(best) => best.price == price && best.contracts == contracts,
+        None => false,
     }
 }
 
 // The line of a series and side, if its depth is not empty. The depth is looked up twice, in the book and in a row that is
 // lent; that both are one is proved, so the line is left out nowhere.
-fn put_depth(
-    book: Book,
-    row: [OrderEntry; Book::LEG_ORDERS],
-    series: u32,
-    side: u32,
-    out: &mut [u8],
-    used: usize,
-) -> usize
-    requires valid { Valid book.state × (row ≡ lent_row book.state.orders) }
-    requires used_in_bounds { used + 86 ≤ length out.old }
-    ensures { Within 86 out.old out.new used result (depth_line book.state series side) }
+fn put_depth(book: &Book, series: u32, side: u32, text: &mut Text)
+    requires { Room text.old 86 }
+    ensures { Within 86 text.old text.new (depth_line book.now.state series side) }
 {
-    let held = book.depth(series, side);
-    let lent = depth_in(row, series, side);
-    match lent {
-        Depth::Best(price, contracts) => {
-            if is_best(held, price, contracts) {
-                return put_four(
-                    out,
-                    used,
-                    b'D',
-                    series as u64,
-                    side as u64,
-                    price as u64,
-                    contracts as u64,
-                );
-            }
-            used
+    let held = best_of(book.depth(series, side));
+    if let Some(best) = best_of(depth_in(book.order_row(), series, side)) {
+        if is_best(held, best.price, best.contracts) {
+            text.line(
+                b'D',
+                &[
+                    u64::from(series),
+                    u64::from(side),
+                    u64::from(best.price),
+                    u64::from(best.contracts),
+                ],
+            );
         }
-        Depth::Empty => used,
-        Depth::Refused(_) => used,
     }
 }
 
-// The lines of the numbers 1 to 100,000.
-fn list_live<R: Print + Eprint>(rt: &R, book: Book, out: &mut [u8], used: usize) -> usize
-    requires valid { Valid book.state }
-    requires used_in_bounds { (used ≤ length out.old) × (86 ≤ length out.old) }
-    ensures { Listed out.old out.new used result (live_lines book.state) }
-{
-    let mut m = used;
-    let mut i: u32 = 0;
-    while i < 100000 {
-        let text = drain(rt, m, out, LINE);
-        m = put_live(book, i + 1, out, text.used);
-        i += 1;
+// The depths that are not empty, of each series side 0 and side 1.
+struct Depths;
+
+impl Lookup for Depths {
+    ghost line = { depth_at };
+
+    fn put(&self, book: &Book, place: u32, text: &mut Text) {
+        put_depth(book, place / 2, place % 2, text);
     }
-    m
 }
 
-// The lines of the strategies 0 to 15.
-fn list_shut<R: Print + Eprint>(rt: &R, book: Book, out: &mut [u8], used: usize) -> usize
-    requires valid { Valid book.state }
-    requires used_in_bounds { (used ≤ length out.old) × (86 ≤ length out.old) }
-    ensures { Listed out.old out.new used result (shut_lines book.state) }
+// The lines of the first n places of a lookup, each where there is room again.
+fn list<L: Lookup, R: Print + Eprint>(lookup: &L, n: u32, rt: &R, book: &Book, text: &mut Text)
+    requires n_bound { n ≤ 100000 }
+    requires room { 86 ≤ length text.old.out.now }
+    ensures { Printed text.old text.new (join_n (L.line book.now.state) n) }
 {
-    let mut m = used;
-    let mut i: u32 = 0;
-    while i < 16 {
-        let text = drain(rt, m, out, LINE);
-        m = put_shut(book, i, out, text.used);
-        i += 1;
+    for place in 0..n {
+        drain(rt, text, LINE);
+        lookup.put(book, place, text);
     }
-    m
-}
-
-// The lines of the nets of the strategies 0 to 15.
-fn list_nets<R: Print + Eprint>(rt: &R, book: Book, out: &mut [u8], used: usize) -> usize
-    requires valid { Valid book.state }
-    requires used_in_bounds { (used ≤ length out.old) × (86 ≤ length out.old) }
-    ensures { Listed out.old out.new used result (nets_lines book.state) }
-{
-    let mut m = used;
-    let mut i: u32 = 0;
-    while i < 16 {
-        let text = drain(rt, m, out, LINE);
-        m = put_nets(book, i, out, text.used);
-        i += 1;
-    }
-    m
-}
-
-// The lines of the series 0 to 31, of each the sides 0 and 1.
-fn list_depths<R: Print + Eprint>(rt: &R, book: Book, out: &mut [u8], used: usize) -> usize
-    requires valid { Valid book.state }
-    requires used_in_bounds { (used ≤ length out.old) × (86 ≤ length out.old) }
-    ensures { Listed out.old out.new used result (depth_lines book.state) }
-{
-    let row = book.order_row();
-    let mut m = used;
-    let mut i: u32 = 0;
-    while i < 64 {
-        let text = drain(rt, m, out, LINE);
-        m = put_depth(book, row, i / 2, i % 2, out, text.used);
-        i += 1;
-    }
-    m
 }
 
 // What the lookups say of the book.
-fn list_lookups<R: Print + Eprint>(rt: &R, book: Book, out: &mut [u8], used: usize) -> usize
-    requires valid { Valid book.state }
-    requires used_in_bounds { (used ≤ length out.old) × (86 ≤ length out.old) }
-    ensures { Listed out.old out.new used result (lookup_text book.state) }
+fn list_lookups<R: Print + Eprint>(rt: &R, book: &Book, text: &mut Text)
+    requires { 86 ≤ length text.old.out.now }
+    ensures { Printed text.old text.new (lookup_text book.now.state) }
 {
-    let a = list_live(rt, book, out, used);
-    let b = list_shut(rt, book, out, a);
-    let c = list_nets(rt, book, out, b);
-    list_depths(rt, book, out, c)
+    list(&Live, 100000, rt, book, text);
+    list(&Shut, 16, rt, book, text);
+    list(&Nets, 16, rt, book, text);
+    list(&Depths, 64, rt, book, text);
 }
 
 // The line of an item that is cut short, where some bytes of it are left.
-fn put_cut(left: usize, out: &mut [u8], used: usize) -> usize
-    requires { used + 86 ≤ length out.old }
-    ensures { Within 86 out.old out.new used result (cut_line left) }
+fn put_cut(left: usize, text: &mut Text)
+    requires { Room text.old 86 }
+    ensures { Within 86 text.old text.new (cut_line left) }
 {
-    if left == 0 {
-        return used;
+    if left != 0 {
+        text.put(b"cut\n");
     }
-    let a = put_byte(out, used, b'c');
-    let b = put_byte(out, a, b'u');
-    let c = put_byte(out, b, b't');
-    put_byte(out, c, 10)
 }
 
-// The last turn, where no whole item comes: `cut` where one was begun, and the lookups. The book and the rest stay.
-fn tell_end<R: Print + Eprint>(
-    rt: &R,
-    book: Book,
-    r: Rest,
-    block: &[u8],
-    out: &mut [u8],
-    used: usize,
-) -> usize
-    requires valid { Valid book.state }
-    requires lies { Lies r block.now × (item_of (rest_of block.now r) ≡ 0) }
-    requires used_in_bounds { used + 189526 ≤ length out.old }
-    ensures { ItemsEnded book r used block.now out.old out.new result }
+// The last turn, where no whole item comes: `cut` where one was begun, and the lookups. The book and the input stay.
+fn tell_end<R: Print + Eprint>(rt: &R, book: &Book, input: &Input, text: &mut Text)
+    requires nothing { item_of (rest_of input.now) ≡ 0 }
+    requires room { Room text.old 189526 }
+    ensures { ItemsEnded book.now input.now text.old text.new }
 {
-    let left = r.end - r.at;
-    let m = put_cut(left, out, used);
-    list_lookups(rt, book, out, m)
+    put_cut(input.rest().len(), text);
+    list_lookups(rt, book, text);
 }
 
-// Calls, until the input ends or the output takes no more. The index stays below the largest number.
-fn run<I: Read, R: Print + Eprint>(
-    input: &mut I,
-    rt: &R,
-    block: &mut [u8],
-    space: &mut [i32],
-    out: &mut [u8],
-)
-    requires space_len { length space.old ≡ record_space }
-    requires in_bounds { 189526 ≤ length out.old }
-{
-    let mut book = Book::first();
-    let mut rest = Rest { at: 0, end: 0 };
-    let mut used: usize = 0;
-    let mut on = true;
-    let mut index: u64 = 0;
-    while on && index < u64::MAX {
-        let r = fill_item(input, rt, block, rest);
-        let at = r.at;
-        let end = r.end;
-        let n = item(&block[at..end]);
-        if n == 0 {
-            let m = tell_end(rt, book, r, block, out, used);
-            write_out(rt, &out[..m]);
-            return;
-        }
-        let next = at + n;
-        let told = tell_item(book, index, &block[at..next], space, out, used);
-        book = told.book;
-        rest = Rest { at: next, end: end };
-        let whole = item(&block[next..end]);
-        let text = settle(rt, whole, told.used, out, ROOM);
-        used = text.used;
-        on = text.on;
-        index += 1;
+// Items, one after the other.
+struct Items;
+
+impl Program for Items {
+    ghost first_of = { item_of };
+
+    ghost turned = { ItemTurned };
+
+    fn needed(&self, rest: &[u8]) -> usize {
+        needed(rest)
     }
-    write_out(rt, &out[..used]);
+
+    fn first(&self, rest: &[u8]) -> Option<usize> {
+        item(rest)
+    }
+
+    fn turn<R: Print + Eprint>(
+        &self,
+        rt: &R,
+        index: u64,
+        book: &mut Book,
+        input: &mut Input,
+        space: &mut [i32],
+        text: &mut Text,
+    ) -> bool {
+        let Some(n) = item(input.rest()) else {
+            tell_end(rt, book, input, text);
+            return false;
+        };
+        tell_item(book, index, &input.rest()[..n], space, text);
+        input.consume(n);
+        true
+    }
 }
 
 fn main(rt: HostRuntime) {
-    let mut input = rt.stdin();
-    let mut block = input_block();
-    let mut space = record_space();
-    let mut out = text_space();
-    run(&mut input, &rt, &mut block, &mut space, &mut out);
+    let mut reader = rt.stdin();
+    run(&Items, &mut reader, &rt);
 }

@@ -1,6 +1,8 @@
 -- The first frame of the rest of the input: "its whole length (2 bytes)", little-endian.
-use Rattle.std.specs.Prelude.{◌≡◌, List, ℕ, ◌≤◌, ◌<◌, ltb, length}
-use Rattle.std.proofs.Common.{◌∙◌, arith, ltb-false}
+use Rattle.std.specs.Prelude.{◌≡◌, Bool, true, false, MatchBool, List, ℕ, zero, suc, ◌≤◌, ◌<◌, ◌⊎◌, ltb, length}
+use Rattle.std.proofs.Common.{refl, sym, ◌∙◌, ap, inl, inr, Some, arith, ltb-false}
+use Rattle.std.specs.Bool.{then_some}
+use Rattle.base.specs.Chains.{unless_zero}
 use Rattle.base.specs.Pick.{pick, pick-by, tests}
 use Rattle.frames.specs.Number.{number}
 
@@ -32,21 +34,37 @@ pub needed-whole : (rest : List ℕ) {n : ℕ} → n ≡ told_length rest → 2 
 unfolding needed_of
 needed-whole rest e l h = let k : 4 ≤ told_length rest = omega arith in e ∙ search tests
 
-pub cut-under : (rest : List ℕ) {n : ℕ} → n ≡ told_length rest → 2 ≤ length rest → n < 4 → 0 ≡ cut_of rest
+pub cut-short : (rest : List ℕ) → length rest < 2 → 0 ≡ cut_of rest
 unfolding cut_of
-cut-under rest e l h = let k : told_length rest < 4 = omega arith in search tests
+cut-short rest l = search tests
 
-pub cut-past : (rest : List ℕ) {n : ℕ} → n ≡ told_length rest → 2 ≤ length rest → 4 ≤ n → length rest < n → 0 ≡ cut_of rest
+pub cut_none : (rest : List ℕ) {n : ℕ} → n ≡ told_length rest → 2 ≤ length rest → (n < 4) ⊎ (length rest < n) → 0 ≡ cut_of rest
 unfolding cut_of
-cut-past rest e l h x =
-    let k : 4 ≤ told_length rest = omega arith in
+cut_none rest e l (inl h) = let k : told_length rest < 4 = omega arith in search tests
+cut_none rest {n} e l (inr h) =
     let y : length rest < told_length rest = omega arith in
-    search tests
+    sym (pick-by (λ (m : ℕ). m ≡ 0) _ (λ _. refl) (λ _. pick-by (λ (m : ℕ). m ≡ 0) _ (λ _. refl) (λ _. search tests)))
 
-pub cut-whole : (rest : List ℕ) {n : ℕ} → n ≡ told_length rest → 2 ≤ length rest → 4 ≤ n → n ≤ length rest → n ≡ cut_of rest
+-- the length of a piece that is whole
+pub whole-some : (n m : ℕ) → 1 ≤ n → n ≡ m → Some n ≡ unless_zero m
+whole-some n zero h e = absurd (omega arith)
+whole-some n (suc m) h e = ap Some e
+
+pub cut-whole : (rest : List ℕ) {n : ℕ} → n ≡ told_length rest → 2 ≤ length rest → 4 ≤ n → n ≤ length rest → Some n ≡ unless_zero (cut_of rest)
 unfolding cut_of
-cut-whole rest e l h x =
+cut-whole rest {n} e l h x =
     let k : 4 ≤ told_length rest = omega arith in
     let y : told_length rest ≤ length rest = omega arith in
     let z : told_length rest ≡ cut_of rest = search tests in
-    e ∙ z
+    whole-some n _ (omega arith) (e ∙ z)
+
+-- what the length of a first piece tells, where 0 stands for none
+pub first-some : (k : ℕ) {n : ℕ} → Some n ≡ unless_zero k → (n ≡ k) × (n ≡ 0 → ⊥)
+first-some zero e = cc
+first-some (suc k) {n} e = let h : n ≡ suc k = cc in (h, λ z. omega arith)
+
+pub cut-by :
+    (rest : List ℕ) {n : ℕ} (t : Bool) → n ≡ told_length rest → 2 ≤ length rest → MatchBool t ((4 ≤ n) × (n ≤ length rest)) ((n < 4) ⊎ (length rest < n)) →
+    then_some t n ≡ unless_zero (cut_of rest)
+cut-by rest true e l (h, x) = cut-whole rest e l h x
+cut-by rest false e l h = ap unless_zero (cut_none rest e l h)

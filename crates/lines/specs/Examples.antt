@@ -1,10 +1,10 @@
 -- Lines of document 01's example, and ends of the input.
-use Rattle.std.specs.Prelude.{◌≡◌, refl, [], ◌∷◌, pos, negsuc}
+use Rattle.std.specs.Prelude.{◌≡◌, refl, [], ◌∷◌, pos, negsuc, Ok, Err}
 use Rattle.base.specs.Pick.{pick}
 use Rattle.frames.specs.Number.{number}
 use Rattle.rules.specs.Lookups.{known, unknown}
 use Rattle.rules.specs.Step.{answer_number, answer_value, answer_count}
-use Rattle.rules.specs.declared.Answer.TheVariants.{Accepted, Refused}
+use Rattle.events.specs.declared.Refusal.TheVariants.{BadFrame}
 use Rattle.lines.specs.Cuts.{told_length, cut_of}
 use Rattle.lines.specs.Lines.{digits, decimal, signed, spaced, text_line, event_line, net_text, told_line}
 
@@ -22,12 +22,12 @@ unfolding digits decimal signed pick
 below-text = refl
 
 -- `E 5 0 3 5`
-event-text : event_line 5 (Accepted 3 5) ≡ 69 ∷ (32 ∷ (53 ∷ (32 ∷ (48 ∷ (32 ∷ (51 ∷ (32 ∷ (53 ∷ (10 ∷ [])))))))))
+event-text : event_line 5 (Ok (record { value = 3; records = 5 })) ≡ 69 ∷ (32 ∷ (53 ∷ (32 ∷ (48 ∷ (32 ∷ (51 ∷ (32 ∷ (53 ∷ (10 ∷ [])))))))))
 unfolding event_line answer_number answer_value answer_count text_line spaced signed decimal digits pick
 event-text = refl
 
 -- `E 6 2 0 0`
-refusal-text : event_line 6 (Refused 2) ≡ 69 ∷ (32 ∷ (54 ∷ (32 ∷ (50 ∷ (32 ∷ (48 ∷ (32 ∷ (48 ∷ (10 ∷ [])))))))))
+refusal-text : event_line 6 (Err BadFrame) ≡ 69 ∷ (32 ∷ (54 ∷ (32 ∷ (50 ∷ (32 ∷ (48 ∷ (32 ∷ (48 ∷ (10 ∷ [])))))))))
 unfolding event_line answer_number answer_value answer_count text_line spaced signed decimal digits pick
 refusal-text = refl
 

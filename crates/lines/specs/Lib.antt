@@ -2,4 +2,3 @@ pub mod Cuts
 pub mod Examples
 pub mod Lines
 pub mod Puts
-pub mod Signs

@@ -1,13 +1,12 @@
 -- "The program `tape` reads frames from standard input, prints `E` index answer value count, the index from 0, then `R` lines, one a record."
-use Rattle.std.specs.Prelude.{List, [], ◌∷◌, ◌++◌, ℕ, zero, suc, ◌+◌, ◌*◌, ◌/◌, ◌%◌, ltb, ℤ, pos, negsuc, take, drop}
+use Rattle.std.specs.Prelude.{List, [], ◌∷◌, ◌++◌, ℕ, zero, suc, ◌+◌, ◌*◌, ◌/◌, ◌%◌, ltb, ℤ, pos, negsuc, take, drop, Result}
 use Rattle.base.specs.Pick.{pick}
-use Rattle.rules.specs.declared.Answer.{Answer}
+use Rattle.events.specs.declared.Refusal.{Refusal}
+use Rattle.rules.specs.declared.Accepted.{Accepted}
 use Rattle.rules.specs.declared.Record.{Record}
 use Rattle.rules.specs.Lookups.{ToldNet, known, unknown}
 use Rattle.rules.specs.Records.{line_of, numbers_of}
 use Rattle.rules.specs.Step.{Outcome, answer_of, answer_number, answer_value, answer_count}
-use Rattle.lines.specs.declared.Net.{Net}
-use Rattle.lines.specs.declared.Net.TheVariants as N
 
 -- the digits of a number, the highest first, at most n and one of them
 unfoldable pub digits : ℕ → ℕ → List ℕ
@@ -33,7 +32,7 @@ unfoldable pub text_line : ℕ → List ℤ → List ℕ
 text_line letter zs = letter ∷ (spaced zs ++ (10 ∷ []))
 
 -- "`E` index answer value count"; "A refusal prints value and count 0."
-unfoldable pub event_line : ℕ → Answer → List ℕ
+unfoldable pub event_line : ℕ → Result Accepted Refusal → List ℕ
 event_line index a = text_line 69 (pos index ∷ (pos (answer_number a) ∷ (pos (answer_value a) ∷ (pos (answer_count a) ∷ []))))
 
 -- the lines of the first n records of a space
@@ -42,7 +41,7 @@ record_lines zero s = []
 record_lines (suc n) s = record_lines n s ++ text_line 82 (take 6 (drop (n * 6) s))
 
 -- what is printed of an event: its line, and the lines of its records
-unfoldable pub event_text : ℕ → Answer → List ℤ → List ℕ
+unfoldable pub event_text : ℕ → Result Accepted Refusal → List ℤ → List ℕ
 event_text index a s = event_line index a ++ record_lines (answer_count a) s
 
 -- the lines of records
@@ -62,8 +61,3 @@ net_text unknown = 45 ∷ []
 -- a letter, a number, two nets as they are told, the end of the line
 unfoldable pub told_line : ℕ → ℕ → ToldNet → ToldNet → List ℕ
 told_line letter i x y = letter ∷ ((32 ∷ signed (pos i)) ++ ((32 ∷ net_text x) ++ ((32 ∷ net_text y) ++ (10 ∷ []))))
-
--- what each case of a net tells
-unfoldable pub net_tells : Net → ToldNet
-net_tells (N.Known z) = known z
-net_tells N.Unknown = unknown

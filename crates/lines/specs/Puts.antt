@@ -1,28 +1,34 @@
 -- Texts put into a space of bytes from a place on; everything else stays as it was.
 use Rattle.std.specs.Prelude.{◌≡◌, refl, true, false, List, [], ◌∷◌, ◌++◌, ℕ, zero, suc, ◌+◌, ◌*◌, ◌/◌, ◌%◌, ◌^◌, ◌≤◌, ◌<◌, ltb, ℤ, pos, negsuc, nat_abs, length, take, drop, get_or, set}
-use Rattle.std.proofs.Common.{sym, ◌∙◌, ap, append_assoc, add-zero, add-suc, suc-add, div-add-mod', pow-suc, add-one, arith, SFits, to_z, of_z, to_z-of_z, length-append, take-suc, lt-ltb, le-ltb, ltb-true}
+use Rattle.std.proofs.Common.{sym, ◌∙◌, ap, append_assoc, append-nil, add-zero, add-suc, suc-add, div-add-mod', pow-suc, add-one, arith, SFits, to_z, of_z, to_z-of_z, length-append, take_at, drop_at, drop-drop, take-suc, lt-ltb, le-ltb, ltb-true, None, Some, Ok, Err}
 use Rattle.std.proofs.Math.Nat.{div-div-eq-div-mul}
 use Rattle.std.specs.Int.{w32}
 use Rattle.std.specs.Int.Signed.{lt_z}
 use Rattle.std.proofs.lemmas.List.Edits.{sets}
-use Rattle.std.proofs.Math.Seq.{length-sets}
+use Rattle.std.proofs.Math.Seq.{length-sets, take-length}
 use Rattle.base.specs.Pick.{pick, pick-by, pick_true, pick-false}
-use Rattle.rules.specs.declared.Answer.{Answer}
-use Rattle.rules.specs.Lookups.{ToldNet}
+use Rattle.events.specs.declared.Refusal.{Refusal}
+use Rattle.events.specs.Refusals.{refusal_number}
+use Rattle.rules.specs.declared.Accepted.{Accepted}
+use Rattle.rules.specs.Lookups.{ToldNet, net_told}
 use Rattle.rules.specs.Step.{answer_number, answer_value, answer_count}
-use Rattle.lines.specs.declared.Net.{Net}
-use Rattle.lines.specs.declared.Net.TheVariants as N
-use Rattle.lines.specs.Lines.{digits, decimal, signed, spaced, text_line, record_lines, event_line, event_text, net_text, told_line, net_tells}
+use Rattle.lines.specs.declared.Text.{Text}
+use Rattle.lines.specs.Lines.{digits, decimal, signed, spaced, text_line, record_lines, event_line, event_text, net_text, told_line}
 
--- the text t was put at place a: the space s became q, the next place is m
-pub record Put (s q : List ℕ) (a m : ℕ) (t : List ℕ) : Type 0 where
-  pub next : m ≡ a + length t
-  pub bytes : q ≡ sets s a t
+-- there is room for k bytes behind the text
+abbrev pub Room : Text → ℕ → Type 0
+Room s k = s.used + k ≤ length s.out.now
+
+-- the text t was put behind the text s, which became q; it is the same space
+pub record Put (s q : Text) (t : List ℕ) : Type 0 where
+  pub next : q.used ≡ s.used + length t
+  pub bytes : q.out.now ≡ sets s.out.now s.used t
+  pub same : q.out.ghost_name ≡ s.out.ghost_name
 
 -- the same, with at most k bytes
-pub record Within (k : ℕ) (s q : List ℕ) (a m : ℕ) (t : List ℕ) : Type 0 where
-  pub put : Put s q a m t
-  pub few : m ≤ a + k
+pub record Within (k : ℕ) (s q : Text) (t : List ℕ) : Type 0 where
+  pub put : Put s q t
+  pub few : q.used ≤ s.used + k
 
 -- the last two digits of a number
 unfoldable pub last_two : ℕ → List ℕ
@@ -34,15 +40,19 @@ sets-append : (l : List ℕ) (a : ℕ) (us vs : List ℕ) → sets (sets l a us)
 sets-append l a [] vs = rw add-zero
 sets-append l a (u ∷ us) vs = rw (add-suc, ← suc-add) (sets-append (set l a u) (suc a) us vs)
 
-pub put-length : {s q : List ℕ} {a m : ℕ} {t : List ℕ} → Put s q a m t → length q ≡ length s
-put-length {s} {q} {a} {m} {t} p = ap length p.bytes ∙ length-sets s a t
+pub put-length : {s q : Text} {t : List ℕ} → Put s q t → length q.out.now ≡ length s.out.now
+put-length {s} {q} {t} p = ap length p.bytes ∙ length-sets s.out.now s.used t
 
-pub put-nil : (s : List ℕ) (a : ℕ) → Put s s a a []
-put-nil s a = record { next = omega arith; bytes = refl }
+pub put-nil : (s : Text) → Put s s []
+put-nil s = record { next = omega arith; bytes = refl; same = refl }
 
-pub put_then : {s q r : List ℕ} {a m k : ℕ} {t u : List ℕ} → Put s q a m t → Put q r m k u → Put s r a k (t ++ u)
-put_then {s} {q} {r} {a} {m} {k} {t} {u} p x =
-    record { next = omega (arith, p.next, x.next, length-append t u); bytes = x.bytes ∙ rw (p.bytes, p.next) (sets-append s a t u) }
+pub put_then : {s q r : Text} {t u : List ℕ} → Put s q t → Put q r u → Put s r (t ++ u)
+put_then {s} {q} {r} {t} {u} p x =
+    record {
+      next = omega (arith, p.next, x.next, length-append t u);
+      bytes = x.bytes ∙ rw (p.bytes, p.next) (sets-append s.out.now s.used t u);
+      same = x.same ∙ p.same;
+    }
 
 -- a tenth
 tenth : (v n : ℕ) → v ≤ suc n → v / 10 ≤ n
@@ -88,10 +98,10 @@ length-one v h = ap length (decimal-one v h)
 pub length_more : (v : ℕ) → 10 ≤ v → length (decimal v) ≡ length (decimal (v / 10)) + 1
 length_more v h = ap length (decimal-more v h) ∙ length-append (decimal (v / 10)) ((48 + v % 10) ∷ [])
 
-pub put_one : {s q : List ℕ} {a m : ℕ} (v : ℕ) → v < 10 → Put s q a m ((48 + v) ∷ []) → Put s q a m (decimal v)
+pub put_one : {s q : Text} (v : ℕ) → v < 10 → Put s q ((48 + v) ∷ []) → Put s q (decimal v)
 put_one v h p = rw (decimal-one v h) p
 
-pub put-last-two : {s q r : List ℕ} {a m k : ℕ} (v : ℕ) → Put s q a m ((48 + v / 10 % 10) ∷ []) → Put q r m k ((48 + v % 10) ∷ []) → Put s r a k (last_two v)
+pub put-last-two : {s q r : Text} (v : ℕ) → Put s q ((48 + v / 10 % 10) ∷ []) → Put q r ((48 + v % 10) ∷ []) → Put s r (last_two v)
 unfolding last_two
 put-last-two v p x = put_then p x
 
@@ -118,14 +128,11 @@ pub length-hundreds : (v : ℕ) → 100 ≤ v → length (decimal v) ≡ length 
 unfolding last_two
 length-hundreds v h = ap length (decimal-hundreds v h) ∙ length-append (decimal (v / 100)) (last_two v)
 
-pub put-two-digits : {s q : List ℕ} {a m : ℕ} (v : ℕ) → 10 ≤ v → v < 100 → Put s q a m (last_two v) → Put s q a m (decimal v)
+pub put-two-digits : {s q : Text} (v : ℕ) → 10 ≤ v → v < 100 → Put s q (last_two v) → Put s q (decimal v)
 put-two-digits v h l p = rw (decimal-two v h l) p
 
-pub put-hundreds : {s q r : List ℕ} {a m k : ℕ} (v : ℕ) → 100 ≤ v → Put s q a m (decimal (v / 100)) → Put q r m k (last_two v) → Put s r a k (decimal v)
+pub put-hundreds : {s q r : Text} (v : ℕ) → 100 ≤ v → Put s q (decimal (v / 100)) → Put q r (last_two v) → Put s r (decimal v)
 put-hundreds v h p x = rw (decimal-hundreds v h) (put_then p x)
-
-pub put-more : {s q r : List ℕ} {a m k : ℕ} (v : ℕ) → 10 ≤ v → Put s q a m (decimal (v / 10)) → Put q r m k ((48 + v % 10) ∷ []) → Put s r a k (decimal v)
-put-more v h p x = rw (decimal-more v h) (put_then p x)
 
 pub number-length : (v : ℕ) → v < 2 ^ 64 → length (decimal v) ≤ 20
 number-length v h = decimal-length 19 v (omega arith)
@@ -134,20 +141,20 @@ pub signed-length : (v : ℕ) → v ≤ 2147483648 → length (decimal v) ≤ 10
 signed-length v h = decimal-length 9 v (omega arith)
 
 -- numbers after a space
-pub put-number : {s q r : List ℕ} {a m k : ℕ} (v : ℕ) → v < 2 ^ 64 → Put s q a m (32 ∷ []) → Put q r m k (decimal v) → Within 21 s r a k (32 ∷ signed (pos v))
+pub put-number : {s q r : Text} (v : ℕ) → v < 2 ^ 64 → Put s q (32 ∷ []) → Put q r (decimal v) → Within 21 s r (32 ∷ signed (pos v))
 unfolding signed
 put-number v l p x = record { put = put_then p x; few = omega (arith, p.next, x.next, number-length v l) }
 
 pub put-below :
-    {s q r u : List ℕ} {a m k n : ℕ} (z : ℤ) → lt_z z (pos 0) ≡ true → nat_abs z ≤ 2147483648 →
-    Put s q a m (32 ∷ []) → Put q r m k (45 ∷ []) → Put r u k n (decimal (nat_abs z)) → Within 12 s u a n (32 ∷ signed z)
+    {s q r u : Text} (z : ℤ) → lt_z z (pos 0) ≡ true → nat_abs z ≤ 2147483648 →
+    Put s q (32 ∷ []) → Put q r (45 ∷ []) → Put r u (decimal (nat_abs z)) → Within 12 s u (32 ∷ signed z)
 unfolding signed
 put-below (pos v) h l p x y = absurd (omega (arith, ltb-true v 0 h))
 put-below (negsuc v) h l p x y = record { put = put_then p (put_then x y); few = omega (arith, p.next, x.next, y.next, signed-length (suc v) l) }
 
 pub put-above :
-    {s q r : List ℕ} {a m k : ℕ} (z : ℤ) → lt_z z (pos 0) ≡ false → nat_abs z ≤ 2147483648 →
-    Put s q a m (32 ∷ []) → Put q r m k (decimal (nat_abs z)) → Within 12 s r a k (32 ∷ signed z)
+    {s q r : Text} (z : ℤ) → lt_z z (pos 0) ≡ false → nat_abs z ≤ 2147483648 →
+    Put s q (32 ∷ []) → Put q r (decimal (nat_abs z)) → Within 12 s r (32 ∷ signed z)
 unfolding signed
 put-above (pos v) h l p x = record { put = put_then p x; few = omega (arith, p.next, x.next, signed-length v l) }
 put-above (negsuc v) h l p x = absurd (let z : ◌≡◌ {A = ℕ} 0 1 = cc in omega arith)
@@ -157,95 +164,89 @@ unfolding spaced
 spaced-append [] zs = refl
 spaced-append (y ∷ ys) zs = rw (spaced-append ys zs) (sym (append_assoc (32 ∷ signed y) (spaced ys) (spaced zs)))
 
--- a line, piece by piece: a letter and its numbers, one number more, and the end
-pub put-pair :
-    {s q r u : List ℕ} {a b c d : ℕ} (letter i j : ℕ) →
-    Put s q a b (letter ∷ []) → Within 21 q r b c (32 ∷ signed (pos i)) → Within 21 r u c d (32 ∷ signed (pos j)) →
-    Within 43 s u a d (letter ∷ spaced (pos i ∷ (pos j ∷ [])))
+-- a line up to its first j numbers, each of at most w bytes
+pub record Writing (letter w : ℕ) (zs : List ℤ) (s q : Text) (j : ℕ) : Type 0 where
+  pub put : Put s q (letter ∷ spaced (take j zs))
+  pub few : q.used ≤ s.used + (1 + w * j)
+
+pub writing-first : (letter w : ℕ) (zs : List ℤ) {s q : Text} → Put s q (letter ∷ []) → Writing letter w zs s q 0
 unfolding spaced
-put-pair letter i j p q r =
-    record { put = put_then p (put_then q.put (put_then r.put (put-nil _ _))); few = omega (arith, p.next, q.few, r.few) }
-
-pub put-more-numbers :
-    {s q r : List ℕ} {a b c k : ℕ} (letter : ℕ) (zs : List ℤ) (z : ℤ) →
-    Within k s q a b (letter ∷ spaced zs) → Within 21 q r b c (32 ∷ signed z) → Within (k + 21) s r a c (letter ∷ spaced (zs ++ (z ∷ [])))
-unfolding spaced
-put-more-numbers letter zs z p q =
-    record { put = rw (spaced-append) (put_then p.put (put_then q.put (put-nil _ _))); few = omega (arith, p.few, q.few) }
-
-pub put-end :
-    {s q r : List ℕ} {a b c k : ℕ} (letter : ℕ) (zs : List ℤ) →
-    Within k s q a b (letter ∷ spaced zs) → Put q r b c (10 ∷ []) → Within (k + 1) s r a c (text_line letter zs)
-unfolding text_line
-put-end letter zs p q = record { put = put_then p.put q; few = omega (arith, p.few, q.next) }
-
--- the first j numbers of zs
-pub record Writing (zs : List ℤ) (s q : List ℕ) (a m j : ℕ) : Type 0 where
-  pub put : Put s q a m (spaced (take j zs))
-  pub few : m ≤ a + 12 * j
-  pub some : j ≤ 6
-
-pub writing-first : (zs : List ℤ) (s : List ℕ) (a : ℕ) → Writing zs s s a a 0
-unfolding spaced
-writing-first zs s a = record { put = put-nil s a; few = omega arith; some = omega arith }
+writing-first letter w zs p = record { put = p; few = omega (arith, p.next) }
 
 pub writing-next :
-    (zs : List ℤ) {s q r : List ℕ} {a m k j : ℕ} → Writing zs s q a m j → j < 6 → j < length zs →
-    Within 12 q r m k (32 ∷ signed (get_or zs j (pos 0))) → Writing zs s r a k (j + 1)
+    {letter w : ℕ} (zs : List ℤ) {s q r : Text} {j : ℕ} → Writing letter w zs s q j → j < length zs → Within w q r (32 ∷ signed (get_or zs j (pos 0))) →
+    Writing letter w zs s r (j + 1)
 unfolding spaced
-writing-next zs {j} w h l x =
+writing-next {letter} {w} zs {j = j} p l x =
     record {
-      put = rw (add-one j, take-suc zs j (pos 0) l, spaced-append) (put_then w.put (put_then x.put (put-nil _ _)));
-      few = omega (arith, w.few, x.few);
-      some = omega arith;
+      put = rw (add-one j, take-suc zs j (pos 0) l, spaced-append) (put_then p.put (put_then x.put (put-nil _)));
+      few = omega (arith, p.few, x.few);
     }
 
-pub writing-done : (zs : List ℤ) {s q : List ℕ} {a m j : ℕ} → Writing zs s q a m j → 6 ≤ j → Within 72 s q a m (spaced (take 6 zs))
-writing-done zs {j} w h = let e : j ≡ 6 = omega (arith, w.some) in record { put = rw e at w.put; few = omega (arith, w.few, w.some) }
-
-pub put-record-line :
-    (zs : List ℤ) {s q r u : List ℕ} {a b c d : ℕ} →
-    Put s q a b (82 ∷ []) → Within 72 q r b c (spaced zs) → Put r u c d (10 ∷ []) → Within 74 s u a d (text_line 82 zs)
+pub writing-done :
+    {letter w : ℕ} (zs : List ℤ) {s q r : Text} {j : ℕ} → Writing letter w zs s q j → j ≡ length zs → Put q r (10 ∷ []) →
+    Within (2 + w * length zs) s r (text_line letter zs)
 unfolding text_line
-put-record-line zs p q r = record { put = put_then p (put_then q.put r); few = omega (arith, p.next, q.few, r.next) }
+writing-done {letter} {w} zs {s} {q} {r} {j} p e x =
+    record { put = rw (e, take-length zs) at (put_then p.put x); few = let k : r.used ≤ s.used + (2 + w * j) = omega (arith, p.few, x.next) in rw e at k }
 
 -- the lines of the first i records of a space
-pub record Listing (sp : List ℤ) (s q : List ℕ) (a m i : ℕ) : Type 0 where
-  pub put : Put s q a m (record_lines i sp)
-  pub few : m ≤ a + 74 * i
+pub record Listing (sp : List ℤ) (s q : Text) (i : ℕ) : Type 0 where
+  pub put : Put s q (record_lines i sp)
+  pub few : q.used ≤ s.used + 74 * i
 
-pub listing-first : (sp : List ℤ) (s : List ℕ) (a : ℕ) → Listing sp s s a a 0
+pub listing-first : (sp : List ℤ) (s : Text) → Listing sp s s 0
 unfolding record_lines
-listing-first sp s a = record { put = put-nil s a; few = omega arith }
+listing-first sp s = record { put = put-nil s; few = omega arith }
 
 pub listing-next :
-    (sp : List ℤ) {s q r : List ℕ} {a m k i : ℕ} → Listing sp s q a m i → Within 74 q r m k (text_line 82 (take 6 (drop (i * 6) sp))) → Listing sp s r a k (i + 1)
+    (sp : List ℤ) {s q r : Text} {i : ℕ} → Listing sp s q i → Within 74 q r (text_line 82 (take 6 (drop (i * 6) sp))) → Listing sp s r (i + 1)
 unfolding record_lines
-listing-next sp {i} l x = record { put = rw (add-one i) (put_then l.put x.put); few = omega (arith, l.few, x.few) }
+listing-next sp {i = i} l x = record { put = rw (add-one i) (put_then l.put x.put); few = omega (arith, l.few, x.few) }
 
-pub listing-done : (sp : List ℤ) (n : ℕ) {s q : List ℕ} {a m i : ℕ} → Listing sp s q a m i → i ≡ n → Within (74 * n) s q a m (record_lines n sp)
+pub listing-done : (sp : List ℤ) (n : ℕ) {s q : Text} {i : ℕ} → Listing sp s q i → i ≡ n → Within (74 * n) s q (record_lines n sp)
 listing-done sp n l e = record { put = rw e at l.put; few = rw e at l.few }
 
-pub put-event :
-    (i : ℕ) (sp : List ℤ) (x : Answer) {o v n : ℕ} → o ≡ answer_number x → v ≡ answer_value x → n ≡ answer_count x → {s q r : List ℕ} {a m k : ℕ} →
-    Within 86 s q a m (text_line 69 (pos i ∷ (pos o ∷ (pos v ∷ (pos n ∷ []))))) → Within (74 * n) q r m k (record_lines n sp) →
-    Within (86 + 74 * answer_count x) s r a k (event_text i x sp)
-unfolding event_text event_line
-put-event i sp x d e f p q = rw (← d, ← e, ← f) (record { put = put_then p.put q.put; few = omega (arith, p.few, q.few) })
+-- the next six numbers of a space, and what is left behind them
+pub chunk-after : (sp : List ℤ) (i : ℕ) {left : List ℤ} (xs rest : List ℤ) → left ≡ drop (i * 6) sp → left ≡ xs ++ rest → length xs ≡ 6 → rest ≡ drop ((i + 1) * 6) sp
+chunk-after sp i xs rest e h l =
+    sym (drop_at xs rest 6 l) ∙ ap (drop 6) (sym h ∙ e) ∙ drop-drop 6 (i * 6) sp ∙ ap (λ (n : ℕ). drop n sp) (omega arith)
+
+pub listing-chunk :
+    (sp : List ℤ) {s q r : Text} {i : ℕ} {left : List ℤ} (xs rest : List ℤ) → Listing sp s q i → left ≡ drop (i * 6) sp → left ≡ xs ++ rest → length xs ≡ 6 →
+    Within (2 + 12 * length xs) q r (text_line 82 xs) → Listing sp s r (i + 1)
+listing-chunk sp {i = i} xs rest p e h l w =
+    let c : xs ≡ take 6 (drop (i * 6) sp) = sym (take_at xs rest 6 l) ∙ ap (take 6) (sym h ∙ e) in
+    let v = rw l at w in
+    listing-next sp p (rw c at v)
+
+-- an event, by its answer
+pub put-accepted :
+    (i : ℕ) (sp : List ℤ) (a : Accepted) {w : ℕ} → w ≡ a.value → {s q r : Text} →
+    Within 86 s q (text_line 69 (pos i ∷ (pos 0 ∷ (pos w ∷ (pos a.records ∷ []))))) → Within (74 * a.records) q r (record_lines a.records sp) →
+    Within (86 + 74 * answer_count (Ok a)) s r (event_text i (Ok a) sp)
+unfolding event_text event_line answer_number answer_value answer_count
+put-accepted i sp a e p q = rw (← e) (record { put = put_then p.put q.put; few = omega (arith, p.few, q.few) })
+
+pub put-refused :
+    (i : ℕ) (sp : List ℤ) (f : Refusal) {m : ℕ} → m ≡ refusal_number f → {s q : Text} → Within 86 s q (text_line 69 (pos i ∷ (pos m ∷ (pos 0 ∷ (pos 0 ∷ []))))) →
+    Within (86 + 74 * answer_count (Err f)) s q (event_text i (Err f) sp)
+unfolding event_text event_line record_lines answer_number answer_value answer_count
+put-refused i sp f e p = rw (← e, append-nil) p
 
 -- a net after a space, by its case
-pub put-known : {n : Net} {z : ℤ} → n ≡ N.Known z → SFits w32 z → {s q : List ℕ} {a m : ℕ} → Within 12 s q a m (32 ∷ signed (to_z w32 (of_z w32 z))) → Within 12 s q a m (32 ∷ net_text (net_tells n))
-unfolding net_text net_tells
-put-known e f w = rw e (rw (to_z-of_z f) at w)
+pub put-known : {z : ℤ} → SFits w32 z → {s q : Text} → Within 12 s q (32 ∷ signed (to_z w32 (of_z w32 z))) → Within 12 s q (32 ∷ net_text (net_told (Some z)))
+unfolding net_text net_told
+put-known f w = rw (to_z-of_z f) at w
 
-pub put-unknown : {n : Net} → n ≡ N.Unknown → {s q r : List ℕ} {a m k : ℕ} → Put s q a m (32 ∷ []) → Put q r m k (45 ∷ []) → Within 12 s r a k (32 ∷ net_text (net_tells n))
-unfolding net_text net_tells
-put-unknown e p q = rw e (record { put = put_then p q; few = omega (arith, p.next, q.next) })
+pub put-unknown : {s q r : Text} → Put s q (32 ∷ []) → Put q r (45 ∷ []) → Within 12 s r (32 ∷ net_text (net_told None))
+unfolding net_text net_told
+put-unknown p q = record { put = put_then p q; few = omega (arith, p.next, q.next) }
 
 pub put-told :
-    {s q r u v w : List ℕ} {a b c d e f : ℕ} (letter i : ℕ) (x y : ToldNet) →
-    Put s q a b (letter ∷ []) → Within 21 q r b c (32 ∷ signed (pos i)) → Within 12 r u c d (32 ∷ net_text x) → Within 12 u v d e (32 ∷ net_text y) →
-    Put v w e f (10 ∷ []) → Within 47 s w a f (told_line letter i x y)
+    {s q r u v w : Text} (letter i : ℕ) (x y : ToldNet) →
+    Put s q (letter ∷ []) → Within 21 q r (32 ∷ signed (pos i)) → Within 12 r u (32 ∷ net_text x) → Within 12 u v (32 ∷ net_text y) →
+    Put v w (10 ∷ []) → Within 47 s w (told_line letter i x y)
 unfolding told_line
 put-told letter i x y p n g h l =
     record { put = put_then p (put_then n.put (put_then g.put (put_then h.put l))); few = omega (arith, p.next, n.few, g.few, h.few, l.next) }

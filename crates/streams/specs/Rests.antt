@@ -1,102 +1,65 @@
 -- The bytes that were read and not yet taken: those of the block from a place to an end.
-use Rattle.std.specs.Prelude.{◌≡◌, refl, List, [], ◌∷◌, ◌++◌, ℕ, zero, suc, ◌+◌, ◌-◌, ◌≤◌, ◌<◌, length, take, drop, get_or, set}
-use Rattle.std.proofs.Common.{sym, ◌∙◌, ap, ap₂, add_comm, add-one, arith, length-set, length-drop, take-take, take_at, length-take-le, get_or-drop, take-suc, take-suc-set, drop-set-lt, drop-drop}
+use Rattle.std.specs.Prelude.{◌≡◌, refl, List, [], ◌∷◌, ℕ, zero, suc, ◌+◌, ◌-◌, ◌≤◌, length, take, drop}
+use Rattle.std.proofs.Common.{sym, ◌∙◌, ap, zero-add, arith, length-drop, take-take, length-take-le, drop-drop}
+use Rattle.std.specs.List.{copy_within}
+use Rattle.std.proofs.lemmas.List.Edits.{take-paste}
 use Rattle.std.proofs.Math.Nat.{sub-zero}
 use Rattle.std.proofs.Math.Seq.{take-nil}
-use Rattle.streams.specs.declared.Rest.{Rest}
+use Rattle.streams.specs.declared.Input.{Input}
+use Rattle.streams.specs.Added.{Added}
 
--- the place and the end lie in the block
-pub record Lies (r : Rest) (block : List ℕ) : Type 0 where
-  pub order : r.at ≤ r.«end»
-  pub inside : r.«end» ≤ length block
+-- how many there are
+abbrev pub left : Input → ℕ
+left i = i.«end» - i.at
 
-abbrev pub rest_of : List ℕ → Rest → List ℕ
-rest_of block r = take (r.«end» - r.at) (drop r.at block)
+abbrev pub rest_of : Input → List ℕ
+rest_of i = take (left i) (drop i.at i.block.now)
 
--- bytes were added behind those that were there
-pub record More (s t : List ℕ) (r q : Rest) : Type 0 where
-  pub lies : Lies q t
-  pub grown : r.«end» - r.at ≤ q.«end» - q.at
-  pub kept : take (r.«end» - r.at) (rest_of t q) ≡ rest_of s r
-  pub same : length t ≡ length s
+-- bytes were added behind those that were there; it is the same block
+pub record More (i j : Input) : Type 0 where
+  pub grown : left i ≤ left j
+  pub kept : take (left i) (rest_of j) ≡ rest_of i
+  pub size : length j.block.now ≡ length i.block.now
+  pub same : j.block.ghost_name ≡ i.block.ghost_name
 
--- bytes were added in the block from n to m
-pub record Added (s t : List ℕ) (n m : ℕ) : Type 0 where
-  pub order : n ≤ m
-  pub inside : m ≤ length t
-  pub kept : take n t ≡ take n s
-  pub same : length t ≡ length s
+-- the first n bytes were taken
+pub record Passed (i j : Input) (n : ℕ) : Type 0 where
+  pub place : j.at ≡ i.at + n
+  pub «end» : j.«end» ≡ i.«end»
+  pub block : j.block ≡ i.block
 
 -- laws
 
-pub added_none : (s : List ℕ) (n : ℕ) → n ≤ length s → Added s s n n
-added_none s n h = record { order = omega arith; inside = h; kept = refl; same = refl }
+pub rest-length : (i : Input) → length (rest_of i) ≡ left i
+rest-length i = length-take-le (left i) (drop i.at i.block.now) (omega (arith, length-drop i.at i.block.now, i.order, i.inside))
 
-pub added_then : {s t u : List ℕ} {n m k : ℕ} → Added s t n m → Added t u m k → Added s u n k
-added_then {s} {t} {u} {n} {m} a b =
-    record {
-      order = omega (arith, a.order, b.order);
-      inside = b.inside;
-      kept = sym (take-take n m u a.order) ∙ ap (take n) b.kept ∙ take-take n m t a.order ∙ a.kept;
-      same = b.same ∙ a.same;
-    }
+pub more-none : (i : Input) → More i i
+more-none i = record { grown = omega arith; kept = take-take (left i) (left i) (drop i.at i.block.now) (omega arith); size = refl; same = refl }
 
-pub added-part : (s ys : List ℕ) (n k : ℕ) {t : List ℕ} → n ≤ length s → k ≤ length s - n → length t ≡ length s → t ≡ take n s ++ ys → Added s t n (n + k)
-added-part s ys n k h l e x =
-    record {
-      order = omega arith;
-      inside = omega arith;
-      kept = ap (take n) x ∙ take_at (take n s) ys n (length-take-le n s h);
-      same = e;
-    }
-
--- i bytes from a on were moved to the start, and those behind are as they were
-pub record Sliding (s t : List ℕ) (a n i : ℕ) : Type 0 where
-  pub some : i ≤ n
-  pub moved : take i t ≡ take i (drop a s)
-  pub behind : drop i t ≡ drop i s
-  pub same : length t ≡ length s
-
-pub sliding-first : (s : List ℕ) (a n : ℕ) → Sliding s s a n 0
-sliding-first s a n = record { some = omega arith; moved = refl; behind = refl; same = refl }
-
-pub sliding-next : {s t : List ℕ} {a n i : ℕ} → Sliding s t a n i → i < n → a + n ≤ length s → Sliding s (set t i (get_or t (a + i) 0)) a n (i + 1)
-sliding-next {s} {t} {a} {n} {i} x h l =
-    let v : get_or t (a + i) 0 ≡ get_or (drop a s) i 0 =
-    ap (λ (k : ℕ). get_or t k 0) (add_comm a i) ∙ sym (get_or-drop i t a 0) ∙ ap (λ (y : List ℕ). get_or y a 0) x.behind
-    ∙ get_or-drop i s a 0 ∙ ap (λ (k : ℕ). get_or s k 0) (add_comm i a) ∙ sym (get_or-drop a s i 0) in
-    let lt : i < length t = omega (arith, x.same) in
-    record {
-      some = omega arith;
-      moved = rw (add-one i) (take-suc-set t i _ lt ∙ ap₂ (λ (y : List ℕ) (z : ℕ). y ++ (z ∷ [])) x.moved v ∙ sym (take-suc (drop a s) i 0 (omega (arith, length-drop a s))));
-      behind = drop-set-lt (i + 1) t i _ (omega arith) ∙ sym (drop-drop 1 i t) ∙ ap (drop 1) x.behind ∙ drop-drop 1 i s;
-      same = length-set t i _ ∙ x.same;
-    }
-
-pub sliding-done : {s t : List ℕ} {a n i : ℕ} → Sliding s t a n i → n ≤ i → take n t ≡ take n (drop a s)
-sliding-done {n = n} {i = i} x h = let e : i ≡ n = omega (arith, x.some) in rw e at x.moved
-
-pub more-none : {s : List ℕ} {r : Rest} → Lies r s → More s s r r
-more-none {s} {r} l = record { lies = l; grown = omega arith; kept = take-take (r.«end» - r.at) (r.«end» - r.at) (drop r.at s) (omega arith); same = refl }
+slid : (i : Input) → take (left i) (copy_within i.block.now i.at i.«end» 0) ≡ take (left i) (drop i.at i.block.now)
+slid i =
+    let h : left i ≤ length (drop i.at i.block.now) = omega (arith, length-drop i.at i.block.now, i.order, i.inside) in
+    ap (λ (n : ℕ). take n (copy_within i.block.now i.at i.«end» 0)) (sym (zero-add (left i)))
+    ∙ take-paste i.block.now 0 (drop i.at i.block.now) (left i) (omega arith) h
 
 pub more-slid :
-    {s t u : List ℕ} {r : Rest} {m : ℕ} →
-    take (r.«end» - r.at) t ≡ take (r.«end» - r.at) (drop r.at s) → length t ≡ length s → Added t u (r.«end» - r.at) m →
-    More s u r (record { at = 0; «end» = m })
-more-slid {s} {t} {u} {r} {m} e l a =
+    (i j : Input) {t : List ℕ} → t ≡ copy_within i.block.now i.at i.«end» 0 → length t ≡ length i.block.now → Added t j.block.now (left i) j.«end» →
+    j.at ≡ 0 → j.block.ghost_name ≡ i.block.ghost_name → More i j
+more-slid i j {t} e l a z g =
     record {
-      lies = record { order = omega arith; inside = a.inside };
-      grown = omega (arith, a.order);
-      kept = take-take (r.«end» - r.at) (m - 0) u (omega (arith, a.order)) ∙ a.kept ∙ e;
-      same = a.same ∙ l;
+      grown = omega (arith, a.order, z);
+      kept =
+          rw (z, sub-zero) (take-take (left i) j.«end» j.block.now a.order) ∙ a.kept ∙ ap (take (left i)) e ∙ slid i;
+      size = a.same ∙ l;
+      same = g;
     }
 
-pub more-then : {s t u : List ℕ} {r q p : Rest} → More s t r q → More t u q p → More s u r p
-more-then {s} {t} {u} {r} {q} {p} x y =
+pub more-then : {i j k : Input} → More i j → More j k → More i k
+more-then {i} {j} {k} x y =
     record {
-      lies = y.lies;
       grown = omega (arith, x.grown, y.grown);
-      kept = sym (take-take (r.«end» - r.at) (q.«end» - q.at) (rest_of u p) x.grown) ∙ ap (take (r.«end» - r.at)) y.kept ∙ x.kept;
+      kept = sym (take-take (left i) (left j) (rest_of k) x.grown) ∙ ap (take (left i)) y.kept ∙ x.kept;
+      size = y.size ∙ x.size;
       same = y.same ∙ x.same;
     }
 
@@ -109,15 +72,7 @@ drop-take (suc n) (suc m) (x ∷ l) h =
     rw e (drop-take n m l (omega arith))
 
 -- n bytes of the rest are taken
-pub rest-after : (block : List ℕ) (r : Rest) (n : ℕ) → n ≤ r.«end» - r.at → rest_of block (record { at = r.at + n; «end» = r.«end» }) ≡ drop n (rest_of block r)
-rest-after block r n h =
-    let e : r.«end» - (r.at + n) ≡ r.«end» - r.at - n = omega arith in
-    rw e (ap (take (r.«end» - r.at - n)) (sym (drop-drop n r.at block)) ∙ sym (drop-take n (r.«end» - r.at) (drop r.at block) h))
-
-pub rest-first : (block : List ℕ) (r : Rest) (n : ℕ) → n ≤ r.«end» - r.at → take (r.at + n - r.at) (drop r.at block) ≡ take n (rest_of block r)
-rest-first block r n h =
-    let e : r.at + n - r.at ≡ n = omega arith in
-    rw e (sym (take-take n (r.«end» - r.at) (drop r.at block) h))
-
-pub rest-length : {block : List ℕ} {r : Rest} → Lies r block → length (rest_of block r) ≡ r.«end» - r.at
-rest-length {block} {r} l = length-take-le (r.«end» - r.at) (drop r.at block) (omega (arith, length-drop r.at block, l.order, l.inside))
+pub rest-after : {i j : Input} {n : ℕ} → Passed i j n → n ≤ left i → rest_of j ≡ drop n (rest_of i)
+rest-after {i} {j} {n} p h =
+    let e : i.«end» - (i.at + n) ≡ left i - n = omega arith in
+    rw (p.place, p.«end», p.block, e) (ap (take (left i - n)) (sym (drop-drop n i.at i.block.now)) ∙ sym (drop-take n (left i) (drop i.at i.block.now) h))

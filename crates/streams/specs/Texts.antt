@@ -1,44 +1,49 @@
 -- The text that waits to be written out.
-use Rattle.std.specs.Prelude.{◌≡◌, ℕ, ◌+◌, ◌-◌, ◌≤◌, ◌<◌, leb, eqb}
-use Rattle.std.proofs.Common.{sym, ◌∙◌, arith, eq-eqb, ne_eqb}
-use Rattle.base.specs.Pick.{pick, pick_true, pick-false, tests}
-use Rattle.streams.specs.declared.Text.{Text}
+use Rattle.std.specs.Prelude.{◌≡◌, Bool, true, false, ℕ, ◌+◌, ◌-◌, ◌≤◌, ◌<◌, leb, length, refl, List}
+use Rattle.std.proofs.Common.{ap, arith, MutBor}
+use Rattle.base.specs.Pick.{pick, tests}
+use Rattle.lines.specs.declared.Text.{Text}
 
 -- the end of a text in a space of n bytes: the text goes out where less than the room is left behind it
 unfoldable pub end_after : ℕ → ℕ → ℕ → ℕ
 end_after used room n = pick (leb room (n - used)) used 0
 
 -- its end where the next read may wait: all of it goes out where nothing whole is left of the input
-abbrev pub end_before : ℕ → ℕ → ℕ → ℕ → ℕ
-end_before whole used room n = pick (eqb whole 0) 0 (end_after used room n)
+abbrev pub end_before : Bool → ℕ → ℕ → ℕ → ℕ
+end_before more used room n = pick more (end_after used room n) 0
 
--- there is room again
-pub record Drains (used need n : ℕ) (x : Text) : Type 0 where
-  pub place : x.used ≡ end_after used need n
-  pub room : x.used + need ≤ n
+-- there is room again, in the same space
+pub record Drains (s q : Text) (need : ℕ) : Type 0 where
+  pub place : q.used ≡ end_after s.used need (length s.out.now)
+  pub room : q.used + need ≤ length q.out.now
+  pub space : q.out ≡ s.out
 
 -- there is room again, and nothing waits where the next read may
-pub record Settles (whole used need n : ℕ) (x : Text) : Type 0 where
-  pub place : x.used ≡ end_before whole used need n
-  pub room : x.used + need ≤ n
+pub record Settles (s q : Text) (more : Bool) (need : ℕ) : Type 0 where
+  pub place : q.used ≡ end_before more s.used need (length s.out.now)
+  pub room : q.used + need ≤ length q.out.now
+  pub space : q.out ≡ s.out
 
 -- laws
 
-pub drains-none : (used room n : ℕ) {x : Text} → x.used ≡ used → used ≤ n → room ≤ n - used → Drains used room n x
+pub drains-none : (s : Text) (room : ℕ) → room ≤ length s.out.now - s.used → Drains s s room
 unfolding end_after
-drains-none used room n {x} e h l = record { place = rw e (search tests); room = omega (arith, e) }
+drains-none s room l = record { place = search tests; room = omega (arith, s.inside); space = refl }
 
-pub drains_all : (used room n : ℕ) {x : Text} → x.used ≡ 0 → room ≤ n → n - used < room → Drains used room n x
+pub drains_all : (s q : Text) (room : ℕ) → q.used ≡ 0 → q.out ≡ s.out → room ≤ length s.out.now → length s.out.now - s.used < room → Drains s q room
 unfolding end_after
-drains_all used room n {x} e h l = record { place = rw e (search tests); room = omega (arith, e) }
+drains_all s q room e f h l = record { place = rw e (search tests); room = rw (e, f) (omega arith); space = f }
 
-pub settles-all : {whole used room n : ℕ} {x : Text} → whole ≡ 0 → room ≤ n → Drains used n n x → Settles whole used room n x
-settles-all {x = x} z h d =
-    let e : x.used ≡ 0 = omega (arith, d.room) in
-    record { place = e ∙ sym (pick_true _ _ _ (eq-eqb _ _ z)); room = omega (arith, e) }
+pub settles-more : {s q : Text} {more : Bool} {room : ℕ} → more ≡ true → Drains s q room → Settles s q more room
+unfolding pick
+settles-more e d = rw e (record { place = d.place; room = d.room; space = d.space })
 
-pub settles-some : {whole used room n : ℕ} {x : Text} → (whole ≡ 0 → ⊥) → Drains used room n x → Settles whole used room n x
-settles-some h d = record { place = d.place ∙ sym (pick-false _ _ _ (ne_eqb _ _ h)); room = d.room }
+pub settles-all : {s q : Text} {more : Bool} {room : ℕ} → more ≡ false → room ≤ length s.out.now → Drains s q (length s.out.now) → Settles s q more room
+unfolding pick
+settles-all {s} {q} e h d =
+    let z : q.used ≡ 0 = omega (arith, d.room, ap (λ (x : MutBor (List ℕ)). length x.now) d.space) in
+    rw e (record { place = z; room = rw (z, d.space) (omega arith); space = d.space })
 
-pub settled-none : {whole used room n : ℕ} {x : Text} → Settles whole used room n x → whole ≡ 0 → x.used ≡ 0
-settled-none s e = s.place ∙ pick_true _ _ _ (eq-eqb _ _ e)
+pub settled-none : {s q : Text} {more : Bool} {room : ℕ} → Settles s q more room → more ≡ false → q.used ≡ 0
+unfolding pick
+settled-none s e = rw e at s.place

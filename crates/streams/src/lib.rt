@@ -2,30 +2,12 @@
 // handed in.
 #![tactic(auto)]
 
-ghost use Rattle.std.specs.Prelude.{◌≡◌, ◌+◌, ◌≤◌, length, take, drop};
-ghost use Rattle.streams.specs.Rests.{Lies, More, Added};
+ghost use Rattle.std.specs.Prelude.{◌≡◌, ◌+◌, ◌-◌, ◌≤◌, length, take, drop};
+ghost use Rattle.streams.specs.Added.{Added};
 ghost use Rattle.streams.specs.Texts.{Drains, Settles};
 
+use lines::Text;
 use std::io::Read;
-
-// The bytes of the block that were read and not yet taken: from a place to an end.
-#[derive(Clone, Copy)]
-pub struct Rest {
-    pub at: usize,
-    pub end: usize,
-}
-
-// Moves n bytes of the block from a place to its start.
-fn slide(block: &mut [u8], at: usize, n: usize)
-    requires { at + n ≤ length block.old }
-    ensures { take n block.new ≡ take n (drop at block.old) }
-{
-    let mut i: usize = 0;
-    while i < n {
-        block[i] = block[at + i];
-        i += 1;
-    }
-}
 
 // Says on standard error that a read failed.
 fn say_unread<R: Eprint>(rt: &R) {
@@ -35,11 +17,11 @@ fn say_unread<R: Eprint>(rt: &R) {
 }
 
 // One read into the block from n on. Answers the next end, or n where no more comes.
-fn read_on<I: Read, R: Eprint>(input: &mut I, rt: &R, block: &mut [u8], n: usize) -> usize
+fn read_on<I: Read, R: Eprint>(reader: &mut I, rt: &R, block: &mut [u8], n: usize) -> usize
     requires { n ≤ length block.old }
     ensures { Added block.old block.new n result }
 {
-    match input.read(&mut block[n..]) {
+    match reader.read(&mut block[n..]) {
         Ok(got) => n + got,
         Err(_) => {
             say_unread(rt);
@@ -48,9 +30,9 @@ fn read_on<I: Read, R: Eprint>(input: &mut I, rt: &R, block: &mut [u8], n: usize
     }
 }
 
-// Reads until the block has `need` bytes or no more come.
+// Reads until the block has `need` bytes or no more come. By a `while`, since how much a read gives is not known before it.
 fn read_up<I: Read, R: Eprint>(
-    input: &mut I,
+    reader: &mut I,
     rt: &R,
     block: &mut [u8],
     n: usize,
@@ -61,7 +43,7 @@ fn read_up<I: Read, R: Eprint>(
 {
     let mut m = n;
     while m < need {
-        let k = read_on(input, rt, block, m);
+        let k = read_on(reader, rt, block, m);
         if k == m {
             return m;
         }
@@ -70,69 +52,93 @@ fn read_up<I: Read, R: Eprint>(
     m
 }
 
-// Reads until the rest has `need` bytes or no more come.
-pub fn fill<I: Read, R: Eprint>(
-    input: &mut I,
-    rt: &R,
-    block: &mut [u8],
-    r: Rest,
-    need: usize,
-) -> Rest
-    requires { Lies r block.old }
-    ensures { More block.old block.new r result }
-{
-    let at = r.at;
-    let n = r.end - at;
-    if need <= n {
-        return r;
-    }
-    slide(block, at, n);
-    let end = read_up(input, rt, block, n, need);
-    Rest { at: 0, end: end }
+// The input that was read and not yet taken: the bytes of a block from a place to an end.
+#[derive(Drop)]
+pub struct Input<'a> {
+    pub block: &'a mut [u8],
+    pub at: usize,
+    pub end: usize,
+    ghost order: { at ≤ «end» },
+    ghost inside: { «end» ≤ length block.now },
 }
 
-// The end of the text, and whether the output takes more.
-#[derive(Clone, Copy)]
-pub struct Text {
-    pub used: usize,
-    pub on: bool,
+impl<'a> Input<'a> {
+    ghost use Rattle.streams.specs.Rests.{rest_of, More, Passed};
+
+    // Nothing was read yet.
+    pub fn new(block: &'a mut [u8]) -> Input<'a>
+        ensures at { result.at ≡ 0 }
+        ensures empty { result.end ≡ 0 }
+        ensures bytes { result.block.now ≡ block.old }
+        ensures same { result.block.ghost_name ≡ block.entry.ghost_name }
+    {
+        Input {
+            block,
+            at: 0,
+            end: 0,
+        }
+    }
+
+    // The bytes that are there.
+    pub fn rest(&self) -> &[u8]
+        ensures { result.now ≡ rest_of self.now }
+    {
+        &self.block[self.at..self.end]
+    }
+
+    // The first n bytes that are there are taken.
+    pub fn consume(&mut self, n: usize)
+        requires { self.old.at + n ≤ self.old.end }
+        ensures { Passed self.old self.new n }
+    {
+        self.at += n;
+    }
+
+    // Reads until `need` bytes are there or no more come.
+    pub fn fill<I: Read, R: Eprint>(&mut self, reader: &mut I, rt: &R, need: usize)
+        ensures { More self.old self.new }
+    {
+        let n = self.end - self.at;
+        if need <= n {
+            return;
+        }
+        self.block.copy_within(self.at..self.end, 0);
+        self.at = 0;
+        self.end = read_up(reader, rt, self.block, n, need);
+    }
 }
 
 // Writes the text out; where it is not taken whole, says so on standard error. A program has no other way to tell: its exit
 // status is always 0.
-pub fn write_out<R: Print + Eprint>(rt: &R, text: &[u8]) -> bool {
-    let whole = rt.write_all(text).is_ok();
+pub fn write_out<R: Print + Eprint>(rt: &R, text: &Text) -> bool {
+    let whole = rt.write_all(text.bytes()).is_ok();
     if !whole {
         let _ = eprintln!(rt; "standard output: a write failed; what was printed is not whole");
     }
     whole
 }
 
-// Writes the text out where less than the room is left.
-pub fn drain<R: Print + Eprint>(rt: &R, used: usize, out: &[u8], room: usize) -> Text
-    requires { (used ≤ length out.now) × (room ≤ length out.now) }
-    ensures { Drains used room (length out.now) result }
+// Writes the text out where less than the room is left. Answers whether the output takes more.
+pub fn drain<R: Print + Eprint>(rt: &R, text: &mut Text, room: usize) -> bool
+    requires { room ≤ length text.old.out.now }
+    ensures { Drains text.old text.new room }
 {
-    if room <= out.len() - used {
-        return Text {
-            used: used,
-            on: true,
-        };
+    if room <= text.room() {
+        return true;
     }
-    let on = write_out(rt, &out[..used]);
-    Text { used: 0, on: on }
+    let on = write_out(rt, text);
+    text.clear();
+    on
 }
 
 // Writes the text out where less than the room is left, and all of it where nothing whole is left of the input: what is
 // printed goes out before the wait for more.
-pub fn settle<R: Print + Eprint>(rt: &R, whole: usize, used: usize, out: &[u8], room: usize) -> Text
-    requires { (used ≤ length out.now) × (room ≤ length out.now) }
-    ensures { Settles whole used room (length out.now) result }
+pub fn settle<R: Print + Eprint>(rt: &R, text: &mut Text, more: bool, room: usize) -> bool
+    requires { room ≤ length text.old.out.now }
+    ensures { Settles text.old text.new more room }
 {
-    if whole == 0 {
-        return drain(rt, used, out, out.len());
-    }
-    drain(rt, used, out, room)
+    let least = if more { room } else { text.out.len() };
+    drain(rt, text, least)
 }
 
 // The block that the input is read into: the longest frame, with the two lengths of an item before it, and some more.

@@ -1,115 +1,76 @@
 // The program `tape`: frames from standard input; to standard output a line for each event, and one for each of its records.
 #![tactic(auto)]
 
-ghost use Rattle.std.specs.Prelude.{◌≡◌, ◌+◌, ◌≤◌, length};
+ghost use Rattle.std.specs.Prelude.{◌≡◌};
+ghost use Rattle.base.specs.Chains.{unless_zero};
 ghost use Rattle.lines.specs.Cuts.{cut_of};
 ghost use Rattle.lines.specs.Lines.{event_line};
-ghost use Rattle.lines.specs.Puts.{Within};
-ghost use Rattle.streams.specs.Rests.{Lies, rest_of, More};
-ghost use Rattle.tape.specs.Tapes.{Ended};
+ghost use Rattle.lines.specs.Puts.{Room, Within};
+ghost use Rattle.streams.specs.Rests.{rest_of};
+ghost use Rattle.tape.specs.Tapes.{Turned, Ended};
 
 use book::Book;
-use lines::{cut, needed, put_event};
-use rules::Answer;
-use std::io::Read;
-use streams::{Rest, fill, input_block, settle, text_space, write_out};
-use turns::{ROOM, record_space, tell};
-
-// Reads on until the first frame of the rest is whole or no more comes, where the rest has its length.
-fn fill_on<I: Read, R: Eprint>(input: &mut I, rt: &R, block: &mut [u8], r: Rest) -> Rest
-    requires { Lies r block.old }
-    ensures { More block.old block.new r result }
-{
-    let at = r.at;
-    let end = r.end;
-    let need = needed(&block[at..end]);
-    if need <= end - at {
-        return r;
-    }
-    fill(input, rt, block, r, need)
-}
-
-// Reads until the first frame of the rest is whole or no more comes. Mostly it is there already.
-fn fill_frame<I: Read, R: Eprint>(input: &mut I, rt: &R, block: &mut [u8], r: Rest) -> Rest
-    requires { Lies r block.old }
-    ensures { More block.old block.new r result }
-{
-    if 2 <= r.end - r.at {
-        return fill_on(input, rt, block, r);
-    }
-    let q = fill(input, rt, block, r, 2);
-    if q.end - q.at < 2 {
-        return q;
-    }
-    fill_on(input, rt, block, q)
-}
+use events::Refusal;
+use lines::{Text, cut, needed};
+use streams::Input;
+use turns::{Program, run, tell};
 
 // The line of a last frame that is cut short, or whose length is under 4.
-fn tell_cut(index: u64, space: &[i32], out: &mut [u8], used: usize) -> usize
-    requires { used + 189526 ≤ length out.old }
-    ensures { Within 189526 out.old out.new used result (event_line index (Answer.Refused 2)) }
+fn tell_cut(index: u64, space: &[i32], text: &mut Text)
+    requires { Room text.old 189526 }
+    ensures { Within 189526 text.old text.new (event_line index (Err Refusal.BadFrame)) }
 {
-    put_event(out, used, index, Answer::Refused(2), space)
+    text.event(index, Err(Refusal::BadFrame), space);
 }
 
-// The last turn, where no whole frame comes: nothing, or refusal 2. The book and the rest stay.
-fn tell_end(r: Rest, index: u64, block: &[u8], space: &[i32], out: &mut [u8], used: usize) -> usize
-    requires lies { Lies r block.now × (cut_of (rest_of block.now r) ≡ 0) }
-    requires space_len { length space.now ≡ 15360 }
-    requires used_in_bounds { used + 189526 ≤ length out.old }
-    ensures { Ended r used index block.now out.old out.new result }
+// The last turn, where no whole frame comes: nothing, or refusal 2. The book and the input stay.
+fn tell_end(input: &Input, index: u64, space: &[i32], text: &mut Text)
+    requires nothing { cut_of (rest_of input.now) ≡ 0 }
+    requires room { Room text.old 189526 }
+    ensures { Ended input.now index text.old text.new }
 {
-    let at = r.at;
-    let end = r.end;
-    if at == end {
-        return used;
+    if input.at == input.end {
+        return;
     }
-    tell_cut(index, space, out, used)
+    tell_cut(index, space, text);
 }
 
-// Events, until the input ends, a frame is cut short, or the output takes no more. The index stays below the largest number.
-fn run<I: Read, R: Print + Eprint>(
-    input: &mut I,
-    rt: &R,
-    block: &mut [u8],
-    space: &mut [i32],
-    out: &mut [u8],
-)
-    requires space_len { length space.old ≡ 15360 }
-    requires in_bounds { 189526 ≤ length out.old }
-{
-    let mut book = Book::first();
-    let mut rest = Rest { at: 0, end: 0 };
-    let mut used: usize = 0;
-    let mut on = true;
-    let mut index: u64 = 0;
-    while on && index < u64::MAX {
-        let r = fill_frame(input, rt, block, rest);
-        let at = r.at;
-        let end = r.end;
-        let n = cut(&block[at..end]);
-        if n == 0 {
-            let m = tell_end(r, index, block, space, out, used);
-            write_out(rt, &out[..m]);
-            return;
-        }
-        let next = at + n;
-        let told = tell(book, index, &block[at..next], space, out, used);
-        book = told.book;
-        rest = Rest { at: next, end: end };
-        let whole = cut(&block[next..end]);
-        let text = settle(rt, whole, told.used, out, ROOM);
-        used = text.used;
-        on = text.on;
-        index += 1;
+// Frames, one after the other.
+struct Frames;
+
+impl Program for Frames {
+    ghost first_of = { cut_of };
+
+    ghost turned = { Turned };
+
+    fn needed(&self, rest: &[u8]) -> usize {
+        needed(rest)
     }
-    write_out(rt, &out[..used]);
+
+    fn first(&self, rest: &[u8]) -> Option<usize> {
+        cut(rest)
+    }
+
+    fn turn<R: Print + Eprint>(
+        &self,
+        rt: &R,
+        index: u64,
+        book: &mut Book,
+        input: &mut Input,
+        space: &mut [i32],
+        text: &mut Text,
+    ) -> bool {
+        let Some(n) = cut(input.rest()) else {
+            tell_end(input, index, space, text);
+            return false;
+        };
+        tell(book, index, &input.rest()[..n], space, text);
+        input.consume(n);
+        true
+    }
 }
 
 fn main(rt: HostRuntime) {
-    let mut input = rt.stdin();
-    let mut block = input_block();
-    let mut space = record_space();
-    let mut out = text_space();
-    run(&mut input, &rt, &mut block, &mut space, &mut out);
+    let mut reader = rt.stdin();
+    run(&Frames, &mut reader, &rt);
 }

@@ -1,41 +1,44 @@
 -- A turn of a program that calls the book, and the turns from the first book on.
-use Rattle.std.specs.Prelude.{◌≡◌, refl, Bool, true, List, [], ◌∷◌, ◌++◌, ℕ, zero, suc, ◌+◌, ◌*◌, ◌≤◌, ◌<◌, ℤ, length, take, drop}
+use Rattle.std.specs.Prelude.{◌≡◌, refl, Bool, true, List, [], ◌∷◌, ◌++◌, ℕ, zero, suc, ◌+◌, ◌*◌, ◌≤◌, ◌<◌, ℤ, length, take, drop, Result, Ok, Err}
 use Rattle.std.proofs.Common.{sym, ◌∙◌, ap, ⊎_elim, append_assoc, append-nil, arith}
 use Rattle.std.proofs.lemmas.List.Edits.{sets-eq}
 use Rattle.std.proofs.Math.Seq.{take-length}
+use Rattle.std.specs.Option.{is_some}
+use Rattle.base.specs.Chains.{unless_zero}
 use Rattle.base.specs.Pick.{pick, pick_all}
 use Rattle.base.specs.Walks.{lt-or-le}
 use Rattle.frames.specs.Frames.{read_of}
-use Rattle.rules.specs.declared.Answer.{Answer}
-use Rattle.rules.specs.declared.Answer.TheVariants as A
+use Rattle.events.specs.declared.Refusal.{Refusal}
+use Rattle.events.specs.declared.Refusal.TheVariants as F
+use Rattle.rules.specs.declared.Accepted.{Accepted}
 use Rattle.rules.specs.Step.{Outcome, step, refuse_or_perform, refused, answer_of, answer_count}
+use Rattle.rules.specs.State.{first}
 use Rattle.rules.specs.declared.State.{State}
 use Rattle.rules.specs.declared.Record.{Record}
 use Rattle.rules.specs.Records.{Line, line_of, numbers_of}
-use Rattle.rules.specs.Valid.{Valid}
 use Rattle.records.specs.Space.{laid, numbers, length-numbers}
 use Rattle.book.specs.declared.Book.{Book}
-use Rattle.book.specs.declared.Taken.{Taken}
-use Rattle.book.specs.Books.{First, Stepped}
+use Rattle.book.specs.Books.{Stepped}
 use Rattle.book.specs.Outcomes.{refusal-short}
+use Rattle.lines.specs.declared.Text.{Text}
 use Rattle.lines.specs.Lines.{text_line, event_line, record_lines, record_texts, event_text, outcome_text}
 use Rattle.lines.specs.Puts.{Within}
-use Rattle.streams.specs.declared.Rest.{Rest}
-use Rattle.streams.specs.Rests.{Lies, More, rest_of}
-use Rattle.turns.specs.declared.Told.{Told}
+use Rattle.streams.specs.declared.Input.{Input}
+use Rattle.streams.specs.Rests.{More, rest_of}
+use Rattle.streams.specs.Texts.{Settles, settled-none}
 
--- what the program keeps from event to event: the book, the rest of the input, the end of the text, and whether more is to come
+-- what the program keeps from event to event: the book, the input, the text, and whether more is to come
 pub record Tape : Type 0 where
   pub book : Book
-  pub rest : Rest
-  pub used : ℕ
+  pub input : Input
+  pub text : Text
   pub on : Bool
 
--- an event went to the book in the state b with a record space of n numbers, and what the rules print of it was put behind the text
-pub record Tells (b : State) (index : ℕ) (frame : List ℕ) (n : ℕ) (s q : List ℕ) (used : ℕ) (x : Told) : Type 0 where
-  pub state : x.book.state ≡ (step b frame n).moved.state
-  pub valid : Valid x.book.state
-  pub text : Within 189526 s q used x.used (outcome_text index (step b frame n))
+-- an event went to the book in the state b with a record space of n numbers, which became x, and what the rules print of it was put
+-- behind the text s, which became q
+pub record Tells (b : State) (index : ℕ) (frame : List ℕ) (n : ℕ) (s q : Text) (x : Book) : Type 0 where
+  pub state : x.state ≡ (step b frame n).moved.state
+  pub text : Within 189526 s q (outcome_text index (step b frame n))
 
 -- what comes next: the state of the book, what is printed, the rest of the input, and whether more is to come
 pub record Turn : Type 0 where
@@ -48,30 +51,24 @@ pub record Turn : Type 0 where
 abbrev pub event_turn : Outcome → ℕ → List ℕ → Turn
 event_turn o index rest = record { state = o.moved.state; text = outcome_text index o; rest = rest; on = true }
 
--- before a turn: the book is valid, the rest lies in the block, and there is room for an event
-pub record Ready (t : Tape) (block : List ℕ) (space : List ℤ) (out : List ℕ) : Type 0 where
-  pub valid : Valid t.book.state
-  pub lies : Lies t.rest block
-  pub size : length space ≡ 15360
-  pub room : t.used + 189526 ≤ length out
-
--- the book and the rest stay, and there is room for an event again
-pub record Drained (t : Tape) (out : List ℕ) (x : Tape) : Type 0 where
+-- the book and the input stay, and there is room for an event again
+pub record Drained (t x : Tape) : Type 0 where
   pub book : x.book ≡ t.book
-  pub rest : x.rest ≡ t.rest
-  pub room : x.used + 189526 ≤ length out
+  pub input : x.input ≡ t.input
+  pub room : x.text.used + 189526 ≤ length x.text.out.now
+  pub space : x.text.out ≡ t.text.out
 
--- what a turn is: it takes a tape and an index, with the block and the text before and after it, to a tape
+-- what a turn is: it takes a tape and an index to a tape
 abbrev pub Turning : Type 1
-Turning = Tape → ℕ → List ℕ → List ℕ → List ℕ → Tape → Type 0
+Turning = Tape → ℕ → Tape → Type 0
 
--- the tape, the index, the block and the text after some turns from the first book on. Each reads on, takes a turn of the bytes that are
--- then there, and writes the text out where there is no room, or nothing whole is left of the input.
-pub data Reached (Turned : Turning) : Tape → ℕ → List ℕ → List ℕ → Type 0 where
-  reached-first : (b : Book) (block out : List ℕ) → First b → Reached Turned (record { book = b; rest = record { at = 0; «end» = 0 }; used = 0; on = true }) 0 block out
+-- the tape and the index after some turns from the first book on. Each reads on, takes a turn of the bytes that are then there, and
+-- writes the text out where there is no room, or nothing whole is left of the input.
+pub data Reached (Turned : Turning) : Tape → ℕ → Type 0 where
+  reached-first : (b : Book) (i : Input) (t : Text) → b.state ≡ first → i.at ≡ 0 → i.«end» ≡ 0 → t.used ≡ 0 → Reached Turned (record { book = b; input = i; text = t; on = true }) 0
   reached-next :
-      {t x y : Tape} {index : ℕ} {block next s q : List ℕ} {r : Rest} → Reached Turned t index block s → More block next t.rest r →
-      Turned (record { book = t.book; rest = r; used = t.used; on = true }) index next s q x → Drained x q y → Reached Turned y (index + 1) next q
+      {t x y : Tape} {index : ℕ} {i : Input} → Reached Turned t index → More t.input i →
+      Turned (record { book = t.book; input = i; text = t.text; on = true }) index x → Drained x y → Reached Turned y (index + 1)
 
 -- laws
 
@@ -103,81 +100,59 @@ pub text-laid :
 unfolding event_text outcome_text answer_of answer_count record_lines record_texts
 text-laid index o s h l =
     let rs = o.moved.records in
-    let P : Answer → Type 0 = λ (a : Answer). answer_count a ≤ 2560 → event_line index a ++ record_lines (answer_count a) (laid s 0 rs) ≡ event_line index a ++ record_texts (take (answer_count a) rs) in
+    let P : Result Accepted Refusal → Type 0 = λ (a : Result Accepted Refusal). answer_count a ≤ 2560 → event_line index a ++ record_lines (answer_count a) (laid s 0 rs) ≡ event_line index a ++ record_texts (take (answer_count a) rs) in
     pick_all P _
-    (λ k. ap (λ (x : List ℕ). event_line index (A.Accepted o.value (length rs)) ++ x) (lines-laid s rs k l ∙ ap record_texts (sym (take-length rs))))
+    (λ k. ap (λ (x : List ℕ). event_line index (Ok (record { value = o.value; records = length rs })) ++ x) (lines-laid s rs k l ∙ ap record_texts (sym (take-length rs))))
     (λ k. refl)
     h
 
 -- where the space is too short the event is refused 1: there are no records
-answer-short : (b : State) (frame : List ℕ) (n : ℕ) → n < 15360 → answer_of (step b frame n) ≡ A.Refused 1
+answer-short : (b : State) (frame : List ℕ) (n : ℕ) → n < 15360 → answer_of (step b frame n) ≡ Err F.ShortSpace
 unfolding step refuse_or_perform refused answer_of pick
 answer-short b frame n h = let e = refusal-short b (read_of frame) n h in rw e refl
 
-text-short : (index : ℕ) (o : Outcome) (s : List ℤ) {n : ℕ} → answer_of o ≡ A.Refused n → event_text index (answer_of o) s ≡ outcome_text index o
+text-short : (index : ℕ) (o : Outcome) (s : List ℤ) {r : Refusal} → answer_of o ≡ Err r → event_text index (answer_of o) s ≡ outcome_text index o
 unfolding event_text outcome_text answer_count record_lines record_texts
 text-short index o s e = rw e refl
 
 -- the records stand in the space
-pub records-fit : (b : State) (frame : List ℕ) {sp sq : List ℤ} {x : Taken} → Stepped b frame sp sq x → answer_count x.answer * 6 ≤ length sq
+pub records-fit : (b : State) (frame : List ℕ) {sp sq : List ℤ} {c : State} {x : Result Accepted Refusal} → Stepped b frame sp sq c x → answer_count x * 6 ≤ length sq
 unfolding answer_count
-records-fit b frame {sp} {sq} {x} h =
-    ⊎_elim (λ l. let e : answer_count x.answer ≡ 0 = ap answer_count (h.answer ∙ answer-short b frame (length sp) l) in omega arith) (λ l. omega (arith, h.few, h.same))
+records-fit b frame {sp} {sq} {x = x} h =
+    ⊎_elim (λ l. let e : answer_count x ≡ 0 = ap answer_count (h.answer ∙ answer-short b frame (length sp) l) in omega arith) (λ l. omega (arith, h.few, h.same))
     (lt-or-le (length sp) 15360)
 
 pub tells :
-    {b : State} (index : ℕ) {frame s q : List ℕ} {sp sq : List ℤ} {used m : ℕ} {x : Taken} →
-    Stepped b frame sp sq x → Within (86 + 74 * answer_count x.answer) s q used m (event_text index x.answer sq) →
-    Tells b index frame (length sp) s q used (record { book = x.book; used = m })
-tells {b} index {frame} {s} {q} {sp} {sq} {used} {m} {x} h w =
+    {b : State} (index : ℕ) {frame : List ℕ} {s q : Text} {sp sq : List ℤ} {c : Book} {x : Result Accepted Refusal} →
+    Stepped b frame sp sq c.state x → Within (86 + 74 * answer_count x) s q (event_text index x sq) → Tells b index frame (length sp) s q c
+tells {b} index {frame} {s} {q} {sp} {sq} {x = x} h w =
     let o : Outcome = step b frame (length sp) in
     let k : answer_count (answer_of o) ≤ 2560 = rw h.answer at h.few in
-    let t : event_text index x.answer sq ≡ outcome_text index o =
+    let t : event_text index x sq ≡ outcome_text index o =
     rw (h.answer, h.space) (⊎_elim (λ l. text-short index o _ (answer-short b frame (length sp) l)) (λ l. text-laid index o sp k l) (lt-or-le (length sp) 15360)) in
-    record { state = h.state; valid = h.valid; text = record { put = rw t at w.put; few = omega (arith, w.few, h.few) } }
+    record { state = h.state; text = record { put = rw t at w.put; few = omega (arith, w.few, h.few) } }
 
--- the loop: the tape was reached by turns, it is ready for the next event, no text waits where the next read may (the first of what is
--- left, by its length, is not whole), and no length has changed
-pub record Running (Turned : Turning) (first_of : List ℕ → ℕ) (block₀ : List ℕ) (space₀ : List ℤ) (out₀ : List ℕ) (t : Tape) (index : ℕ) (block : List ℕ) (space : List ℤ) (out : List ℕ) : Type 0 where
-  pub reached : Reached Turned t index block out
-  pub ready : Ready t block space out
-  pub out-before : first_of (rest_of block t.rest) ≡ 0 → t.used ≡ 0
-  pub blocks : length block ≡ length block₀
-  pub spaces : length space ≡ length space₀
-  pub outs : length out ≡ length out₀
+-- the loop: the tape was reached by turns, there is room for an event, and no text waits where the next read may (the
+-- first of what is left, by its length, is not whole)
+pub record Running (Turned : Turning) (first_of : List ℕ → ℕ) (t : Tape) (index : ℕ) : Type 0 where
+  pub reached : Reached Turned t index
+  pub room : t.text.used + 189526 ≤ length t.text.out.now
+  pub out-before : first_of (rest_of t.input) ≡ 0 → t.text.used ≡ 0
 
 pub running-first :
-    (Turned : Turning) (first_of : List ℕ → ℕ) (b : Book) (block : List ℕ) (space : List ℤ) (out : List ℕ) → First b → length space ≡ 15360 → 189526 ≤ length out →
-    Running Turned first_of block space out (record { book = b; rest = record { at = 0; «end» = 0 }; used = 0; on = true }) 0 block space out
-running-first Turned first_of b block space out f l h =
-    record {
-      reached = reached-first b block out f;
-      ready = record { valid = f.valid; lies = record { order = omega arith; inside = omega arith }; size = l; room = omega arith };
-      out-before = λ _. refl;
-      blocks = refl;
-      spaces = refl;
-      outs = refl;
-    }
+    (Turned : Turning) (first_of : List ℕ → ℕ) {b : Book} {i : Input} {t : Text} → b.state ≡ first → i.at ≡ 0 → i.«end» ≡ 0 → t.used ≡ 0 → 189526 ≤ length t.out.now →
+    Running Turned first_of (record { book = b; input = i; text = t; on = true }) 0
+running-first Turned first_of {b} {i} {t} f e g h l =
+    record { reached = reached-first b i t f e g h; room = omega arith; out-before = λ _. h }
 
--- before the turn, after reading
-pub ready-filled :
-    {t : Tape} {block next out : List ℕ} {space : List ℤ} {r : Rest} → Ready t block space out → More block next t.rest r →
-    Ready (record { book = t.book; rest = r; used = t.used; on = true }) next space out
-ready-filled y m = record { valid = y.valid; lies = m.lies; size = y.size; room = y.room }
-
--- an event: read on, a turn, and the text written out where there is no room
+-- a turn: read on, the turn, and the text written out where there is no room
 pub running-next :
-    {Turned : Turning} {first_of : List ℕ → ℕ} {block₀ out₀ : List ℕ} {space₀ : List ℤ} {t x : Tape} {index : ℕ} {block next s q : List ℕ} {space sq : List ℤ} {r : Rest} {used : ℕ} {on : Bool} →
-    Running Turned first_of block₀ space₀ out₀ t index block space s → More block next t.rest r →
-    Turned (record { book = t.book; rest = r; used = t.used; on = true }) index next s q x → Valid x.book.state → Lies x.rest next →
-    used + 189526 ≤ length q → (first_of (rest_of next x.rest) ≡ 0 → used ≡ 0) → length sq ≡ length space → length q ≡ length s →
-    Running Turned first_of block₀ space₀ out₀ (record { book = x.book; rest = x.rest; used = used; on = on }) (index + 1) next sq q
-running-next g m u v l room none i o =
-    record {
-      reached = reached-next g.reached m u (record { book = refl; rest = refl; room = room });
-      ready = record { valid = v; lies = l; size = i ∙ g.ready.size; room = room };
-      out-before = none;
-      blocks = m.same ∙ g.blocks;
-      spaces = i ∙ g.spaces;
-      outs = o ∙ g.outs;
-    }
+    {Turned : Turning} {first_of : List ℕ → ℕ} {t x y : Tape} {index : ℕ} {i : Input} → Running Turned first_of t index → More t.input i →
+    Turned (record { book = t.book; input = i; text = t.text; on = true }) index x → Drained x y →
+    (first_of (rest_of x.input) ≡ 0 → y.text.used ≡ 0) → Running Turned first_of y (index + 1)
+running-next g m u d none =
+    record { reached = reached-next g.reached m u d; room = d.room; out-before = rw d.input none }
+
+-- no text waits where nothing whole is left of the input
+pub settled : {s q : Text} {more : Bool} {room n : ℕ} → Settles s q more room → more ≡ is_some (unless_zero n) → n ≡ 0 → q.used ≡ 0
+settled s e z = settled-none s (e ∙ ap (λ (n : ℕ). is_some (unless_zero n)) z)

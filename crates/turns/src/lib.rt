@@ -1,42 +1,29 @@
 // A turn of a program that calls the book: the frame of an event goes to the book, and what is printed of it goes behind the text.
+// And the turns of a program, from the first book on.
 #![tactic(auto)]
 
-ghost use Rattle.std.specs.Prelude.{◌≡◌, ◌+◌, ◌≤◌, length};
+ghost use Rattle.std.specs.Prelude.{◌≡◌, true, List, ℕ, ◌+◌, ◌≤◌, length};
+ghost use Rattle.base.specs.Chains.{unless_zero};
 ghost use Rattle.rules.specs.Sizes.{record_space};
-ghost use Rattle.rules.specs.Valid.{Valid};
-ghost use Rattle.turns.specs.Turns.{Tells};
+ghost use Rattle.lines.specs.Puts.{Room};
+ghost use Rattle.streams.specs.Rests.{More};
+ghost use Rattle.turns.specs.Turns.{Tells, Turning};
 
 use book::Book;
-use lines::put_event;
+use lines::Text;
+use std::io::Read;
+use streams::{Input, input_block, settle, text_space, write_out};
 
 // The bytes of text that one event needs at most.
 pub const ROOM: usize = 189526;
 
-// A book after an event, and the end of the text.
-#[derive(Clone, Copy)]
-pub struct Told {
-    pub book: Book,
-    pub used: usize,
-}
-
 // One event: its frame goes to the book, with a record space of any length, and what is printed of it goes behind the text.
-pub fn tell(
-    book: Book,
-    index: u64,
-    frame: &[u8],
-    space: &mut [i32],
-    out: &mut [u8],
-    used: usize,
-) -> Told
-    requires valid { Valid book.state }
-    requires used_in_bounds { used + 189526 ≤ length out.old }
-    ensures { Tells book.state index frame.now (length space.old) out.old out.new used result }
+pub fn tell(book: &mut Book, index: u64, frame: &[u8], space: &mut [i32], text: &mut Text)
+    requires { Room text.old 189526 }
+    ensures { Tells book.old.state index frame.now (length space.old) text.old text.new book.new }
 {
-    let taken = book.step(frame, space);
-    let answer = taken.answer;
-    let m = put_event(out, used, index, answer, space);
-    let b = taken.book;
-    Told { book: b, used: m }
+    let answer = book.step(frame, space);
+    text.event(index, answer, space);
 }
 
 // The record space of an event.
@@ -44,4 +31,66 @@ pub fn record_space() -> [i32; Book::RECORD_SPACE]
     ensures { record_space ≡ length result }
 {
     [0; Book::RECORD_SPACE]
+}
+
+// What a program does with its input: a turn for each piece of it, and one at its end.
+pub trait Program {
+    ghost first_of: { List ℕ → ℕ };
+
+    ghost turned: { Turning };
+
+    // How many bytes of the rest of the input must be there to judge its first piece.
+    fn needed(&self, rest: &[u8]) -> usize;
+
+    // The length of the first piece of the rest of the input; none where it is not whole.
+    fn first(&self, rest: &[u8]) -> Option<usize>
+        ensures { result ≡ unless_zero (first_of rest.now) };
+
+    // A turn. Answers whether more is to come.
+    fn turn<R: Print + Eprint>(
+        &self,
+        rt: &R,
+        index: u64,
+        book: &mut Book,
+        input: &mut Input,
+        space: &mut [i32],
+        text: &mut Text,
+    ) -> bool
+        requires space_len { length space.old ≡ record_space }
+        requires room { Room text.old 189526 }
+        ensures turned { turned (record { book = book.old; input = input.old; text = text.old; on = true }) index (record { book = book.new; input = input.new; text = text.new; on = result }) }
+        ensures size { length text.new.out.now ≡ length text.old.out.now };
+}
+
+// Reads until the first piece of the rest is whole or no more comes. Mostly it is there already.
+fn fill<P: Program, I: Read, R: Eprint>(program: &P, reader: &mut I, rt: &R, input: &mut Input)
+    ensures { More input.old input.new }
+{
+    let need = program.needed(input.rest());
+    input.fill(reader, rt, need);
+    if need <= input.rest().len() {
+        let need = program.needed(input.rest());
+        input.fill(reader, rt, need);
+    }
+}
+
+// Turns, until the input ends or the output takes no more. The index stays below the largest number.
+pub fn run<P: Program, I: Read, R: Print + Eprint>(program: &P, reader: &mut I, rt: &R) {
+    let mut block = input_block();
+    let mut space = record_space();
+    let mut out = text_space();
+    let mut book = Book::first();
+    let mut input = Input::new(&mut block);
+    let mut text = Text::new(&mut out);
+    for index in 0..u64::MAX {
+        fill(program, reader, rt, &mut input);
+        if !program.turn(rt, index, &mut book, &mut input, &mut space, &mut text) {
+            break;
+        }
+        let more = program.first(input.rest()).is_some();
+        if !settle(rt, &mut text, more, ROOM) {
+            break;
+        }
+    }
+    write_out(rt, &text);
 }

@@ -1,14 +1,11 @@
-use Rattle.calls.specs.Listings.{best-is, best-other, best-empty, best-refused}
+use Rattle.calls.specs.Listings.{best-is, best-other, best-none}
 use Rattle.calls.proofs.is_best.Goals as goal
 
-pub returns-then-p-price : goal.returns-then-p-price
-returns-then-p-price c = best-is _ _ c.in-Best.is c.if-p-price.true
+pub returns-then-best-price : goal.returns-then-best-price
+returns-then-best-price c = best-is c.in-Some.best _ _ c.in-Some.is c.if-best-price.true
 
-pub returns-else-p-price : goal.returns-else-p-price
-returns-else-p-price c = best-other _ _ c.in-Best.is c.if-p-price.false
+pub returns-else-best-price : goal.returns-else-best-price
+returns-else-best-price c = best-other c.in-Some.best _ _ c.in-Some.is c.if-best-price.false
 
-pub returns-in-Empty : goal.returns-in-Empty
-returns-in-Empty c = best-empty _ _ c.in-Empty.is
-
-pub returns-in-Refused : goal.returns-in-Refused
-returns-in-Refused c = best-refused _ _ c.in-Refused.is
+pub returns-in-None : goal.returns-in-None
+returns-in-None c = best-none _ _ c.in-None.is

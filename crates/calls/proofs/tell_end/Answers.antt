@@ -1,5 +1,10 @@
+use Rattle.std.proofs.Common.{arith}
+use Rattle.lines.specs.Puts.{put-length}
 use Rattle.calls.specs.Calls.{ended}
 use Rattle.calls.proofs.tell_end.Goals as goal
 
+pub list_lookups-requires : goal.list_lookups-requires
+list_lookups-requires g c = omega (arith, c.requires.room, put-length c.put_cut.ensures.put)
+
 pub returns : goal.returns
-returns g c = ended _ c.requires.valid c.requires.lies.0 c.requires.lies.1 c.put_cut-m.ensures c.list_lookups.ensures
+returns g c = ended _ _ c.requires.nothing (rw c.rest.ensures at c.put_cut.ensures) c.list_lookups.ensures

@@ -1,16 +1,14 @@
-use Rattle.base.specs.Pick.{tests}
-use Rattle.lines.specs.Cuts.{cut_of, cut-under, cut-past, cut-whole}
+use Rattle.std.proofs.Common.{◌≤◌, ◌<◌, ◌⊎◌, ◌∙◌, MatchBool, length, ap, rules, tests}
+use Rattle.base.specs.Chains.{unless_zero}
+use Rattle.lines.specs.Cuts.{cut-short, cut-by}
 use Rattle.lines.proofs.cut.Goals as goal
 
 pub returns-then-rest-lt2 : goal.returns-then-rest-lt2
-unfolding cut_of
-returns-then-rest-lt2 c = search tests
-
-pub returns-then-n-lt4 : goal.returns-then-n-lt4
-returns-then-n-lt4 c = cut-under _ c.told_length-n.ensures c.if-rest-lt2.false c.if-n-lt4.true
-
-pub returns-then-rest-n : goal.returns-then-rest-n
-returns-then-rest-n c = cut-past _ c.told_length-n.ensures c.if-rest-lt2.false c.if-n-lt4.false c.if-rest-n.true
+returns-then-rest-lt2 c = ap unless_zero (cut-short _ c.if-rest-lt2.true)
 
 pub returns : goal.returns
-returns c = cut-whole _ c.told_length-n.ensures c.if-rest-lt2.false c.if-n-lt4.false c.if-rest-n.false
+returns c =
+    let n = c.told_length-n.result in
+    let m = length c.args.rest.now in
+    let h : MatchBool c.contains.result ((4 ≤ n) × (n ≤ m)) ((n < 4) ⊎ (m < n)) = search (rules, tests) in
+    c.then_some.ensures ∙ cut-by _ _ c.told_length-n.ensures c.if-rest-lt2.false h

@@ -9,5 +9,5 @@ returns-then-rest-lt2 c = search tests
 pub returns-then-n-lt4 : goal.returns-then-n-lt4
 returns-then-n-lt4 c = needed-under _ c.told_length-n.ensures c.if-rest-lt2.false c.if-n-lt4.true
 
-pub returns : goal.returns
-returns c = needed-whole _ c.told_length-n.ensures c.if-rest-lt2.false c.if-n-lt4.false
+pub returns-else-n-lt4 : goal.returns-else-n-lt4
+returns-else-n-lt4 c = needed-whole _ c.told_length-n.ensures c.if-rest-lt2.false c.if-n-lt4.false

@@ -1,5 +1,5 @@
+use Rattle.std.proofs.Common.{arith}
 use Rattle.frames.specs.Number.{number}
-use native.Mathlib.Omega.{arith}
 use Rattle.lines.proofs.two_bytes.Goals as goal
 
 pub returns : goal.returns

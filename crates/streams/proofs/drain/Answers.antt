@@ -1,9 +1,8 @@
-use Rattle.std.proofs.Common.{refl}
 use Rattle.streams.specs.Texts.{drains-none, drains_all}
 use Rattle.streams.proofs.drain.Goals as goal
 
-pub returns-then-room-out : goal.returns-then-room-out
-returns-then-room-out g c = drains-none _ _ _ refl c.requires.0 c.if-room-out.true
+pub returns-then-room : goal.returns-then-room
+returns-then-room g c = drains-none _ _ (rw c.room.ensures at c.if-room.true)
 
 pub returns : goal.returns
-returns g c = drains_all _ _ _ refl c.requires.1 c.if-room-out.false
+returns g c = drains_all _ _ _ c.clear.ensures.used c.clear.ensures.space c.requires (rw c.room.ensures at c.if-room.false)

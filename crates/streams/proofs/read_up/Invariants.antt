@@ -1,5 +1,5 @@
 use Rattle.std.proofs.Common.{◌-◌, length}
-use Rattle.streams.specs.Rests.{Added}
+use Rattle.streams.specs.Added.{Added}
 use Rattle.streams.proofs.read_up.Given as goal
 
 abbrev pub invariant-loop-m : goal.invariant-loop-m

@@ -1,9 +1,10 @@
-use Rattle.std.proofs.Common.{rules}
-use Rattle.streams.specs.Texts.{settles-all, settles-some}
+use Rattle.streams.specs.Texts.{settles-more, settles-all}
 use Rattle.streams.proofs.settle.Goals as goal
-
-pub returns-then-whole-eq0 : goal.returns-then-whole-eq0
-returns-then-whole-eq0 g c = settles-all c.if-whole-eq0.true (search rules) c.drain.ensures
+use Rattle.streams.proofs.settle.Goals.{then-more, else-more}
 
 pub returns : goal.returns
-returns g c = settles-some c.if-whole-eq0.false c.drain-2.ensures
+returns g c =
+    elim c.if-more.branch [
+      | then-more w ↦ settles-more w.if-more.true (rw w.least-is at c.drain.ensures)
+      | else-more w ↦ settles-all w.if-more.false c.requires (rw w.least-is at c.drain.ensures)
+    ]

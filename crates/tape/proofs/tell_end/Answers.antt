@@ -1,10 +1,8 @@
 use Rattle.tape.specs.Tapes.{ended, ended-cut}
 use Rattle.tape.proofs.tell_end.Goals as goal
 
-pub returns-then-at-end : goal.returns-then-at-end
-returns-then-at-end c = ended _ c.args.space.now c.requires.lies.0 c.requires.space_len c.requires.used_in_bounds c.if-at-end.true
+pub returns-then-input : goal.returns-then-input
+returns-then-input c = ended _ _ _ c.if-input.true
 
 pub returns : goal.returns
-returns c =
-    ended-cut _ c.args.space.now c.requires.lies.0 c.requires.space_len c.requires.used_in_bounds c.if-at-end.false c.requires.lies.1
-    c.tell_cut.ensures
+returns c = ended-cut _ _ c.if-input.false c.requires.nothing c.tell_cut.ensures

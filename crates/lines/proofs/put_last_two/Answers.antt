@@ -1,5 +1,0 @@
-use Rattle.lines.specs.Puts.{put-last-two}
-use Rattle.lines.proofs.put_last_two.Goals as goal
-
-pub returns : goal.returns
-returns c = put-last-two _ c.put_byte-m.ensures c.put_byte.ensures

@@ -1,5 +1,0 @@
-use Rattle.lines.specs.Puts.{put-more-numbers, put-end}
-use Rattle.lines.proofs.put_three.Goals as goal
-
-pub returns : goal.returns
-returns c = put-end _ _ (put-more-numbers _ _ _ c.put_pair-a.ensures c.put_number-b.ensures) c.put_byte.ensures
