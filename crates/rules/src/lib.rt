@@ -135,6 +135,27 @@ pub enum Kind {
     AuctionEnded,
 }
 
+// The number that a kind is written as.
+impl From<Kind> for u32 {
+    ghost use Rattle.std.specs.Prelude.{◌≡◌};
+    ghost use Rattle.rules.specs.Records.{kind_number};
+
+    ghost from_gives = { λ k n. n ≡ kind_number k };
+
+    #[tactic(auto, unfolding(crate::specs::Records::kind_number))]
+    fn from(kind: Kind) -> u32 {
+        match kind {
+            Kind::WholeFill => 1,
+            Kind::LegFill => 2,
+            Kind::LegOrderFill => 2,
+            Kind::Cancelled => 3,
+            Kind::LegOrderCancelled => 3,
+            Kind::AuctionBegun => 4,
+            Kind::AuctionEnded => 5,
+        }
+    }
+}
+
 #[derive(Clone, Copy)]
 pub struct Record {
     pub kind: Kind,

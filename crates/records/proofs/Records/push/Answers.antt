@@ -7,7 +7,7 @@ use Rattle.records.specs.Space.{Small, kind-small, cents-fits, record-stores}
 use Rattle.records.proofs.Records.push.Goals as goal
 
 pub overflow_cast-self : goal.overflow_cast-self
-overflow_cast-self c = record { sfits = omega (arith, c.kind_number.ensures, kind-small c.args.r.kind) }
+overflow_cast-self c = record { sfits = omega (arith, c.from.ensures, kind-small c.args.r.kind) }
 
 pub returns : goal.returns
 returns c =
@@ -17,6 +17,6 @@ returns c =
     let side : c.args.r.side < 2 ^ 31 = omega arith in
     let quantity : c.args.r.quantity < 2 ^ 31 = omega (arith, small.quantity) in
     let kind : kind_number c.args.r.kind < 2 ^ 31 = omega (arith, kind-small c.args.r.kind) in
-    rw (c.kind_number.ensures, c.cents.ensures)
+    rw (c.from.ensures, c.cents.ensures)
     (simp (to_z_pos w32 kind, to_z_pos w32 number, to_z_pos w32 place, to_z_pos w32 side, to_z_pos w32 quantity, to_z-of_z (cents-fits _ small.level))
     (record { count = refl; space = record-stores c.args.self.now.space.now c.args.self.now.count c.args.r; lent = refl }))
