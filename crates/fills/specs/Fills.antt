@@ -33,30 +33,3 @@ cancel-none i b e = search tests
 pub cancel-live : (i : ℕ) (b : State) → ((entry_at b i).units ≡ 0 → ⊥) → cancel_entry i b ≡ cancelled i b
 unfolding cancel_entry cancelled
 cancel-live i b e = search tests
-
--- the state with another entry at slot i
-abbrev pub with_entry : State → ℕ → Entry → State
-with_entry b i f = record {
-  strategies = b.strategies;
-  nets = b.nets;
-  entries = set b.entries i f;
-  orders = b.orders;
-  defined = b.defined;
-  opened = b.opened;
-  clock = b.clock;
-  timer = b.timer;
-  last = b.last;
-  national = b.national;
-  range = b.range;
-}
-
--- a cancel in place: the record written, and the entry stored that has nothing left
-module _ (i : ℕ) (b : State) (live : ¬ ((entry_at b i).units ≡ 0)) {r : Record} (p : r ≡ cancel_record (entry_at b i)) where
-  pub cancel-room : {r₀ : Records} → Room r₀ (cancel_entry i b).records → Room r₀ (r ∷ [])
-  unfolding cancelled
-  cancel-room w = rw p (room_of (cancel-live i b live) w)
-
-  pub cancel-stores : {f : Entry} → f ≡ cut_entry (entry_at b i) (entry_at b i).units → {r₀ r₁ : Records} → Appended r₀ r₁ (r ∷ [])
-      → Done r₀ r₁ (with_entry b i f) (cancel_entry i b)
-  unfolding cancelled cut with_entries
-  cancel-stores q w = done-of (cancel-live i b live) (record { wrote = rw p at w; state = rw q })

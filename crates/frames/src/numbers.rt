@@ -3,13 +3,6 @@ ghost use Rattle.std.specs.Prelude.{◌≡◌, ◌+◌, ◌<◌, ◌≤◌, leng
 ghost use Rattle.std.proofs.lemmas.List.Edits.{sets};
 ghost use Rattle.frames.specs.Number.{number, bytes};
 
-// A byte as a number.
-pub fn wide(byte: u8) -> u32
-    ensures { (result ≡ byte) × (result < 256) }
-{
-    byte as u32
-}
-
 // The number of width bytes at a place of the frame, read from its highest byte, the last, to its lowest.
 pub(crate) fn number(frame: &[u8], at: usize, width: usize) -> u32
     requires width_in_bounds { at + width ≤ length frame.now }

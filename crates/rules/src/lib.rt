@@ -1,4 +1,5 @@
-// The state of the book and its records, of which specs/ gives the rules.
+// The state of the book and its records, of which specs/ gives the rules. The fields are the papers' numbers, and a number that stands for
+// nothing is 0, since the rules and their theorems (Totals, stored-nets, nets-each-move, of-today) say so of them; the code answers options.
 #![tactic(auto)]
 
 // One leg of a strategy. Its side is 0 where a buyer of the strategy buys the series, 1 where he sells it.

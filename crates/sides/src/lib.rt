@@ -37,7 +37,7 @@ pub fn better(side: u8, x: u32, y: u32) -> bool
     if side == 0 { x < y } else { y < x }
 }
 
-// The better of a best price of that side (0: none yet) and one more: the higher bid, the lower offer.
+// The better of a best price of that side (0: none yet, as the rule has it) and one more: the higher bid, the lower offer.
 pub fn best_price(side: u8, p: u32, q: u32) -> u32
     ensures { result ≡ best_price side p q }
 {
