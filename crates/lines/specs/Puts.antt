@@ -1,6 +1,6 @@
 -- Texts put into a space of bytes from a place on; everything else stays as it was.
-use Rattle.std.specs.Prelude.{◌≡◌, refl, true, false, List, [], ◌∷◌, ◌++◌, ℕ, zero, suc, ◌+◌, ◌*◌, ◌/◌, ◌%◌, ◌^◌, ◌≤◌, ◌<◌, ltb, ℤ, pos, negsuc, nat_abs, length, take, drop, get_or, set}
-use Rattle.std.proofs.Common.{sym, ◌∙◌, ap, append_assoc, append-nil, add-zero, add-suc, suc-add, div-add-mod', pow-suc, add-one, arith, SFits, to_z, of_z, to_z-of_z, length-append, take_at, drop_at, drop-drop, take-suc, lt-ltb, le-ltb, ltb-true, None, Some, Ok, Err}
+use Rattle.std.specs.Prelude.{◌≡◌, refl, true, false, List, [], ◌∷◌, ◌++◌, ℕ, zero, suc, ◌+◌, ◌*◌, ◌/◌, ◌%◌, ◌^◌, ◌≤◌, ◌<◌, ltb, ℤ, pos, negsuc, nat_abs, length, take, drop, get_or, set, Result, Ok, Err}
+use Rattle.std.proofs.Common.{sym, ◌∙◌, ap, append_assoc, add-zero, add-suc, suc-add, div-add-mod', pow-suc, add-one, arith, SFits, to_z, of_z, to_z-of_z, length-append, take_at, drop_at, drop-drop, take-suc, lt-ltb, le-ltb, ltb-true, None, Some}
 use Rattle.std.proofs.Math.Nat.{div-div-eq-div-mul}
 use Rattle.std.specs.Int.{w32}
 use Rattle.std.specs.Int.Signed.{lt_z}
@@ -220,19 +220,26 @@ listing-chunk sp {i = i} xs rest p e h l w =
     let v = rw l at w in
     listing-next sp p (rw c at v)
 
--- an event, by its answer
-pub put-accepted :
-    (i : ℕ) (sp : List ℤ) (a : Accepted) {w : ℕ} → w ≡ a.value → {s q r : Text} →
-    Within 86 s q (text_line 69 (pos i ∷ (pos 0 ∷ (pos w ∷ (pos a.records ∷ []))))) → Within (74 * a.records) q r (record_lines a.records sp) →
-    Within (86 + 74 * answer_count (Ok a)) s r (event_text i (Ok a) sp)
-unfolding event_text event_line answer_number answer_value answer_count
-put-accepted i sp a e p q = rw (← e) (record { put = put_then p.put q.put; few = omega (arith, p.few, q.few) })
+-- the three numbers of an answer
+pub record Numbers (x : Result Accepted Refusal) (t : ℕ × ℕ × ℕ) : Type 0 where
+  pub number : t.0 ≡ answer_number x
+  pub value : t.1 ≡ answer_value x
+  pub count : t.2 ≡ answer_count x
 
-pub put-refused :
-    (i : ℕ) (sp : List ℤ) (f : Refusal) {m : ℕ} → m ≡ refusal_number f → {s q : Text} → Within 86 s q (text_line 69 (pos i ∷ (pos m ∷ (pos 0 ∷ (pos 0 ∷ []))))) →
-    Within (86 + 74 * answer_count (Err f)) s q (event_text i (Err f) sp)
-unfolding event_text event_line record_lines answer_number answer_value answer_count
-put-refused i sp f e p = rw (← e, append-nil) p
+pub numbers-accepted : {x : Result Accepted Refusal} {t : ℕ × ℕ × ℕ} (a : Accepted) → x ≡ Ok a → t ≡ (0, a.value, a.records) → Numbers x t
+unfolding answer_number answer_value answer_count
+numbers-accepted a e h = rw (e, h) (record { number = refl; value = refl; count = refl })
+
+pub numbers-refused : {x : Result Accepted Refusal} {t : ℕ × ℕ × ℕ} (f : Refusal) {n : ℕ} → x ≡ Err f → n ≡ refusal_number f → t ≡ (n, 0, 0) → Numbers x t
+unfolding answer_number answer_value answer_count
+numbers-refused f e g h = rw (e, h) (record { number = g; value = refl; count = refl })
+
+pub put-event :
+    (i : ℕ) (sp : List ℤ) (x : Result Accepted Refusal) {o v : ℕ} {t : ℕ × ℕ × ℕ} → Numbers x t → o ≡ t.0 → v ≡ t.1 → {s q r : Text} →
+    Within 86 s q (text_line 69 (pos i ∷ (pos o ∷ (pos v ∷ (pos t.2 ∷ []))))) → Within (74 * t.2) q r (record_lines t.2 sp) →
+    Within (86 + 74 * answer_count x) s r (event_text i x sp)
+unfolding event_text event_line
+put-event i sp x n d e p q = rw (← n.number, ← n.value, ← n.count, ← d, ← e) (record { put = put_then p.put q.put; few = omega (arith, p.few, q.few) })
 
 -- a net after a space, by its case
 pub put-known : {z : ℤ} → SFits w32 z → {s q : Text} → Within 12 s q (32 ∷ signed (to_z w32 (of_z w32 z))) → Within 12 s q (32 ∷ net_text (net_told (Some z)))

@@ -202,15 +202,15 @@ impl<'a> Text<'a> {
         requires answer_in_bounds_2 { answer_count answer * 6 ≤ length space.now }
         ensures { Within (86 + 74 * answer_count answer) self.old self.new (event_text index answer space.now) }
     {
-        match answer {
-            Ok(Accepted { value, records }) => {
-                self.line(b'E', &[index, 0, u64::from(value), records as u64]);
-                self.records(space, records);
-            }
-            Err(refusal) => {
-                self.line(b'E', &[index, u64::from(u32::from(refusal)), 0, 0]);
-            }
-        }
+        let (number, value, count) = match answer {
+            Ok(Accepted { value, records }) => (0, value, records),
+            Err(refusal) => (u32::from(refusal), 0, 0),
+        };
+        self.line(
+            b'E',
+            &[index, u64::from(number), u64::from(value), count as u64],
+        );
+        self.records(space, count);
     }
 
     // A space and a net, `-` where it is unknown.
