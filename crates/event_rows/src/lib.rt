@@ -2,7 +2,7 @@
 #![tactic(auto)]
 
 ghost use Rattle.std.specs.Prelude.{◌≡◌, ◌+◌, ◌<◌};
-ghost use Rattle.events.specs.Rows.{kind_in, row_of, leg_from, event_of, length_in, fitting};
+ghost use Rattle.events.specs.Rows.{row_of, leg_from, event_of, length_in, fitting};
 
 use events::kinds::length_of;
 use events::table::{fields_of, filled, fit};
@@ -10,24 +10,6 @@ use events::{
     Cancel, Clock, DayEnd, Event, Kind, Leg, LegOrder, Legs, National, Order, Range, Series,
     Specialist, Strategy, Sweep,
 };
-
-pub fn kind_in(event: Event) -> Kind
-    ensures { result ≡ kind_in event }
-{
-    match event {
-        Event::Strategy(_) => Kind::Strategy,
-        Event::Order(_) => Kind::Order,
-        Event::Sweep(_) => Kind::Sweep,
-        Event::LegOrder(_) => Kind::LegOrder,
-        Event::Cancel(_) => Kind::Cancel,
-        Event::Series(_) => Kind::Series,
-        Event::Clock(_) => Kind::Clock,
-        Event::DayEnd(_) => Kind::DayEnd,
-        Event::National(_) => Kind::National,
-        Event::Range(_) => Kind::Range,
-        Event::Specialist(_) => Kind::Specialist,
-    }
-}
 
 // The event's values in the order of its fields, and zeros up to 19.
 pub fn row_of(event: Event) -> [u32; 19]
@@ -139,7 +121,7 @@ fn leg_at(row: [u32; 19], i: usize) -> Leg
 pub fn length_in(event: Event) -> usize
     ensures { result ≡ length_in event }
 {
-    length_of(kind_in(event), row_of(event)[0])
+    length_of(Kind::from(event), row_of(event)[0])
 }
 
 // Whether the event's values are in their ranges.
@@ -147,7 +129,7 @@ pub fn fits(event: Event) -> bool
     ensures { result ≡ fitting event }
 {
     fit(
-        fields_of(kind_in(event)),
+        fields_of(Kind::from(event)),
         length_in(event) - 4,
         row_of(event),
     )

@@ -1,8 +1,9 @@
 // The number and the length of each kind.
 ghost use Rattle.std.specs.Prelude.{◌≡◌};
 ghost use Rattle.events.specs.Kinds.{kind_of, code_of, length_of};
+ghost use Rattle.events.specs.Rows.{kind_in};
 
-use super::{Kind, Refusal};
+use super::{Event, Kind, Refusal};
 
 // The one decision over the number.
 impl TryFrom<u32> for Kind {
@@ -45,6 +46,26 @@ impl From<Kind> for u32 {
             Kind::National => 9,
             Kind::Range => 10,
             Kind::Specialist => 11,
+        }
+    }
+}
+
+impl From<Event> for Kind {
+    ghost from_gives = { λ e k. k ≡ kind_in e };
+
+    fn from(event: Event) -> Kind {
+        match event {
+            Event::Strategy(_) => Kind::Strategy,
+            Event::Order(_) => Kind::Order,
+            Event::Sweep(_) => Kind::Sweep,
+            Event::LegOrder(_) => Kind::LegOrder,
+            Event::Cancel(_) => Kind::Cancel,
+            Event::Series(_) => Kind::Series,
+            Event::Clock(_) => Kind::Clock,
+            Event::DayEnd(_) => Kind::DayEnd,
+            Event::National(_) => Kind::National,
+            Event::Range(_) => Kind::Range,
+            Event::Specialist(_) => Kind::Specialist,
         }
     }
 }

@@ -6,7 +6,7 @@ ghost use Rattle.std.specs.Prelude.{◌≡◌, ◌++◌, ◌≤◌, length, drop
 ghost use Rattle.frames.specs.Frames.{judge_of};
 ghost use Rattle.exports.specs.Exports.{values_of, event_in, ReadOut, WrittenOut, WriteOut};
 
-use event_rows::{event_of, kind_in, row_of};
+use event_rows::{event_of, row_of};
 use events::{Event, Kind, Refusal};
 use frames::{judge, read, write};
 
@@ -15,7 +15,7 @@ fn fill(event: Event, values: &mut [u32])
     requires { 20 ≤ length values.old }
     ensures { values.new ≡ values_of event ++ drop 20 values.old }
 {
-    values[0] = u32::from(kind_in(event));
+    values[0] = u32::from(Kind::from(event));
     values[1..20].copy_from_slice(&row_of(event));
 }
 

@@ -12,7 +12,7 @@ pub mod numbers; // numbers of some bytes
 
 use bodies::encode;
 use carried::carried;
-use event_rows::{fits, kind_in, length_in, row_of};
+use event_rows::{fits, length_in, row_of};
 use events::kinds::length_of;
 use events::table::fields_of;
 use events::{Event, Kind, Refusal};
@@ -54,7 +54,7 @@ fn write_frame(event: Event, space: &mut [u8])
     requires event_in_bounds { length_in event ≤ length space.old }
     ensures { space.new ≡ sets space.old 0 (frame_of event) }
 {
-    let kind = kind_in(event);
+    let kind = Kind::from(event);
     let n = length_in(event);
     put(space, 0, 2, n as u32);
     put(space, 2, 2, u32::from(kind));

@@ -1,4 +1,3 @@
 pub mod Bounds
 pub mod Groups
 pub mod Laws
-pub mod Maps

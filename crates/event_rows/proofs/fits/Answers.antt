@@ -8,4 +8,4 @@ overflow_sub-length_in c = rw c.length_in.ensures (four-in c.args.event)
 
 pub returns : goal.returns
 unfolding fitting
-returns c = c.fit.ensures ∙ rw (layout-in c.args.event c.kind_in.ensures c.fields_of.ensures c.length_in.ensures, c.row_of.ensures)
+returns c = c.fit.ensures ∙ rw (layout-in c.args.event c.from.ensures c.fields_of.ensures c.length_in.ensures, c.row_of.ensures)

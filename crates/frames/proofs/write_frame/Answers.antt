@@ -16,11 +16,11 @@ pub overflow_sub-n : goal.overflow_sub-n
 overflow_sub-n c = rw c.length_in-n.ensures (four-in c.args.event)
 
 pub encode-requires : goal.encode-requires
-encode-requires c = rw (layout-in c.args.event c.kind_in-kind.ensures c.fields_of.ensures c.length_in-n.ensures)
+encode-requires c = rw (layout-in c.args.event c.from-kind.ensures c.fields_of.ensures c.length_in-n.ensures)
     (omega (arith, c.put.auto.space, c.put-2.auto.space, c.requires.event_in_bounds, room_in c.args.event c.requires.event_value))
 
 pub returns : goal.returns
 returns c = frame-stores c.args.event c.args.space.now
     (c.put.ensures ∙ rw c.length_in-n.ensures)
-    (c.put-2.ensures ∙ rw (c.from.ensures, c.kind_in-kind.ensures))
-    (c.encode.ensures ∙ rw (layout-in c.args.event c.kind_in-kind.ensures c.fields_of.ensures c.length_in-n.ensures, c.row_of.ensures))
+    (c.put-2.ensures ∙ rw (c.from.ensures, c.from-kind.ensures))
+    (c.encode.ensures ∙ rw (layout-in c.args.event c.from-kind.ensures c.fields_of.ensures c.length_in-n.ensures, c.row_of.ensures))

@@ -2,7 +2,7 @@ use Rattle.std.proofs.Common.{rules}
 use Rattle.rules.specs.State.{no_entry}
 use Rattle.rules.specs.Passes.{holding, sizes}
 use Rattle.quotas.specs.Groups.{group_number}
-use Rattle.quotas.specs.Maps.{map-slots}
+use Rattle.base.specs.Maps.{map-slots}
 use Rattle.quotas.proofs.sizes.Goals as goal
 
 pub returns : goal.returns
