@@ -4,6 +4,7 @@ use Rattle.base.specs.Walks.{all_n, slot, table}
 use Rattle.rules.specs.declared.Leg.{Leg}
 use Rattle.rules.specs.declared.Strategy.{Strategy}
 use Rattle.rules.specs.declared.LegOrder.{LegOrder}
+use Rattle.rules.specs.declared.Best.{Best}
 use Rattle.rules.specs.State.{leg_at}
 use Rattle.rules.specs.Sides.{other, leg_side}
 use Rattle.rules.specs.Nets.{best_of}
@@ -11,6 +12,10 @@ use Rattle.rules.specs.Nets.{best_of}
 -- the place of a side of a series
 abbrev pub place_of : ℕ → ℕ → ℕ
 place_of s side = s * 2 + side
+
+-- the best of the side of a series at each of the 64 places
+unfoldable pub best_table : List LegOrder → List Best
+best_table os = table (λ (j : ℕ). best_of os (j / 2) (j % 2)) 64
 
 -- the contracts at the best price of the side of a series at each of the 64 places
 unfoldable pub lot_table : List LegOrder → List ℕ
