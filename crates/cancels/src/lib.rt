@@ -31,7 +31,7 @@ fn entry_of(es: [Entry; State::ROWS], number: u32) -> Option<usize>
         .position(|e| has_live(e.number, e.units as u32, number))
 }
 
-// The same of the leg orders.
+// The same of the leg orders. Two functions of one line: a trait of both rows for their numbers would be longer.
 fn order_of(os: [LegOrder; State::LEG_ORDERS], number: u32) -> Option<usize>
     ensures { result ≡ position (order_has number) os }
 {

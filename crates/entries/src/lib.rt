@@ -22,7 +22,7 @@ fn is_counted(e: Entry, sweeps: bool) -> bool
     e.is_live() && (e.life == 4) == sweeps
 }
 
-// The number of live sweeps, or of live complex orders.
+// The number of live sweeps, or of live complex orders: a flag, since two functions would be the same but for one test.
 pub fn count_of(es: [Entry; State::ROWS], sweeps: bool) -> usize
     ensures { result ≡ pick sweeps (sum_n (is_sweep_at (only_entries es)) table_rows) (sum_n (is_order_at (only_entries es)) table_rows) }
 {

@@ -1,4 +1,5 @@
-// The event that a frame of a kind carries. A kind of fixed length has each field read at its place; a strategy goes by the table.
+// The event that a frame of a kind carries. A kind of fixed length has each field read at its place, by a function of its own, since events
+// differ in the names and places of their fields; a strategy goes by the table.
 ghost use Rattle.std.specs.Prelude.{◌≡◌, ◌+◌, ◌≤◌, length};
 ghost use Rattle.events.specs.Fields.{width};
 ghost use Rattle.frames.specs.Carried.{carried_of, placed_of, Whole, field_at};

@@ -173,7 +173,7 @@ impl<'a> Text<'a> {
         self.push(b'\n');
     }
 
-    // The line of a record.
+    // The line of a record. It is not one function with `line`: signed numbers are put otherwise, and a trait of both would be longer.
     fn record(&mut self, numbers: &[i32])
         requires { Room self.old (2 + 12 * length numbers.now) }
         ensures { Within (2 + 12 * length numbers.now) self.old self.new (text_line 82 numbers.now) }

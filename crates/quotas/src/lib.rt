@@ -108,6 +108,7 @@ fn limit_with(e: Entry, x: u32, f: Entry) -> u32
     }
 }
 
+// The best opposite limit, if there is one; the rule's walk, and limit_with by it, has 0 for none.
 pub fn best_opposite(es: [Entry; State::ROWS], e: Entry) -> Option<u32>
     ensures { result ≡ unless_zero (best_opposite es e) }
 {
