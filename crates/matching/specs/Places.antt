@@ -20,7 +20,7 @@ use Rattle.rules.specs.declared.State.{State}
 use Rattle.rules.specs.declared.Allocation.TheVariants.{LegsOnly}
 use Rattle.rules.specs.State.{no_strategy, no_entry, no_nets, entry_at, strategy_at}
 use Rattle.rules.specs.Nets.{nets_of}
-use Rattle.rules.specs.Valid.{FitEntry}
+use Rattle.rules.specs.Valid.{FitEntry, FitOrder, Priced}
 use Rattle.rules.specs.Moves.{Moved, still, and_then, each}
 use Rattle.rules.specs.Passes.{turn_at, pass}
 use Rattle.rules.specs.Auctions.{day_order, leg_pass, leg_passes_in, leg_passes}
@@ -30,7 +30,7 @@ use Rattle.rules.proofs.Only.{Only, only-each, leg_pass-only, live-in}
 use Rattle.rules.proofs.Turns.{then-still}
 use Rattle.records.specs.Space.{Room}
 use Rattle.records.specs.Done.{Done, done-of, room_of, Visited, visit-none, visit-moves, visit-room, visit-all}
-use Rattle.ranges.specs.Fit.{Fit, fit-entry, fit-done}
+use Rattle.ranges.specs.Fit.{Fit, FitLegs, fit-entry, fit-done}
 use Rattle.nets.specs.Legs.{net_ready}
 use Rattle.stored_nets.specs.Stored.{net_for}
 use Rattle.stored_nets.specs.Laws.{net-stored}
@@ -86,6 +86,11 @@ pub ruleset levels = (unless-zero-or)
 -- with a second test that fails not both hold
 no_second : (t : Bool) {u : Bool} → u ≡ false → both t u ≡ false
 no_second t e = pick_all (λ (x : Bool). x ≡ false) t e refl
+
+-- a state that fits gives what the search asks
+pub search-asks : {b : State} → Fit b
+    → All FitLegs b.strategies × All FitEntry b.entries × All FitOrder b.orders × All Priced b.orders × LiveLegs b.strategies b.entries × (b.nets ≡ nets_of b.orders b.strategies)
+search-asks f = (f.strategies, f.entries, f.orders, f.priced, record { live = f.live }, f.nets.are)
 
 -- the stored nets tell what the leg orders do
 pub acts-on : (ss : List Strategy) (es : List Entry) (os : List LegOrder) (opened s : ℕ) {ns : List LegNets} (i : ℕ) {r : Bool} → All FitEntry es → LiveLegs ss es → ns ≡ nets_of os ss

@@ -7,12 +7,13 @@ ghost use Rattle.base.specs.Chains.{found};
 ghost use Rattle.rules.specs.Sizes.{strategy_slots, table_rows};
 ghost use Rattle.rules.specs.Moves.{each};
 ghost use Rattle.rules.specs.Auctions.{day_order, leg_passes, match_all, match_in};
-ghost use Rattle.rules.specs.Valid.{FitOrder, Priced};
+ghost use Rattle.rules.specs.Valid.{FitEntry, FitOrder, Priced};
 ghost use Rattle.records.specs.Space.{Room};
 ghost use Rattle.records.specs.Done.{Done};
+ghost use Rattle.rules.specs.Nets.{nets_of};
 ghost use Rattle.ranges.specs.Fit.{FitLegs, Fit};
 ghost use Rattle.matching.specs.Matching.{open_with, passes_legs, goes_ahead, best_entry, may_match_of, matched};
-ghost use Rattle.matching.specs.Places.{acts_on, next_pass};
+ghost use Rattle.matching.specs.Places.{LiveLegs, acts_on, next_pass};
 
 use fills::whole_fill;
 use national::{bounds, may_meet};
@@ -67,7 +68,7 @@ fn acts_in(
 
 // The first place, from one on, of a day order whose pass by legs only would do something but for its bounds.
 pub fn next_pass(b: &State, s: u8, from: usize) -> Option<usize>
-    requires { Fit b.now }
+    requires { All FitLegs b.now.strategies × All FitEntry b.now.entries × All FitOrder b.now.orders × All Priced b.now.orders × LiveLegs b.now.strategies b.now.entries × (b.now.nets ≡ nets_of b.now.orders b.now.strategies) }
     ensures { result ≡ found 512 (next_pass b.now.strategies b.now.entries b.now.orders b.now.opened s from) }
 {
     let mut best: Option<usize> = None;

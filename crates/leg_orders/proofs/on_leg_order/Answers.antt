@@ -2,6 +2,7 @@ use Rattle.std.proofs.Common.{◌∙◌, refl, ap, arith}
 use Rattle.std.specs.Prelude.{Option, unwrap_or, ℕ}
 use Rattle.nets.specs.Bests.{unless-zero-or}
 use Rattle.rules.specs.Events.{free_order_slot}
+use Rattle.matching.specs.Places.{search-asks}
 use Rattle.records.specs.Done.{done-then, done-of, done-still, room_of, room_after}
 use Rattle.leg_orders.specs.LegOrders.{leg-is, slot_is, rests-not, rests-yes, enters, enters-room, gone-done, left-asks, left-done, left-fit}
 use Rattle.leg_orders.proofs.on_leg_order.Goals as goal
@@ -29,7 +30,7 @@ refreshed-nets-requires c = left-asks _ c.args.b.now c.insert-a.ensures.1 c.requ
 
 pub next_pass-first-requires : goal.next_pass-first-requires
 unfolding free_order_slot
-next_pass-first-requires c = left-fit _ c.args.b.now c.insert-a.ensures.1 c.requires.b_bound.0 c.insert-a.ensures.0 c.requires.b_bound.1 c.requires.b_bound.2 c.requires.b_bound.3 _ c.trades_of.ensures (ap (λ (p : Option ℕ). unwrap_or p 0) c.price_of-before.ensures ∙ unless-zero-or _) c.refreshed-nets.ensures
+next_pass-first-requires c = search-asks (left-fit _ c.args.b.now c.insert-a.ensures.1 c.requires.b_bound.0 c.insert-a.ensures.0 c.requires.b_bound.1 c.requires.b_bound.2 c.requires.b_bound.3 _ c.trades_of.ensures (ap (λ (p : Option ℕ). unwrap_or p 0) c.price_of-before.ensures ∙ unless-zero-or _) c.refreshed-nets.ensures)
 
 pub leg_passes-requires : goal.leg_passes-requires
 unfolding free_order_slot

@@ -1,5 +1,5 @@
 use Rattle.std.proofs.Common.{arith, refl}
-use Rattle.matching.specs.Places.{passing-first, passing-fit, passing-room, passing-fits, passing-less, passing-next, passing-all, next-most}
+use Rattle.matching.specs.Places.{search-asks, passing-first, passing-fit, passing-room, passing-fits, passing-less, passing-next, passing-all, next-most}
 use Rattle.base.specs.Chains.{found-is, found-none, found-or}
 use Rattle.matching.proofs.leg_passes.Goals as goal
 
@@ -13,7 +13,7 @@ pass-requires c =
     record { a_lt_table_rows = (omega arith, passing-fit c.requires.fit.0 v); room = passing-room c.requires.fit.0 v l.1 c.requires.room }
 
 pub next_pass-next-requires : goal.next_pass-next-requires
-next_pass-next-requires c = passing-fits c.requires.fit.0 (rw c.in-Some.is at c.loop-next.invariant.0) c.pass.ensures
+next_pass-next-requires c = search-asks (passing-fits c.requires.fit.0 (rw c.in-Some.is at c.loop-next.invariant.0) c.pass.ensures)
 
 pub loop-next-smaller : goal.loop-next-smaller
 loop-next-smaller c =

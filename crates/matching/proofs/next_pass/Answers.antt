@@ -12,7 +12,7 @@ pub loop-i-init : goal.loop-i-init
 loop-i-init c = (searched-none, refl)
 
 pub acts_in-requires : goal.acts_in-requires
-acts_in-requires c = (c.requires.orders, c.requires.priced, fit-legs c.requires.strategies _)
+acts_in-requires c = (c.requires.2, c.requires.3, fit-legs c.requires.0 _)
 
 pub loop-i-preserved : goal.loop-i-preserved
 loop-i-preserved c =
@@ -20,11 +20,11 @@ loop-i-preserved c =
     elim c.if-day_order.branch [
       | then-day_order+then-from-at+then-at-unwrap_or+then-acts_in w ↦
           rw w.best-is (
-            look-here _ _ _ _ _ _ v c.loop-i-test.true refl (told c.day_order.ensures w.if-day_order.true) w.if-from-at.true (rw w.unwrap_or.ensures at w.if-at-unwrap_or.true) (told (acts-on _ _ _ _ _ c.loop-i.i c.requires.entries (record { live = c.requires.live }) c.requires.nets.are (told c.day_order.ensures w.if-day_order.true) w.acts_in.ensures) w.if-acts_in.true),
-            sym (found-some (omega (arith, (fit-entry c.requires.entries c.loop-i.i).strategy))),
+            look-here _ _ _ _ _ _ v c.loop-i-test.true refl (told c.day_order.ensures w.if-day_order.true) w.if-from-at.true (rw w.unwrap_or.ensures at w.if-at-unwrap_or.true) (told (acts-on _ _ _ _ _ c.loop-i.i c.requires.1 c.requires.4 c.requires.5 (told c.day_order.ensures w.if-day_order.true) w.acts_in.ensures) w.if-acts_in.true),
+            sym (found-some (omega (arith, (fit-entry c.requires.1 c.loop-i.i).strategy))),
           )
       | then-day_order+then-from-at+then-at-unwrap_or+else-acts_in w ↦
-          rw w.best-is (look-idle _ _ _ _ _ _ v c.loop-i-test.true refl (told (acts-on _ _ _ _ _ c.loop-i.i c.requires.entries (record { live = c.requires.live }) c.requires.nets.are (told c.day_order.ensures w.if-day_order.true) w.acts_in.ensures) w.if-acts_in.false), c.loop-i.invariant.1)
+          rw w.best-is (look-idle _ _ _ _ _ _ v c.loop-i-test.true refl (told (acts-on _ _ _ _ _ c.loop-i.i c.requires.1 c.requires.4 c.requires.5 (told c.day_order.ensures w.if-day_order.true) w.acts_in.ensures) w.if-acts_in.false), c.loop-i.invariant.1)
       | then-day_order+else-from-at w ↦
           rw w.best-is (
             elim w.else-from-at.branch [
