@@ -2,7 +2,7 @@
 #![tactic(auto)]
 
 ghost use Rattle.std.specs.Prelude.{◌≡◌, ◌<◌};
-ghost use Rattle.rules.specs.Strategies.{by_series, padded, series_set, defined, same_legs, number_of, added};
+ghost use Rattle.rules.specs.Strategies.{by_series, padded, series_set, defined, number_of, added};
 ghost use Rattle.rules.specs.Valid.{Valid};
 ghost use Rattle.ranges.specs.Fit.{FitLegs};
 ghost use Rattle.strategies.specs.Order.{add_series};
@@ -67,23 +67,27 @@ pub fn defined(legs: [Leg; 6], count: usize) -> Strategy
     }
 }
 
-// Whether two strategies have the same legs, all six rows.
-fn same_legs(t: Strategy, s: Strategy) -> bool
-    ensures { result ≡ same_legs t s }
-{
-    t.legs == s.legs
-}
-
 // The number of the held strategy with these legs, else the next one.
+// By loops left by label and by break, as document 01 has this place.
 pub fn number_of(b: State, s: Strategy) -> usize
     requires { Valid b }
     ensures { result ≡ number_of b s }
 {
-    let held = b.defined as usize;
-    b.strategies[..held]
-        .iter()
-        .position(|t| same_legs(*t, s))
-        .unwrap_or(held)
+    let n = b.defined as usize;
+    let mut k: usize = 0;
+    'held: loop {
+        if n <= k {
+            break k;
+        }
+        let theirs = b.strategies[k].legs;
+        for i in 0..6 {
+            if theirs[i] != s.legs[i] {
+                k += 1;
+                continue 'held;
+            }
+        }
+        break k;
+    }
 }
 
 // The state with the strategy behind those held, and its nets, if there is a slot for it.
