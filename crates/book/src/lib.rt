@@ -91,131 +91,156 @@ impl Book {
     }
 
     // Kind 1: a strategy.
-    fn strategy(&mut self, e: events::Strategy) -> Result<Accepted, Refusal>
+    fn strategy(mut self, e: events::Strategy) -> (Book, Result<Accepted, Refusal>)
         requires { FitGiven e }
-        ensures { (s : List ℤ) → record_space ≤ length s → Took self.old.state (E.Strategy e) s s self.new.state result }
+        ensures { (s : List ℤ) → record_space ≤ length s → Took self.state (E.Strategy e) s s result.0.state result.1 }
     {
         if ill_formed(e) {
-            return Err(Refusal::BadDefinition);
+            return (self, Err(Refusal::BadDefinition));
         }
         let s = strategy_given(e);
         let k = number_of(self.state, s);
         let n = self.state.defined as usize;
         if k < n {
-            return Ok(accepted(k as u32, 0));
+            return (self, Ok(accepted(k as u32, 0)));
         }
         if Book::STRATEGIES <= n {
-            return Err(Refusal::TableFull);
+            return (self, Err(Refusal::TableFull));
         }
         self.state = add(s, self.state);
-        Ok(accepted(k as u32, 0))
+        (self, Ok(accepted(k as u32, 0)))
     }
 
     // Kind 2: a complex order.
-    fn order(&mut self, e: events::Order, space: &mut [i32]) -> Result<Accepted, Refusal>
+    fn order(mut self, e: events::Order, space: &mut [i32]) -> (Book, Result<Accepted, Refusal>)
         requires { FitOrderGiven e × (record_space ≤ length space.old) }
-        ensures { Took self.old.state (E.Order e) space.old space.new self.new.state result }
+        ensures { Took self.state (E.Order e) space.old space.new result.0.state result.1 }
     {
-        order_refusal(self.state, e)?;
+        match order_refusal(self.state, e) {
+            Ok(()) => {}
+            Err(refusal) => return (self, Err(refusal)),
+        }
         let row = order_given(self.state, e);
         let mut records = Records { space, count: 0 };
         on_order(row, &mut self.state, &mut records);
-        Ok(accepted(row.number, records.count))
+        (self, Ok(accepted(row.number, records.count)))
     }
 
     // Kind 3: a sweep.
-    fn sweep(&mut self, e: events::Sweep, space: &mut [i32]) -> Result<Accepted, Refusal>
+    fn sweep(mut self, e: events::Sweep, space: &mut [i32]) -> (Book, Result<Accepted, Refusal>)
         requires { FitSweepGiven e × (record_space ≤ length space.old) }
-        ensures { Took self.old.state (E.Sweep e) space.old space.new self.new.state result }
+        ensures { Took self.state (E.Sweep e) space.old space.new result.0.state result.1 }
     {
-        sweep_refusal(self.state, e)?;
+        match sweep_refusal(self.state, e) {
+            Ok(()) => {}
+            Err(refusal) => return (self, Err(refusal)),
+        }
         let row = sweep_given(self.state, e);
         let mut records = Records { space, count: 0 };
         on_sweep(row, &mut self.state, &mut records);
-        Ok(accepted(number_taken(row), records.count))
+        (self, Ok(accepted(number_taken(row), records.count)))
     }
 
     // Kind 4: a leg order.
-    fn leg_order(&mut self, e: events::LegOrder, space: &mut [i32]) -> Result<Accepted, Refusal>
+    fn leg_order(
+        mut self,
+        e: events::LegOrder,
+        space: &mut [i32],
+    ) -> (Book, Result<Accepted, Refusal>)
         requires { FitLegOrderGiven e × (record_space ≤ length space.old) }
-        ensures { Took self.old.state (E.LegOrder e) space.old space.new self.new.state result }
+        ensures { Took self.state (E.LegOrder e) space.old space.new result.0.state result.1 }
     {
-        leg_order_refusal(self.state, e)?;
+        match leg_order_refusal(self.state, e) {
+            Ok(()) => {}
+            Err(refusal) => return (self, Err(refusal)),
+        }
         let row = leg_order_given(self.state, e);
         let mut records = Records { space, count: 0 };
         on_leg_order(&mut self.state, row, &mut records);
-        Ok(accepted(row.number, records.count))
+        (self, Ok(accepted(row.number, records.count)))
     }
 
     // Kind 5: a cancel.
-    fn cancel(&mut self, e: events::Cancel, space: &mut [i32]) -> Result<Accepted, Refusal>
+    fn cancel(mut self, e: events::Cancel, space: &mut [i32]) -> (Book, Result<Accepted, Refusal>)
         requires { (1 ≤ e.number) × (record_space ≤ length space.old) }
-        ensures { Took self.old.state (E.Cancel e) space.old space.new self.new.state result }
+        ensures { Took self.state (E.Cancel e) space.old space.new result.0.state result.1 }
     {
-        cancel_refusal(self.state, e)?;
+        match cancel_refusal(self.state, e) {
+            Ok(()) => {}
+            Err(refusal) => return (self, Err(refusal)),
+        }
         let mut records = Records { space, count: 0 };
         cancel_number(&mut self.state, e.number, &mut records);
-        Ok(accepted(0, records.count))
+        (self, Ok(accepted(0, records.count)))
     }
 
     // Kind 6: a series opens or shuts.
-    fn series(&mut self, e: events::Series, space: &mut [i32]) -> Result<Accepted, Refusal>
+    fn series(mut self, e: events::Series, space: &mut [i32]) -> (Book, Result<Accepted, Refusal>)
         requires { (e.series < 32) × (record_space ≤ length space.old) }
-        ensures { Took self.old.state (E.Series e) space.old space.new self.new.state result }
+        ensures { Took self.state (E.Series e) space.old space.new result.0.state result.1 }
     {
         let mut records = Records { space, count: 0 };
         on_series(&mut self.state, e.series as u8, e.state, &mut records);
-        Ok(accepted(0, records.count))
+        (self, Ok(accepted(0, records.count)))
     }
 
     // Kind 7: the clock.
-    fn clock(&mut self, e: events::Clock, space: &mut [i32]) -> Result<Accepted, Refusal>
+    fn clock(mut self, e: events::Clock, space: &mut [i32]) -> (Book, Result<Accepted, Refusal>)
         requires { (e.time ≤ 86400000) × (record_space ≤ length space.old) }
-        ensures { Took self.old.state (E.Clock e) space.old space.new self.new.state result }
+        ensures { Took self.state (E.Clock e) space.old space.new result.0.state result.1 }
     {
-        clock_refusal(self.state, e)?;
+        match clock_refusal(self.state, e) {
+            Ok(()) => {}
+            Err(refusal) => return (self, Err(refusal)),
+        }
         let mut records = Records { space, count: 0 };
         on_clock(&mut self.state, e.time, &mut records);
-        Ok(accepted(0, records.count))
+        (self, Ok(accepted(0, records.count)))
     }
 
     // Kind 8: the day's end.
-    fn day_end(&mut self, e: events::DayEnd, space: &mut [i32]) -> Result<Accepted, Refusal>
+    fn day_end(mut self, e: events::DayEnd, space: &mut [i32]) -> (Book, Result<Accepted, Refusal>)
         requires { ((1 ≤ e.timer) × (e.timer ≤ 5000)) × (record_space ≤ length space.old) }
-        ensures { Took self.old.state (E.DayEnd e) space.old space.new self.new.state result }
+        ensures { Took self.state (E.DayEnd e) space.old space.new result.0.state result.1 }
     {
         let mut records = Records { space, count: 0 };
         on_day_end(&mut self.state, e.timer, &mut records);
-        Ok(accepted(0, records.count))
+        (self, Ok(accepted(0, records.count)))
     }
 
     // Kind 9: the national prices of a series.
-    fn national(&mut self, e: events::National) -> Result<Accepted, Refusal>
+    fn national(mut self, e: events::National) -> (Book, Result<Accepted, Refusal>)
         requires { (e.series < series_count) × (e.bid ≤ 99999) × (e.offer ≤ 99999) }
-        ensures { (s : List ℤ) → record_space ≤ length s → Took self.old.state (E.National e) s s self.new.state result }
+        ensures { (s : List ℤ) → record_space ≤ length s → Took self.state (E.National e) s s result.0.state result.1 }
     {
-        national_refusal(e)?;
+        match national_refusal(e) {
+            Ok(()) => {}
+            Err(refusal) => return (self, Err(refusal)),
+        }
         set_prices(&mut self.state, e.series as u8, quote_given(e));
-        Ok(accepted(0, 0))
+        (self, Ok(accepted(0, 0)))
     }
 
     // Kind 10: the execution range.
-    fn range(&mut self, e: events::Range) -> Result<Accepted, Refusal>
+    fn range(mut self, e: events::Range) -> (Book, Result<Accepted, Refusal>)
         requires { e.range ≤ 9999 }
-        ensures { (s : List ℤ) → record_space ≤ length s → Took self.old.state (E.Range e) s s self.new.state result }
+        ensures { (s : List ℤ) → record_space ≤ length s → Took self.state (E.Range e) s s result.0.state result.1 }
     {
         set_range(&mut self.state, e.range);
-        Ok(accepted(0, 0))
+        (self, Ok(accepted(0, 0)))
     }
 
     // Kind 11: the specialist of a strategy.
-    fn specialist(&mut self, e: events::Specialist) -> Result<Accepted, Refusal>
+    fn specialist(mut self, e: events::Specialist) -> (Book, Result<Accepted, Refusal>)
         requires { (1 ≤ e.member) × (e.member ≤ 65535) × (e.strategy < strategy_slots) × (e.percentage ≤ 100) }
-        ensures { (s : List ℤ) → record_space ≤ length s → Took self.old.state (E.Specialist e) s s self.new.state result }
+        ensures { (s : List ℤ) → record_space ≤ length s → Took self.state (E.Specialist e) s s result.0.state result.1 }
     {
-        specialist_refusal(self.state, e)?;
+        match specialist_refusal(self.state, e) {
+            Ok(()) => {}
+            Err(refusal) => return (self, Err(refusal)),
+        }
         set_specialist(&mut self.state, e.strategy as u8, specialist_given(e));
-        Ok(accepted(0, 0))
+        (self, Ok(accepted(0, 0)))
     }
 
     // A frame of any bytes, with a record space of any length: the answer, the book, and the records in the space. A refused
@@ -226,7 +251,7 @@ impl Book {
         if space.len() < Book::RECORD_SPACE {
             return Err(Refusal::ShortSpace);
         }
-        match read(frame)? {
+        let (book, answer) = match read(frame)? {
             Event::Strategy(e) => self.strategy(e),
             Event::Order(e) => self.order(e, space),
             Event::Sweep(e) => self.sweep(e, space),
@@ -238,7 +263,9 @@ impl Book {
             Event::National(e) => self.national(e),
             Event::Range(e) => self.range(e),
             Event::Specialist(e) => self.specialist(e),
-        }
+        };
+        *self = book;
+        answer
     }
 
     // The live quantity of a number, 0 if none.

@@ -1,5 +1,6 @@
 -- proofs/Book/step/Answers.antt
 use Rattle.book.specs.Outcomes.{stepped-short, stepped-exit, stepped, event-fits}
+use Rattle.book.proofs.Book.step.Goals.{in-Strategy, in-Order, in-Sweep, in-LegOrder, in-Cancel, in-Series, in-Clock, in-DayEnd, in-National, in-Range, in-Specialist}
 use Rattle.book.proofs.Book.step.Goals as goal
 
 pub returns-then-space-lt-RECORD_SPACE : goal.returns-then-space-lt-RECORD_SPACE
@@ -41,35 +42,18 @@ range-requires c = event-fits c.args.frame.now c.in_ok-e.ensures c.in-Range.is
 pub specialist-requires : goal.specialist-requires
 specialist-requires c = event-fits c.args.frame.now c.in_ok-e.ensures c.in-Specialist.is
 
-pub returns-in-Strategy : goal.returns-in-Strategy
-returns-in-Strategy c = stepped _ c.in_ok-e.ensures c.in-Strategy.is _ _ (c.strategy.ensures c.args.space.now c.if-space-lt-RECORD_SPACE.false)
-
-pub returns-in-Order : goal.returns-in-Order
-returns-in-Order c = stepped _ c.in_ok-e.ensures c.in-Order.is _ _ c.order.ensures
-
-pub returns-in-Sweep : goal.returns-in-Sweep
-returns-in-Sweep c = stepped _ c.in_ok-e.ensures c.in-Sweep.is _ _ c.sweep.ensures
-
-pub returns-in-LegOrder : goal.returns-in-LegOrder
-returns-in-LegOrder c = stepped _ c.in_ok-e.ensures c.in-LegOrder.is _ _ c.leg_order.ensures
-
-pub returns-in-Cancel : goal.returns-in-Cancel
-returns-in-Cancel c = stepped _ c.in_ok-e.ensures c.in-Cancel.is _ _ c.cancel.ensures
-
-pub returns-in-Series : goal.returns-in-Series
-returns-in-Series c = stepped _ c.in_ok-e.ensures c.in-Series.is _ _ c.series.ensures
-
-pub returns-in-Clock : goal.returns-in-Clock
-returns-in-Clock c = stepped _ c.in_ok-e.ensures c.in-Clock.is _ _ c.clock.ensures
-
-pub returns-in-DayEnd : goal.returns-in-DayEnd
-returns-in-DayEnd c = stepped _ c.in_ok-e.ensures c.in-DayEnd.is _ _ c.day_end.ensures
-
-pub returns-in-National : goal.returns-in-National
-returns-in-National c = stepped _ c.in_ok-e.ensures c.in-National.is _ _ (c.national.ensures c.args.space.now c.if-space-lt-RECORD_SPACE.false)
-
-pub returns-in-Range : goal.returns-in-Range
-returns-in-Range c = stepped _ c.in_ok-e.ensures c.in-Range.is _ _ (c.range.ensures c.args.space.now c.if-space-lt-RECORD_SPACE.false)
-
-pub returns-in-Specialist : goal.returns-in-Specialist
-returns-in-Specialist c = stepped _ c.in_ok-e.ensures c.in-Specialist.is _ _ (c.specialist.ensures c.args.space.now c.if-space-lt-RECORD_SPACE.false)
+pub returns : goal.returns
+returns c =
+    elim c.match-branch-2.branch [
+      | in-Strategy w ↦ rw (w.space-is, w.answer-is) (stepped _ c.in_ok-e.ensures w.in-Strategy.is _ _ (w.strategy.ensures c.args.space.now c.if-space-lt-RECORD_SPACE.false))
+      | in-Order w ↦ rw (w.space-is, w.answer-is) (stepped _ c.in_ok-e.ensures w.in-Order.is _ _ w.order.ensures)
+      | in-Sweep w ↦ rw (w.space-is, w.answer-is) (stepped _ c.in_ok-e.ensures w.in-Sweep.is _ _ w.sweep.ensures)
+      | in-LegOrder w ↦ rw (w.space-is, w.answer-is) (stepped _ c.in_ok-e.ensures w.in-LegOrder.is _ _ w.leg_order.ensures)
+      | in-Cancel w ↦ rw (w.space-is, w.answer-is) (stepped _ c.in_ok-e.ensures w.in-Cancel.is _ _ w.cancel.ensures)
+      | in-Series w ↦ rw (w.space-is, w.answer-is) (stepped _ c.in_ok-e.ensures w.in-Series.is _ _ w.series.ensures)
+      | in-Clock w ↦ rw (w.space-is, w.answer-is) (stepped _ c.in_ok-e.ensures w.in-Clock.is _ _ w.clock.ensures)
+      | in-DayEnd w ↦ rw (w.space-is, w.answer-is) (stepped _ c.in_ok-e.ensures w.in-DayEnd.is _ _ w.day_end.ensures)
+      | in-National w ↦ rw (w.space-is, w.answer-is) (stepped _ c.in_ok-e.ensures w.in-National.is _ _ (w.national.ensures c.args.space.now c.if-space-lt-RECORD_SPACE.false))
+      | in-Range w ↦ rw (w.space-is, w.answer-is) (stepped _ c.in_ok-e.ensures w.in-Range.is _ _ (w.range.ensures c.args.space.now c.if-space-lt-RECORD_SPACE.false))
+      | in-Specialist w ↦ rw (w.space-is, w.answer-is) (stepped _ c.in_ok-e.ensures w.in-Specialist.is _ _ (w.specialist.ensures c.args.space.now c.if-space-lt-RECORD_SPACE.false))
+    ]
