@@ -61,15 +61,22 @@ pub fn filled<T: Copy, const N: usize>(first: [T; N], other: T) -> [T; 19]
     all
 }
 
+// A strategy's fields.
+fn strategy_fields() -> [Field; 19]
+    ensures { result ≡ fields_of Kind.Strategy }
+{
+    [
+        COUNT, SERIES, SIDE, RATIO, SERIES, SIDE, RATIO, SERIES, SIDE, RATIO, SERIES, SIDE, RATIO,
+        SERIES, SIDE, RATIO, SERIES, SIDE, RATIO,
+    ]
+}
+
 // The fields of a kind, and empty ones up to 19.
 pub fn fields_of(kind: Kind) -> [Field; 19]
     ensures { result ≡ fields_of kind }
 {
     match kind {
-        Kind::Strategy => [
-            COUNT, SERIES, SIDE, RATIO, SERIES, SIDE, RATIO, SERIES, SIDE, RATIO, SERIES, SIDE,
-            RATIO, SERIES, SIDE, RATIO, SERIES, SIDE, RATIO,
-        ],
+        Kind::Strategy => strategy_fields(),
         Kind::Order => filled([MEMBER, STRATEGY, SIDE, CLASS, LIFE, UNITS, LIMIT], NONE),
         Kind::Sweep => filled([MEMBER, STRATEGY, SIDE, SWEEP_UNITS, LIMIT], NONE),
         Kind::LegOrder => filled([MEMBER, SERIES, SIDE, CONTRACTS, PRICE], NONE),
@@ -101,16 +108,24 @@ impl Field {
     }
 }
 
-// Whether each value is in its field's range.
+// Whether each value is in its field's range. Both are lent: the copies would be made by a function of the C library, and the library
+// for C calls none.
 #[tactic(auto, using(base::specs::Pick::tests), unfolding(crate::specs::Fields::fit_n, crate::specs::Fields::layout))]
+pub fn fit_in(fields: &[Field; 19], m: usize, row: &[u32; 19]) -> bool
+    ensures { result ≡ fit_n (layout fields.now m) row.now 19 }
+{
+    let mut ok = true;
+    for i in 0..19 {
+        ok = ok && present(fields[i], m, i).holds(row[i]);
+    }
+    ok
+}
+
+// .. of fields and values of its own.
 pub fn fit(fields: [Field; 19], m: usize, row: [u32; 19]) -> bool
     ensures { result ≡ fit_n (layout fields m) row 19 }
 {
-    let mut ok = true;
-    for (i, v) in row.iter().enumerate() {
-        ok = ok && present(fields[i], m, i).holds(*v);
-    }
-    ok
+    fit_in(&fields, m, &row)
 }
 
 // The number that stands in a frame for a value.

@@ -19,10 +19,10 @@ pub(crate) fn value(frame: &[u8], at: usize, field: Field) -> u32
 }
 
 // The values of the fields, one after the other from the fifth byte.
-pub(crate) fn decode(frame: &[u8], fields: [Field; 19], m: usize) -> [u32; 19]
-    requires m_in_bounds { offset (layout fields m) 19 ≤ length frame.now }
-    requires narrow { Narrow (layout fields m) }
-    ensures { result ≡ row_n (layout fields m) frame.now 19 }
+pub(crate) fn decode(frame: &[u8], fields: &[Field; 19], m: usize) -> [u32; 19]
+    requires m_in_bounds { offset (layout fields.now m) 19 ≤ length frame.now }
+    requires narrow { Narrow (layout fields.now m) }
+    ensures { result ≡ row_n (layout fields.now m) frame.now 19 }
 {
     let mut row: [u32; 19] = [0; 19];
     let mut at: usize = 4;

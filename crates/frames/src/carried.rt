@@ -153,8 +153,8 @@ fn strategy_in(frame: &[u8]) -> Result<Event, Refusal>
 {
     let m = frame.len() - 4;
     let fields = table::fields_of(Kind::Strategy);
-    let row = decode(frame, fields, m);
-    if table::fit(fields, m, row) {
+    let row = decode(frame, &fields, m);
+    if table::fit_in(&fields, m, &row) {
         Ok(event_of(Kind::Strategy, row))
     } else {
         Err(Refusal::BadField)

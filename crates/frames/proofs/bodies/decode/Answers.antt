@@ -10,7 +10,7 @@ loop-i-init c = (refl, refl)
 pub value-requires : goal.value-requires
 unfolding layout
 value-requires c = record {
-  field_in_bounds = rw (c.present-field.ensures, c.loop-i.invariant.0) (omega (arith, offset-room (layout c.args.fields c.args.m) c.loop-i.i 19 c.loop-i-test.true, c.requires.m_in_bounds));
+  field_in_bounds = rw (c.present-field.ensures, c.loop-i.invariant.0) (omega (arith, offset-room (layout c.args.fields.now c.args.m) c.loop-i.i 19 c.loop-i-test.true, c.requires.m_in_bounds));
   field_bound = rw c.present-field.ensures (c.requires.narrow.narrow c.loop-i.i);
 }
 
@@ -18,7 +18,7 @@ pub overflow_add-at : goal.overflow_add-at
 unfolding layout
 overflow_add-at c =
     let room-is : c.loop-i.at + width c.present-field.result ≤ length c.args.frame.now = rw (c.present-field.ensures, c.loop-i.invariant.0)
-    (omega (arith, offset-room (layout c.args.fields c.args.m) c.loop-i.i 19 c.loop-i-test.true, c.requires.m_in_bounds)) in
+    (omega (arith, offset-room (layout c.args.fields.now c.args.m) c.loop-i.i 19 c.loop-i-test.true, c.requires.m_in_bounds)) in
     record { fits = omega (arith, room-is) }
 
 pub loop-i-preserved : goal.loop-i-preserved

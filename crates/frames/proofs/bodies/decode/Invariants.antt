@@ -4,4 +4,4 @@ use Rattle.frames.specs.Bodies.{row_n}
 use Rattle.frames.proofs.bodies.decode.Given as goal
 
 abbrev pub invariant-loop-i : goal.invariant-loop-i
-invariant-loop-i l = (l.at ≡ offset (layout l.entry-items l.m) l.i) × (l.row ≡ row_n (layout l.entry-items l.m) l.frame l.i)
+invariant-loop-i l = (l.at ≡ offset (layout l.fields l.m) l.i) × (l.row ≡ row_n (layout l.fields l.m) l.frame l.i)

@@ -1,6 +1,6 @@
 use Rattle.std.proofs.Common.{◌≡◌}
 use Rattle.events.specs.Fields.{fit_n, layout}
-use Rattle.events.proofs.table.fit.Given as goal
+use Rattle.events.proofs.table.fit_in.Given as goal
 
 abbrev pub invariant-loop-i : goal.invariant-loop-i
-invariant-loop-i l = l.ok ≡ fit_n (layout l.fields l.m) l.v-items l.i
+invariant-loop-i l = l.ok ≡ fit_n (layout l.fields l.m) l.row l.i
