@@ -110,8 +110,8 @@ impl<'a> Input<'a> {
 
 // Writes the text out; where it is not taken whole, says so on standard error. A program has no other way to tell: its exit
 // status is always 0.
-pub fn write_out<R: Print + Eprint>(rt: &R, text: &Text) -> bool {
-    let whole = rt.write_all(text.bytes()).is_ok();
+pub fn write_out<R: Print + Eprint>(rt: &R, text: &[u8]) -> bool {
+    let whole = rt.write_all(text).is_ok();
     if !whole {
         let _ = eprintln!(rt; "standard output: a write failed; what was printed is not whole");
     }
@@ -126,7 +126,7 @@ pub fn drain<R: Print + Eprint>(rt: &R, text: &mut Text, room: usize) -> bool
     if room <= text.room() {
         return true;
     }
-    let on = write_out(rt, text);
+    let on = write_out(rt, text.bytes());
     text.clear();
     on
 }

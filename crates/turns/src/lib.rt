@@ -7,7 +7,7 @@ ghost use Rattle.base.specs.Chains.{unless_zero};
 ghost use Rattle.rules.specs.Sizes.{record_space};
 ghost use Rattle.lines.specs.Puts.{Room};
 ghost use Rattle.streams.specs.Rests.{More};
-ghost use Rattle.turns.specs.Turns.{Tells, Turning};
+ghost use Rattle.turns.specs.Turns.{Tells, Turning, Left};
 
 use book::Book;
 use lines::Text;
@@ -74,8 +74,10 @@ fn fill<P: Program, I: Read, R: Eprint>(program: &P, reader: &mut I, rt: &R, inp
     }
 }
 
-// Turns, until the input ends or the output takes no more. The index stays below the largest number.
-pub fn run<P: Program, I: Read, R: Print + Eprint>(program: &P, reader: &mut I, rt: &R) {
+// Turns, until the input ends or the output takes no more. Answers the book that they leave. The index stays below the largest number.
+pub fn run<P: Program, I: Read, R: Print + Eprint>(program: &P, reader: &mut I, rt: &R) -> Book
+    ensures { Left P.turned result }
+{
     let mut block = input_block();
     let mut space = record_space();
     let mut out = text_space();
@@ -84,7 +86,8 @@ pub fn run<P: Program, I: Read, R: Print + Eprint>(program: &P, reader: &mut I, 
     let mut text = Text::new(&mut out);
     for index in 0..u64::MAX {
         fill(program, reader, rt, &mut input);
-        if !program.turn(rt, index, &mut book, &mut input, &mut space, &mut text) {
+        let on = program.turn(rt, index, &mut book, &mut input, &mut space, &mut text);
+        if !on {
             break;
         }
         let more = program.first(input.rest()).is_some();
@@ -92,5 +95,6 @@ pub fn run<P: Program, I: Read, R: Print + Eprint>(program: &P, reader: &mut I, 
             break;
         }
     }
-    write_out(rt, &text);
+    write_out(rt, text.bytes());
+    book
 }
