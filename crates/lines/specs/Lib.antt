@@ -1,4 +1,5 @@
 pub mod Cuts
 pub mod Examples
 pub mod Lines
+pub mod Places
 pub mod Puts

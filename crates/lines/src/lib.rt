@@ -8,6 +8,7 @@ ghost use Rattle.rules.specs.Lookups.{net_told};
 ghost use Rattle.rules.specs.Step.{answer_number, answer_value, answer_count};
 ghost use Rattle.lines.specs.Lines.{decimal, signed, spaced, text_line, record_lines, event_text, net_text, told_line};
 ghost use Rattle.lines.specs.Cuts.{told_length, needed_of, cut_of};
+ghost use Rattle.lines.specs.Places.{last_two, PutAt, WithinAt};
 
 use events::Refusal;
 use rules::Accepted;
@@ -51,8 +52,146 @@ pub fn cut(rest: &[u8]) -> Option<usize>
     (4..=rest.len()).contains(&n).then_some(n)
 }
 
+// Lines are put by functions of a space and a place in it, which answer the next place: so the place stays in a register. Behind a
+// `&mut Text` it would be read and written anew for each byte, since for all the compiler knows the byte may have changed it.
+
+// One byte.
+fn put_byte(out: &mut [u8], at: usize, byte: u8) -> usize
+    requires { at + 1 ≤ length out.old }
+    ensures { PutAt out.old out.new at result (byte ∷ []) }
+{
+    out[at] = byte;
+    at + 1
+}
+
+// The last two digits of a number.
+fn put_last_two(out: &mut [u8], at: usize, n: u64) -> usize
+    requires { at + 2 ≤ length out.old }
+    ensures { PutAt out.old out.new at result (last_two n) }
+{
+    let next = put_byte(out, at, b'0' + (n / 10 % 10) as u8);
+    put_byte(out, next, b'0' + (n % 10) as u8)
+}
+
+// A number of at most two digits.
+fn put_under_100(out: &mut [u8], at: usize, n: u64) -> usize
+    requires n_bound { n < 100 }
+    requires room { at + length (decimal n) ≤ length out.old }
+    ensures { PutAt out.old out.new at result (decimal n) }
+{
+    if n < 10 {
+        return put_byte(out, at, b'0' + n as u8);
+    }
+    put_last_two(out, at, n)
+}
+
+// A number of at most four digits.
+fn put_under_10000(out: &mut [u8], at: usize, n: u64) -> usize
+    requires n_bound { n < 10000 }
+    requires room { at + length (decimal n) ≤ length out.old }
+    ensures { PutAt out.old out.new at result (decimal n) }
+{
+    if n < 100 {
+        return put_under_100(out, at, n);
+    }
+    let next = put_under_100(out, at, n / 100);
+    put_last_two(out, next, n)
+}
+
+// A number of more than four digits: the last two behind the others.
+fn put_long(out: &mut [u8], at: usize, n: u64) -> usize
+    requires n_bound { 10000 ≤ n }
+    requires room { at + length (decimal n) ≤ length out.old }
+    ensures { PutAt out.old out.new at result (decimal n) }
+{
+    let next = if n < 1000000 {
+        put_under_10000(out, at, n / 100)
+    } else {
+        put_long(out, at, n / 100)
+    };
+    put_last_two(out, next, n)
+}
+
+// The digits of a number, the highest first. Most numbers are short: their tests come first, and they cost no call, as `put_long` does,
+// since it calls itself. Not by `write!`, which answers a Result at each call: where the room is required there is nothing that it
+// could refuse.
+fn put_decimal(out: &mut [u8], at: usize, n: u64) -> usize
+    requires { at + length (decimal n) ≤ length out.old }
+    ensures { PutAt out.old out.new at result (decimal n) }
+{
+    if n < 10 {
+        return put_byte(out, at, b'0' + n as u8);
+    }
+    if n < 10000 {
+        return put_under_10000(out, at, n);
+    }
+    put_long(out, at, n)
+}
+
+// A space and a number.
+fn put_number(out: &mut [u8], at: usize, n: u64) -> usize
+    requires { at + 21 ≤ length out.old }
+    ensures { WithinAt 21 out.old out.new at result (32 ∷ signed (pos n)) }
+{
+    let next = put_byte(out, at, b' ');
+    put_decimal(out, next, n)
+}
+
+// The line of a letter and four numbers. They stand one after the other: in a loop, as that of `Text::line`, each would cost more.
+fn put_four(out: &mut [u8], at: usize, letter: u8, i: u64, j: u64, k: u64, n: u64) -> usize
+    requires { at + 86 ≤ length out.old }
+    ensures { WithinAt 86 out.old out.new at result (text_line letter (pos i ∷ (pos j ∷ (pos k ∷ (pos n ∷ []))))) }
+{
+    let next = put_byte(out, at, letter);
+    let next = put_number(out, next, i);
+    let next = put_number(out, next, j);
+    let next = put_number(out, next, k);
+    let next = put_number(out, next, n);
+    put_byte(out, next, b'\n')
+}
+
+// A space and a signed number.
+fn put_signed(out: &mut [u8], at: usize, x: i32) -> usize
+    requires { at + 12 ≤ length out.old }
+    ensures { WithinAt 12 out.old out.new at result (32 ∷ signed x) }
+{
+    let next = put_byte(out, at, b' ');
+    let negative = x < 0;
+    if negative {
+        let digits = put_byte(out, next, b'-');
+        return put_decimal(out, digits, u64::from(x.unsigned_abs()));
+    }
+    put_decimal(out, next, u64::from(x.unsigned_abs()))
+}
+
+// The line of a record. It is not one function with `Text::line`: signed numbers are put otherwise, and a trait of both would be longer.
+fn put_record(out: &mut [u8], at: usize, numbers: &[i32]) -> usize
+    requires { at + (2 + 12 * length numbers.now) ≤ length out.old }
+    ensures { WithinAt (2 + 12 * length numbers.now) out.old out.new at result (text_line 82 numbers.now) }
+{
+    let mut next = put_byte(out, at, b'R');
+    for x in numbers {
+        next = put_signed(out, next, *x);
+    }
+    put_byte(out, next, b'\n')
+}
+
 // What is put for a net that is not known.
 const UNKNOWN: u8 = b'-';
+
+// A space and a net, `-` where it is unknown.
+fn put_net(out: &mut [u8], at: usize, net: Option<i32>) -> usize
+    requires { at + 12 ≤ length out.old }
+    ensures { WithinAt 12 out.old out.new at result (32 ∷ net_text (net_told net)) }
+{
+    match net {
+        Some(x) => put_signed(out, at, x),
+        None => {
+            let next = put_byte(out, at, b' ');
+            put_byte(out, next, UNKNOWN)
+        }
+    }
+}
 
 // A text in a space of bytes: what is put goes behind what is there, and everything else stays.
 #[derive(Drop)]
@@ -63,7 +202,7 @@ pub struct Text<'a> {
 }
 
 impl<'a> Text<'a> {
-    ghost use Rattle.lines.specs.Puts.{last_two, Room, Put, Within};
+    ghost use Rattle.lines.specs.Puts.{Room, Put, Within};
 
     // No text yet.
     pub fn new(out: &'a mut [u8]) -> Text<'a>
@@ -115,74 +254,17 @@ impl<'a> Text<'a> {
         }
     }
 
-    // The last two digits of a number.
-    fn last_two(&mut self, n: u64)
-        requires { Room self.old 2 }
-        ensures { Put self.old self.new (last_two n) }
-    {
-        self.push(b'0' + (n / 10 % 10) as u8);
-        self.push(b'0' + (n % 10) as u8);
-    }
-
-    // The digits of a number, the highest first. Two go at once: most numbers are short. Not by `write!`, which answers a Result
-    // at each call: where the room is required there is nothing that it could refuse.
-    fn decimal(&mut self, n: u64)
-        requires { Room self.old (length (decimal n)) }
-        ensures { Put self.old self.new (decimal n) }
-    {
-        if n < 10 {
-            self.push(b'0' + n as u8);
-            return;
-        }
-        if 100 <= n {
-            self.decimal(n / 100);
-        }
-        self.last_two(n);
-    }
-
-    // A space and a number.
-    fn number(&mut self, n: u64)
-        requires { Room self.old 21 }
-        ensures { Within 21 self.old self.new (32 ∷ signed (pos n)) }
-    {
-        self.push(b' ');
-        self.decimal(n);
-    }
-
-    // A space and a signed number.
-    fn signed(&mut self, x: i32)
-        requires { Room self.old 12 }
-        ensures { Within 12 self.old self.new (32 ∷ signed x) }
-    {
-        self.push(b' ');
-        if x < 0 {
-            self.push(b'-');
-        }
-        self.decimal(u64::from(x.unsigned_abs()));
-    }
-
     // The line of a letter and some numbers.
     pub fn line(&mut self, letter: u8, numbers: &[u64])
         requires { Room self.old (2 + 21 * length numbers.now) }
         ensures { Within (2 + 21 * length numbers.now) self.old self.new (text_line letter (map pos numbers.now)) }
     {
-        self.push(letter);
+        let out = &mut *self.out;
+        let mut at = put_byte(out, self.used, letter);
         for n in numbers {
-            self.number(*n);
+            at = put_number(out, at, *n);
         }
-        self.push(b'\n');
-    }
-
-    // The line of a record. It is not one function with `line`: signed numbers are put otherwise, and a trait of both would be longer.
-    fn record(&mut self, numbers: &[i32])
-        requires { Room self.old (2 + 12 * length numbers.now) }
-        ensures { Within (2 + 12 * length numbers.now) self.old self.new (text_line 82 numbers.now) }
-    {
-        self.push(b'R');
-        for x in numbers {
-            self.signed(*x);
-        }
-        self.push(b'\n');
+        self.used = put_byte(out, at, b'\n');
     }
 
     // The lines of the first n records of a space.
@@ -191,9 +273,12 @@ impl<'a> Text<'a> {
         requires n_in_bounds { n * 6 ≤ length space.now }
         ensures { Within (74 * n) self.old self.new (record_lines n space.now) }
     {
+        let out = &mut *self.out;
+        let mut at = self.used;
         for record in space.chunks_exact(6).take(n) {
-            self.record(record);
+            at = put_record(out, at, record);
         }
+        self.used = at;
     }
 
     // What is printed of an event: its line, and the lines of its records, which stand in the space.
@@ -206,25 +291,16 @@ impl<'a> Text<'a> {
             Ok(Accepted { value, records }) => (0, value, records),
             Err(refusal) => (u32::from(refusal), 0, 0),
         };
-        self.line(
+        self.used = put_four(
+            self.out,
+            self.used,
             b'E',
-            &[index, u64::from(number), u64::from(value), count as u64],
+            index,
+            u64::from(number),
+            u64::from(value),
+            count as u64,
         );
         self.records(space, count);
-    }
-
-    // A space and a net, `-` where it is unknown.
-    fn net(&mut self, net: Option<i32>)
-        requires { Room self.old 12 }
-        ensures { Within 12 self.old self.new (32 ∷ net_text (net_told net)) }
-    {
-        match net {
-            Some(x) => self.signed(x),
-            None => {
-                self.push(b' ');
-                self.push(UNKNOWN);
-            }
-        }
     }
 
     // The line of a letter, a number and two nets, as they are told.
@@ -232,10 +308,11 @@ impl<'a> Text<'a> {
         requires { Room self.old 47 }
         ensures { Within 47 self.old self.new (told_line letter i (net_told x) (net_told y)) }
     {
-        self.push(letter);
-        self.number(i);
-        self.net(x);
-        self.net(y);
-        self.push(b'\n');
+        let out = &mut *self.out;
+        let at = put_byte(out, self.used, letter);
+        let at = put_number(out, at, i);
+        let at = put_net(out, at, x);
+        let at = put_net(out, at, y);
+        self.used = put_byte(out, at, b'\n');
     }
 }

@@ -1,18 +1,7 @@
-use Rattle.std.proofs.Common.{arith}
-use Rattle.lines.specs.Puts.{put-length, put-told}
+use Rattle.std.proofs.Common.{refl}
+use Rattle.lines.specs.Places.{put-told}
+use Rattle.lines.specs.Puts.{within-of}
 use Rattle.lines.proofs.Text.told.Goals as goal
 
-pub net-requires : goal.net-requires
-net-requires c = omega (arith, c.requires, put-length c.push.ensures, put-length c.number.ensures.put, c.push.ensures.next, c.number.ensures.few)
-
-pub net-requires-2 : goal.net-requires-2
-net-requires-2 c =
-    omega (arith, c.requires, put-length c.push.ensures, put-length c.number.ensures.put, put-length c.net.ensures.put, c.push.ensures.next, c.number.ensures.few, c.net.ensures.few)
-
-pub push-requires-2 : goal.push-requires-2
-push-requires-2 c =
-    omega
-    (arith, c.requires, put-length c.push.ensures, put-length c.number.ensures.put, put-length c.net.ensures.put, put-length c.net-2.ensures.put, c.push.ensures.next, c.number.ensures.few, c.net.ensures.few, c.net-2.ensures.few)
-
 pub returns : goal.returns
-returns c = put-told _ _ _ _ c.push.ensures c.number.ensures c.net.ensures c.net-2.ensures c.push-2.ensures
+returns c = within-of (put-told _ _ _ _ c.put_byte-at.ensures c.put_number-at.ensures c.put_net-at.ensures c.put_net-at-2.ensures c.put_byte-self.ensures) refl

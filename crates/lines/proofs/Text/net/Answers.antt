@@ -1,9 +1,0 @@
-use Rattle.std.proofs.Common.{rules}
-use Rattle.lines.specs.Puts.{put-known, put-unknown}
-use Rattle.lines.proofs.Text.net.Goals as goal
-
-pub returns-in-Some : goal.returns-in-Some
-returns-in-Some c = rw c.in-Some.is (put-known (search rules) c.signed.ensures)
-
-pub returns-in-None : goal.returns-in-None
-returns-in-None c = rw c.in-None.is (put-unknown c.push.ensures c.push-in-None.ensures)
