@@ -155,5 +155,9 @@ fn holding(e: Entry, level: u32, g: Option<Group>, f: Entry) -> u32
 pub fn sizes(es: [Entry; State::ROWS], e: Entry, level: u32, g: Option<Group>) -> [u32; State::ROWS]
     ensures { result ≡ sizes es e level (group_number g) }
 {
-    es.map(|f| holding(e, level, g, f))
+    let mut xs = [0; State::ROWS];
+    for (i, f) in es.iter().enumerate() {
+        xs[i] = holding(e, level, g, *f);
+    }
+    xs
 }

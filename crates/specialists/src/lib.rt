@@ -60,9 +60,12 @@ pub fn share_beside(
     requires { (r ≤ 9999) × AtMost 9999 xs }
     ensures { result ≡ share_beside (unwrap_or k table_rows) percentage r xs }
 {
-    let t = total(xs);
     match k {
-        Some(k) if k < State::ROWS && r < t => {
+        Some(k) if k < State::ROWS => {
+            let t = total(xs);
+            if t <= r {
+                return share(r, xs);
+            }
             let q = r.min(specialist_portion(percentage, r, t, xs[k]));
             beside(k, q, r, xs)
         }

@@ -2,19 +2,20 @@
 use Rattle.std.specs.Prelude.{◌≡◌, refl, Bool, true, false, ℕ, suc, ◌+◌, ◌^◌, ◌≤◌, ◌<◌, min, set, replicate}
 use Rattle.std.proofs.Math.Path.{sym, ap}
 use Rattle.std.proofs.Common.{◌∙◌, add-one, arith, length-append}
+use Rattle.std.proofs.Math.Logic.{⊎_elim}
 use mathlib.Core.List.{List, [], ◌∷◌, ◌++◌, append-nil}
 use borrow.Author.Tests.{lt-ltb, le-ltb, ltb-true, ltb-false, ne_eqb, eqb-true, eqb-false}
 use Rattle.std.specs.Int.Count.{ones}
 use Rattle.std.proofs.Math.Dec.{eqb, ltb}
-use Rattle.std.proofs.Math.ListN.{length, get_or}
+use Rattle.std.proofs.Math.ListN.{length, get_or, get_or-eq_default}
 use Rattle.std.proofs.lemmas.List.{take-append-le}
 use Rattle.base.specs.Pick.{pick, pick_all, pick-by, pick_true, pick-false}
-use Rattle.base.specs.Walks.{first_n, join_n, sum-le, sum-zero}
+use Rattle.base.specs.Walks.{table, first_n, join_n, table-slot, length-table, first-same, sum-le, sum-zero, lt-or-le}
 use Rattle.base.specs.Sets.{has, bit_at, set_n}
-use Rattle.base.specs.SetLaws.{set-lt, set-has, has-ext, has-add, add-lt, size-set, size-ones}
+use Rattle.base.specs.SetLaws.{set-lt, set-has, set_same, has-ext, has-add, add-lt, size-set, size-ones}
 use Rattle.rules.specs.declared.Leg.{Leg}
 use Rattle.rules.specs.State.{no_leg, no_specialist}
-use Rattle.rules.specs.Strategies.{series_of, in_series, place_of, present, legs_of, by_series, padded, series_set, lowest_terms, defined}
+use Rattle.rules.specs.Strategies.{divided_at, divisor, series_of, in_series, place_of, present, legs_of, by_series, padded, series_set, lowest_terms, defined}
 use Rattle.tables.specs.Padded.{pad-take, pad-set}
 
 -- the set with a series
@@ -82,6 +83,11 @@ module _ (legs : List Leg) (n s : ℕ) {rows : List Leg} {used : ℕ} (g : Order
       let f : legs_of legs n s ≡ [] = pick-false _ _ _ t in
       rw (add-one s) (record { filled = rw (f, append-nil) g.filled; many = rw (f, append-nil) g.many })
 
+  -- the set says which series have one
+  pub order_skip : {x : ℕ} → x ≡ series_set legs n → s < 32 → has x s ≡ false → Ordering legs n (s + 1) rows used
+  unfolding series_set
+  order_skip e l t = order_pass (sym (set-has (present legs n) 32 s l) ∙ ap (λ (z : ℕ). has z s) (sym e) ∙ t)
+
 pub order_all : (legs : List Leg) (n s : ℕ) {rows : List Leg} {used : ℕ} → s ≡ 32 → Ordering legs n s rows used → rows ≡ padded (by_series legs n)
 unfolding by_series
 order_all legs n s e g = rw e at g.filled
@@ -148,6 +154,26 @@ set_next legs i {x} e g =
     ∙ sym (present-more legs i s) ∙ sym (set-has (present legs (suc i)) 32 s h)))
 
 -- THE STRATEGY
+
+module _ (legs : List Leg) (n : ℕ) (six : length legs ≡ 6) where
+  -- the series in lowest terms are the same
+  series-same : (i : ℕ) → series_of (lowest_terms legs n) i ≡ series_of legs i
+  unfolding lowest_terms
+  series-same i =
+      ⊎_elim (λ h. ap (λ (x : Leg). x.series) (table-slot (divided_at legs (divisor legs n)) no_leg 6 i h))
+      (λ h. ap (λ (x : Leg). x.series)
+      (get_or-eq_default (table (divided_at legs (divisor legs n)) 6) no_leg (omega (arith, length-table (divided_at legs (divisor legs n)) 6)) ∙ sym (get_or-eq_default legs no_leg (omega arith))))
+      (lt-or-le i 6)
+
+  set-lowest : series_set (lowest_terms legs n) n ≡ series_set legs n
+  unfolding series_set place_of
+  set-lowest =
+      set_same _ _ 32
+      (λ s h. ap (λ (x : ℕ). ltb x n) (first-same _ _ n (λ i l. ap (λ (x : ℕ). eqb x s) (series-same i))))
+
+  -- the set is that of the legs in lowest terms
+  pub set-of-lowest : {low : List Leg} {x : ℕ} → low ≡ lowest_terms legs n → x ≡ series_set legs n → x ≡ series_set low n
+  set-of-lowest e g = g ∙ sym (ap (λ (ls : List Leg). series_set ls n) e ∙ set-lowest)
 
 -- the strategy by its parts
 pub defined-is : (legs : List Leg) (n : ℕ) {low rows : List Leg} {x : ℕ} → low ≡ lowest_terms legs n → x ≡ series_set legs n → rows ≡ padded (by_series low n)

@@ -34,17 +34,20 @@ fn series_set(legs: [Leg; 6], count: usize) -> u32
     x
 }
 
-// The legs by rising series, empty ones behind them.
-fn by_series(legs: [Leg; 6], count: usize) -> [Leg; 6]
+// The legs of the series in that set, by rising series, empty ones behind them.
+fn by_series(legs: [Leg; 6], count: usize, series: u32) -> [Leg; 6]
+    requires { series ≡ series_set legs count }
     ensures { result ≡ padded (by_series legs count) }
 {
     let mut rows = [NO_LEG; 6];
     let mut used: usize = 0;
     for s in 0..32u8 {
-        if let Some(at) = place_of(legs, count, s) {
-            if used < 6 {
-                rows[used] = leg_at(legs, at);
-                used += 1;
+        if has(series, s) {
+            if let Some(at) = place_of(legs, count, s) {
+                if used < 6 {
+                    rows[used] = leg_at(legs, at);
+                    used += 1;
+                }
             }
         }
     }
@@ -57,7 +60,7 @@ pub fn defined(legs: [Leg; 6], count: usize) -> Strategy
 {
     let series = series_set(legs, count);
     Strategy {
-        legs: by_series(lowest_terms(legs, count), count),
+        legs: by_series(lowest_terms(legs, count), count, series),
         count: u32::count_ones(series) as u8,
         series,
         starter: 0,

@@ -1,10 +1,14 @@
-use Rattle.std.proofs.Common.{rules}
-use Rattle.rules.specs.State.{no_entry}
-use Rattle.rules.specs.Passes.{holding, sizes}
-use Rattle.quotas.specs.Groups.{group_number}
-use Rattle.base.specs.Maps.{map-slots}
+use native.Mathlib.Omega.{arith}
+use Rattle.base.specs.Walks.{stored-first, stored_next, stored_last}
+use Rattle.rules.specs.Passes.{sizes}
 use Rattle.quotas.proofs.sizes.Goals as goal
+
+pub loop-i-init : goal.loop-i-init
+loop-i-init c = stored-first 32 _
+
+pub loop-i-preserved : goal.loop-i-preserved
+loop-i-preserved c = stored_next 32 _ c.loop-i-test.true c.holding.ensures c.loop-i.invariant
 
 pub returns : goal.returns
 unfolding sizes
-returns c = map-slots _ (holding c.args.e c.args.level (group_number c.args.g)) _ (λ x y q k. search rules) _ _ no_entry 32 c.map.ensures.items
+returns c = stored_last 32 _ (omega arith) c.loop-i.invariant
