@@ -1,7 +1,6 @@
 -- Depth over the book's own table, and the laws of the lookups.
 use Rattle.nets.specs.Bests.{if_priced}
-use Rattle.std.specs.Prelude.{◌≡◌, Bool, List, [], ◌∷◌, ℕ, ◌≤◌, ◌<◌, eqb, ltb, get_or, length, true, false, not, Option, None, Some, Ok, Err}
-use Rattle.std.specs.Bool.{then_some}
+use Rattle.std.specs.Prelude.{◌≡◌, Bool, List, [], ◌∷◌, ℕ, ◌≤◌, ◌<◌, eqb, ltb, get_or, length, true, false, Option, None, Some, Ok, Err}
 use Rattle.std.proofs.lemmas.List.{same_lists}
 use Rattle.std.specs.List.{sum_by}
 use Rattle.std.proofs.Math.Path.{refl, ap}

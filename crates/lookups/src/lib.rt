@@ -88,7 +88,10 @@ pub fn depth(os: [LegOrder; State::LEG_ORDERS], s: u32, side: u32) -> Result<Opt
     if 31 < s || 1 < side {
         return Err(Refusal::BadField);
     }
-    Ok(best_of(os, s as u8, side as u8))
+    let Some(Best { price, contracts }) = best_of(os, s as u8, side as u8) else {
+        return Ok(None);
+    };
+    Ok(Some(Best { price, contracts }))
 }
 
 // A leg order as an order entry. It is no `From`, which only the crate of both types, that of the rules, may write.
