@@ -7,7 +7,7 @@ ghost use Rattle.events.specs.Rows.{row_of, leg_from, event_of, length_in, fitti
 use events::kinds::length_of;
 use events::table::{fields_of, filled, fit};
 use events::{
-    Cancel, Clock, DayEnd, Event, Kind, Leg, LegOrder, Legs, National, Order, Range, Series,
+    Cancel, Clock, DayEnd, Event, Kind, Leg, LegOrder, Legs, National, Order, Range, Refusal, Series,
     Specialist, Strategy, Sweep,
 };
 
@@ -42,12 +42,12 @@ pub fn row_of(event: Event) -> [u32; 19]
     }
 }
 
-// The event of a kind with these values.
-pub fn event_of(kind: Kind, row: [u32; 19]) -> Event
+// The event of a kind with these values, or the refusal of the unknown kind.
+pub fn event_of(kind: Kind, row: [u32; 19]) -> Result<Event, Refusal>
     ensures { result ≡ event_of kind row }
 {
     match kind {
-        Kind::Strategy => Event::Strategy(Strategy {
+        Kind::Strategy => Ok(Event::Strategy(Strategy {
             count: row[0],
             legs: Legs(
                 leg_at(row, 1),
@@ -57,8 +57,8 @@ pub fn event_of(kind: Kind, row: [u32; 19]) -> Event
                 leg_at(row, 13),
                 leg_at(row, 16),
             ),
-        }),
-        Kind::Order => Event::Order(Order {
+        })),
+        Kind::Order => Ok(Event::Order(Order {
             member: row[0],
             strategy: row[1],
             side: row[2],
@@ -66,42 +66,43 @@ pub fn event_of(kind: Kind, row: [u32; 19]) -> Event
             life: row[4],
             units: row[5],
             level: row[6],
-        }),
-        Kind::Sweep => Event::Sweep(Sweep {
+        })),
+        Kind::Sweep => Ok(Event::Sweep(Sweep {
             member: row[0],
             strategy: row[1],
             side: row[2],
             units: row[3],
             level: row[4],
-        }),
-        Kind::LegOrder => Event::LegOrder(LegOrder {
+        })),
+        Kind::LegOrder => Ok(Event::LegOrder(LegOrder {
             member: row[0],
             series: row[1],
             side: row[2],
             contracts: row[3],
             price: row[4],
-        }),
-        Kind::Cancel => Event::Cancel(Cancel {
+        })),
+        Kind::Cancel => Ok(Event::Cancel(Cancel {
             member: row[0],
             number: row[1],
-        }),
-        Kind::Series => Event::Series(Series {
+        })),
+        Kind::Series => Ok(Event::Series(Series {
             series: row[0],
             state: row[1],
-        }),
-        Kind::Clock => Event::Clock(Clock { time: row[0] }),
-        Kind::DayEnd => Event::DayEnd(DayEnd { timer: row[0] }),
-        Kind::National => Event::National(National {
+        })),
+        Kind::Clock => Ok(Event::Clock(Clock { time: row[0] })),
+        Kind::DayEnd => Ok(Event::DayEnd(DayEnd { timer: row[0] })),
+        Kind::National => Ok(Event::National(National {
             series: row[0],
             bid: row[1],
             offer: row[2],
-        }),
-        Kind::Range => Event::Range(Range { range: row[0] }),
-        Kind::Specialist => Event::Specialist(Specialist {
+        })),
+        Kind::Range => Ok(Event::Range(Range { range: row[0] })),
+        Kind::Specialist => Ok(Event::Specialist(Specialist {
             member: row[0],
             strategy: row[1],
             percentage: row[2],
-        }),
+        })),
+        Kind::Unknown => Err(Refusal::BadFrame),
     }
 }
 

@@ -1,10 +1,10 @@
 -- Laws by cases on the kinds: events and rows, kinds and numbers.
-use Rattle.std.specs.Prelude.{◌≡◌, ℕ, ◌+◌, ◌%◌, ◌^◌, ◌<◌, ◌≤◌, List, length, ◌==◌, refl, Result, Ok, Err}
-use Rattle.std.proofs.Common.{sym, arith, eqb-true}
+use Rattle.std.specs.Prelude.{◌≡◌, ℕ, ◌+◌, ◌%◌, ◌^◌, ◌<◌, ◌≤◌, List, length, replicate, ◌==◌, ◌≢◌, refl, Result, Ok, Err}
+use Rattle.std.proofs.Common.{sym, ap, ◌∙◌, arith, eqb-true}
 use Rattle.base.specs.Pick.{pick, pick-by, pick_all}
 use Rattle.events.specs.Fields.{high, bias, raw_of}
-use Rattle.events.specs.Kinds.{kind_of, code_of}
-use Rattle.events.specs.Rows.{kind_in, row_of, event_of}
+use Rattle.events.specs.Kinds.{kind_of, known_or, kind_or_unknown, code_of, length_of}
+use Rattle.events.specs.Rows.{kind_in, row_of, event_of, of_kind, reading_number}
 use Rattle.events.specs.Laws.{Sound}
 use Rattle.events.specs.declared.Refusal.{Refusal}
 use Rattle.events.specs.declared.Refusal.TheVariants as F
@@ -14,7 +14,7 @@ use Rattle.events.specs.declared.Kind.TheVariants as K
 use Rattle.events.specs.declared.Event.{Event}
 use Rattle.events.specs.declared.Event.TheVariants as E
 
-pub event-row : (e : Event) → event_of (kind_in e) (row_of e) ≡ e
+pub event-row : (e : Event) → event_of (kind_in e) (row_of e) ≡ Ok e
 event-row (E.Strategy e) = refl
 event-row (E.Order e) = refl
 event-row (E.Sweep e) = refl
@@ -66,8 +66,19 @@ code_lt K.DayEnd = omega arith
 code_lt K.National = omega arith
 code_lt K.Range = omega arith
 code_lt K.Specialist = omega arith
+code_lt K.Unknown = omega arith
 
-pub kind-back : (k : Kind) (v : List ℕ) → kind_in (event_of k v) ≡ k
+-- the kind of what was read, the unknown one where it was refused
+abbrev pub kind_read : Result Event Refusal → Kind
+kind_read (Ok e) = kind_in e
+kind_read (Err r) = K.Unknown
+
+-- and its row, of zeros where it was refused
+abbrev pub row_read : Result Event Refusal → List ℕ
+row_read (Ok e) = row_of e
+row_read (Err r) = replicate 19 0
+
+pub kind-back : (k : Kind) (v : List ℕ) → kind_read (event_of k v) ≡ k
 kind-back K.Strategy v = refl
 kind-back K.Order v = refl
 kind-back K.Sweep v = refl
@@ -79,6 +90,50 @@ kind-back K.DayEnd v = refl
 kind-back K.National v = refl
 kind-back K.Range v = refl
 kind-back K.Specialist v = refl
+kind-back K.Unknown v = refl
+
+-- an event that a kind gives is of that kind
+pub kind-made : (k : Kind) (v : List ℕ) {e : Event} → event_of k v ≡ Ok e → kind_in e ≡ k
+kind-made k v h = ap kind_read (sym h) ∙ kind-back k v
+
+pub answer-event : (k : Kind) (v : List ℕ) (n : ℕ) → 4 ≤ length_of k n → reading_number (event_of k v) ≡ 0
+unfolding length_of pick
+answer-event K.Strategy v n h = refl
+answer-event K.Order v n h = refl
+answer-event K.Sweep v n h = refl
+answer-event K.LegOrder v n h = refl
+answer-event K.Cancel v n h = refl
+answer-event K.Series v n h = refl
+answer-event K.Clock v n h = refl
+answer-event K.DayEnd v n h = refl
+answer-event K.National v n h = refl
+answer-event K.Range v n h = refl
+answer-event K.Specialist v n h = refl
+answer-event K.Unknown v n h = absurd (omega arith)
+
+-- no frame is as long as the unknown kind
+pub unknown-zero : (n : ℕ) → length_of K.Unknown n ≡ 0
+unfolding length_of pick
+unknown-zero n = refl
+
+-- a known kind gives an event
+pub known-event : (k : Kind) (v : List ℕ) → (k ≢ K.Unknown) → (e : Event) × (event_of k v ≡ Ok e)
+known-event K.Strategy v u = (_, refl)
+known-event K.Order v u = (_, refl)
+known-event K.Sweep v u = (_, refl)
+known-event K.LegOrder v u = (_, refl)
+known-event K.Cancel v u = (_, refl)
+known-event K.Series v u = (_, refl)
+known-event K.Clock v u = (_, refl)
+known-event K.DayEnd v u = (_, refl)
+known-event K.National v u = (_, refl)
+known-event K.Range v u = (_, refl)
+known-event K.Specialist v u = (_, refl)
+known-event K.Unknown v u = absurd (u refl)
+
+-- so does one that a frame can have
+pub event-is : (k : Kind) (v : List ℕ) (n : ℕ) → 4 ≤ length_of k n → (e : Event) × (event_of k v ≡ Ok e)
+event-is k v n h = known-event k v (λ u. let l : 4 ≤ length_of K.Unknown n = rw u at h in omega (arith, l, unknown-zero n))
 
 -- a number that is a kind's is its code
 pub code-kind : (x : ℕ) {k : Kind} → kind_of x ≡ Ok k → code_of k ≡ x
@@ -104,6 +159,18 @@ code-kind x {k} =
     no : {k : Kind} → ◌≡◌ {A = Result Kind Refusal} (Err F.BadFrame) (Ok k) → code_of k ≡ x
     no e = absurd (let z : ◌≡◌ {A = ℕ} 0 1 = cc in omega arith)
 
+-- and no number's kind is the unknown one
+pub kind-known : (x : ℕ) {k : Kind} → kind_of x ≡ Ok k → k ≢ K.Unknown
+unfolding kind_of pick
+kind-known x {k} q u =
+    let z : 0 ≡ x = ap code_of (sym u) ∙ code-kind x q in
+    let p : kind_of 0 ≡ Ok k = rw (← z) at q in
+    absurd (let w : ◌≡◌ {A = ℕ} 0 1 = cc in omega arith)
+
+-- nor an event's
+pub event-known : (e : Event) → kind_in e ≢ K.Unknown
+event-known e = kind-known _ (kind-code e)
+
 -- a number of no kind is refused 2
 pub kind-refused : (x : ℕ) {r : Refusal} → kind_of x ≡ Err r → r ≡ F.BadFrame
 unfolding kind_of
@@ -124,6 +191,41 @@ kind-refused x {r} =
   where
     no : (j : Kind) {r : Refusal} → ◌≡◌ {A = Result Kind Refusal} (Ok j) (Err r) → r ≡ F.BadFrame
     no j e = absurd (let z : ◌≡◌ {A = ℕ} 0 1 = cc in omega arith)
+
+-- each kind is that of its code, the unknown one too
+pub code-round : (k : Kind) → kind_or_unknown (code_of k) ≡ k
+unfolding kind_of pick
+code-round K.Strategy = refl
+code-round K.Order = refl
+code-round K.Sweep = refl
+code-round K.LegOrder = refl
+code-round K.Cancel = refl
+code-round K.Series = refl
+code-round K.Clock = refl
+code-round K.DayEnd = refl
+code-round K.National = refl
+code-round K.Range = refl
+code-round K.Specialist = refl
+code-round K.Unknown = refl
+
+pub event-code : (e : Event) → kind_or_unknown (code_of (kind_in e)) ≡ kind_in e
+event-code e = code-round (kind_in e)
+
+-- a number that a frame can have for its kind is that kind's code
+pub code-known : (x n : ℕ) → 4 ≤ length_of (kind_or_unknown x) n → code_of (kind_or_unknown x) ≡ x
+code-known x n = by (kind_of x) refl
+  where
+    by : (r : Result Kind Refusal) → kind_of x ≡ r → 4 ≤ length_of (known_or r) n → code_of (known_or r) ≡ x
+    by (Ok k) q h = code-kind x q
+    by (Err r) q h = absurd (omega (arith, h, unknown-zero n))
+
+-- the unknown kind gives what a number of no kind does
+pub of-unknown : (x : ℕ) (v : List ℕ) → of_kind (kind_of x) (λ k. event_of k v) ≡ event_of (kind_or_unknown x) v
+of-unknown x v = by (kind_of x) refl
+  where
+    by : (r : Result Kind Refusal) → kind_of x ≡ r → of_kind r (λ k. event_of k v) ≡ event_of (known_or r) v
+    by (Ok k) q = refl
+    by (Err r) q = ap Err (kind-refused x q)
 
 -- A value and its number in the frame.
 

@@ -22,6 +22,15 @@ kind_of n =
     (pick (n == 10) (Ok K.Range)
     (pick (n == 11) (Ok K.Specialist) (Err F.BadFrame)))))))))))
 
+-- the kind that was found, or that of no frame
+abbrev pub known_or : Result Kind Refusal → Kind
+known_or (Ok k) = k
+known_or (Err r) = K.Unknown
+
+-- the kind of a number, the unknown one where it is no kind's
+abbrev pub kind_or_unknown : ℕ → Kind
+kind_or_unknown n = known_or (kind_of n)
+
 -- "1 strategy", "2 complex order", "3 sweep", "4 leg order", "5 cancel", "6 series", "7 clock", "8 day end",
 -- "Kind 9 carries series, national bid (4) and offer (4)", "Kind 10 carries the range in cents (2)",
 -- "Kind 11 names a member (2) and a strategy (1)"
@@ -37,8 +46,9 @@ code_of K.DayEnd = 8
 code_of K.National = 9
 code_of K.Range = 10
 code_of K.Specialist = 11
+code_of K.Unknown = 0
 
--- "Length 16", and so on for each kind; a strategy's without its legs
+-- "Length 16", and so on for each kind; a strategy's without its legs; 0, which no frame of 4 bytes has, for an unknown kind
 abbrev pub fixed_of : Kind → ℕ
 fixed_of K.Strategy = 5
 fixed_of K.Order = 16
@@ -51,6 +61,7 @@ fixed_of K.DayEnd = 6
 fixed_of K.National = 13
 fixed_of K.Range = 6
 fixed_of K.Specialist = 8
+fixed_of K.Unknown = 0
 
 -- "Length 5 + 3 × count for every count byte", n being the first field; the fixed length for the other kinds
 unfoldable pub length_of : Kind → ℕ → ℕ
@@ -68,3 +79,4 @@ fixed-le K.DayEnd = omega arith
 fixed-le K.National = omega arith
 fixed-le K.Range = omega arith
 fixed-le K.Specialist = omega arith
+fixed-le K.Unknown = omega arith

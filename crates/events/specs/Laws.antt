@@ -41,6 +41,7 @@ sound-table K.DayEnd = refl
 sound-table K.National = refl
 sound-table K.Range = refl
 sound-table K.Specialist = refl
+sound-table K.Unknown = refl
 
 thinb : List Field → Bool
 thinb [] = true
@@ -129,6 +130,7 @@ offset-fits K.DayEnd n h = omega arith
 offset-fits K.National n h = omega arith
 offset-fits K.Range n h = omega arith
 offset-fits K.Specialist n h = omega arith
+offset-fits K.Unknown n h = omega arith
 
 -- the fields fill the frame, where a strategy's count is at most six
 pub record FillsFrame (k : Kind) (n : ℕ) : Type 0 where
@@ -159,6 +161,7 @@ exact K.DayEnd n s h = record { whole = refl; short = omega arith }
 exact K.National n s h = record { whole = refl; short = omega arith }
 exact K.Range n s h = record { whole = refl; short = omega arith }
 exact K.Specialist n s h = record { whole = refl; short = omega arith }
+exact K.Unknown n s h = absurd (omega arith)
 
 pub four-le : (e : Event) (n : ℕ) → 4 ≤ length_of (kind_in e) n
 unfolding length_of pick
@@ -188,6 +191,7 @@ field-same K.DayEnd a b h = refl
 field-same K.National a b h = refl
 field-same K.Range a b h = refl
 field-same K.Specialist a b h = refl
+field-same K.Unknown a b h = refl
 
 pub length-same : (k : Kind) (a b : ℕ) → (k ≡ K.Strategy → a ≡ b) → length_of k a ≡ length_of k b
 unfolding length_of pick
@@ -202,6 +206,7 @@ length-same K.DayEnd a b h = refl
 length-same K.National a b h = refl
 length-same K.Range a b h = refl
 length-same K.Specialist a b h = refl
+length-same K.Unknown a b h = refl
 
 -- the fields as the code passes them
 pub layout_is : (k : Kind) (n : ℕ) {fs : List Field} {m : ℕ} → fs ≡ fields_of k → m ≡ length_of k n - 4 → layout fs m ≡ layout_of k n
@@ -278,7 +283,7 @@ strategy-fields n i =
     let e : 5 + 3 * n - 4 ≡ 1 + 3 * n = omega arith in
     rw e
 
--- a frame of another kind has all the fields of its table
+-- a frame of another kind has all the fields of its table, of which the unknown one has none
 pub fixed-fields : (k : Kind) → (k ≢ K.Strategy) → (n i : ℕ) → layout_of k n i ≡ slice_index_or (fields_of k) i none
 unfolding layout_of length_of pick
 fixed-fields K.Strategy s n i = absurd (s refl)
@@ -292,3 +297,4 @@ fixed-fields K.DayEnd s n i = present-all _ 2 17 refl i
 fixed-fields K.National s n i = present-all _ 9 10 refl i
 fixed-fields K.Range s n i = present-all _ 2 17 refl i
 fixed-fields K.Specialist s n i = present-all _ 4 15 refl i
+fixed-fields K.Unknown s n i = present-all _ 0 19 refl i

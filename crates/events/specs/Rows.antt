@@ -5,6 +5,7 @@ use Rattle.events.specs.Kinds.{length_of}
 use Rattle.events.specs.Refusals.{refusal_number}
 use Rattle.events.specs.Table.{layout_of}
 use Rattle.events.specs.declared.Refusal.{Refusal}
+use Rattle.events.specs.declared.Refusal.TheVariants as F
 use Rattle.events.specs.declared.Field.{Field}
 use Rattle.events.specs.declared.Kind.{Kind}
 use Rattle.events.specs.declared.Kind.TheVariants as K
@@ -48,23 +49,24 @@ row_of (E.Specialist e) = e.member ∷ e.strategy ∷ e.percentage ∷ replicate
 abbrev pub leg_from : List ℕ → ℕ → Leg
 leg_from v i = record { series = slice_index v i; side = slice_index v (i + 1); ratio = slice_index v (i + 2) }
 
--- the event of a kind with these values
-abbrev pub event_of : Kind → List ℕ → Event
-event_of K.Strategy v = E.Strategy (record { count = slice_index v 0; legs = (leg_from v 1, leg_from v 4, leg_from v 7, leg_from v 10, leg_from v 13, leg_from v 16) })
-event_of K.Order v = E.Order (record { member = slice_index v 0; strategy = slice_index v 1; side = slice_index v 2; class = slice_index v 3; life = slice_index v 4; units = slice_index v 5; level = slice_index v 6 })
-event_of K.Sweep v = E.Sweep (record { member = slice_index v 0; strategy = slice_index v 1; side = slice_index v 2; units = slice_index v 3; level = slice_index v 4 })
-event_of K.LegOrder v = E.LegOrder (record { member = slice_index v 0; series = slice_index v 1; side = slice_index v 2; contracts = slice_index v 3; price = slice_index v 4 })
-event_of K.Cancel v = E.Cancel (record { member = slice_index v 0; number = slice_index v 1 })
-event_of K.Series v = E.Series (record { series = slice_index v 0; state = slice_index v 1 })
-event_of K.Clock v = E.Clock (record { time = slice_index v 0 })
-event_of K.DayEnd v = E.DayEnd (record { timer = slice_index v 0 })
-event_of K.National v = E.National (record { series = slice_index v 0; bid = slice_index v 1; offer = slice_index v 2 })
-event_of K.Range v = E.Range (record { range = slice_index v 0 })
-event_of K.Specialist v = E.Specialist (record { member = slice_index v 0; strategy = slice_index v 1; percentage = slice_index v 2 })
+-- the event of a kind with these values; "unknown kind" is refused 2
+abbrev pub event_of : Kind → List ℕ → Result Event Refusal
+event_of K.Strategy v = Ok (E.Strategy (record { count = slice_index v 0; legs = (leg_from v 1, leg_from v 4, leg_from v 7, leg_from v 10, leg_from v 13, leg_from v 16) }))
+event_of K.Order v = Ok (E.Order (record { member = slice_index v 0; strategy = slice_index v 1; side = slice_index v 2; class = slice_index v 3; life = slice_index v 4; units = slice_index v 5; level = slice_index v 6 }))
+event_of K.Sweep v = Ok (E.Sweep (record { member = slice_index v 0; strategy = slice_index v 1; side = slice_index v 2; units = slice_index v 3; level = slice_index v 4 }))
+event_of K.LegOrder v = Ok (E.LegOrder (record { member = slice_index v 0; series = slice_index v 1; side = slice_index v 2; contracts = slice_index v 3; price = slice_index v 4 }))
+event_of K.Cancel v = Ok (E.Cancel (record { member = slice_index v 0; number = slice_index v 1 }))
+event_of K.Series v = Ok (E.Series (record { series = slice_index v 0; state = slice_index v 1 }))
+event_of K.Clock v = Ok (E.Clock (record { time = slice_index v 0 }))
+event_of K.DayEnd v = Ok (E.DayEnd (record { timer = slice_index v 0 }))
+event_of K.National v = Ok (E.National (record { series = slice_index v 0; bid = slice_index v 1; offer = slice_index v 2 }))
+event_of K.Range v = Ok (E.Range (record { range = slice_index v 0 }))
+event_of K.Specialist v = Ok (E.Specialist (record { member = slice_index v 0; strategy = slice_index v 1; percentage = slice_index v 2 }))
+event_of K.Unknown v = Err F.BadFrame
 
 -- what a kind gives, or the refusal of an unknown one
-abbrev pub of_kind : Result Kind Refusal → (Kind → Event) → Result Event Refusal
-of_kind (Ok k) g = Ok (g k)
+abbrev pub of_kind : Result Kind Refusal → (Kind → Result Event Refusal) → Result Event Refusal
+of_kind (Ok k) g = g k
 of_kind (Err r) g = Err r
 
 -- the fields of an event's frame

@@ -114,6 +114,7 @@ fields_of K.National = series ∷ national_price ∷ national_price ∷ replicat
 fields_of K.Range = range ∷ replicate 18 none
 -- "Kind 11 names a member (2) and a strategy (1), both as in kind 2, and a percentage (1) 0–100; length 8."
 fields_of K.Specialist = member ∷ strategy ∷ percentage ∷ replicate 16 none
+fields_of K.Unknown = replicate 19 none
 
 -- the fields of a frame of a kind whose first field is n: of its table those that the bytes past the fourth can hold, one byte each at least.
 -- So a strategy has its count and three for each leg (Laws.strategy-fields), another kind all of its table (Laws.fixed-fields)

@@ -1,6 +1,6 @@
 // The number and the length of each kind.
 ghost use Rattle.std.specs.Prelude.{◌≡◌};
-ghost use Rattle.events.specs.Kinds.{kind_of, code_of, length_of};
+ghost use Rattle.events.specs.Kinds.{kind_of, kind_or_unknown, code_of, length_of};
 ghost use Rattle.events.specs.Rows.{kind_in};
 
 use super::{Event, Kind, Refusal};
@@ -30,6 +30,13 @@ impl TryFrom<u32> for Kind {
     }
 }
 
+// The kind of a number, the unknown one where it is no kind's.
+pub fn kind_of(n: u32) -> Kind
+    ensures { result ≡ kind_or_unknown n }
+{
+    Kind::try_from(n).unwrap_or(Kind::Unknown)
+}
+
 impl From<Kind> for u32 {
     ghost from_gives = { λ k n. n ≡ code_of k };
 
@@ -46,6 +53,7 @@ impl From<Kind> for u32 {
             Kind::National => 9,
             Kind::Range => 10,
             Kind::Specialist => 11,
+            Kind::Unknown => 0,
         }
     }
 }
@@ -87,5 +95,6 @@ pub fn length_of(kind: Kind, count: u32) -> usize
         Kind::National => 13,
         Kind::Range => 6,
         Kind::Specialist => 8,
+        Kind::Unknown => 0,
     }
 }

@@ -5,7 +5,7 @@ pub mod kinds; // the number and the length of each kind
 pub mod refusals; // the number of each refusal
 pub mod table; // the fields of each kind
 
-// The kinds of frames.
+// The kinds of frames, and last what the number of no kind stands for.
 #[derive(Clone, Copy, PartialEq, Eq)]
 pub enum Kind {
     Strategy,
@@ -19,6 +19,7 @@ pub enum Kind {
     National,
     Range,
     Specialist,
+    Unknown,
 }
 
 #[derive(Clone, Copy)]

@@ -87,6 +87,7 @@ pub fn fields_of(kind: Kind) -> [Field; 19]
         Kind::National => filled([SERIES, NATIONAL_PRICE, NATIONAL_PRICE], NONE),
         Kind::Range => filled([RANGE], NONE),
         Kind::Specialist => filled([MEMBER, STRATEGY, PERCENTAGE], NONE),
+        Kind::Unknown => [NONE; 19],
     }
 }
 

@@ -27,7 +27,7 @@ fn event_in(values: &[u32]) -> Result<Event, Refusal>
     let kind = Kind::try_from(values[0])?;
     let mut row = [0; 19];
     row.copy_from_slice(&values[1..20]);
-    Ok(event_of(kind, row))
+    event_of(kind, row)
 }
 
 // The writer, with its answer as a number.

@@ -34,7 +34,7 @@ row_in k f = row_n (layout_of k (count_at f)) f 19
 
 -- the event of these values, or 3: "a field outside its range"
 unfoldable pub carried_of : Kind → List ℕ → Result Event Refusal
-carried_of k f = pick (fit_n (layout_of k (count_at f)) (row_in k f) 19) (Ok (event_of k (row_in k f))) (Err F.BadField)
+carried_of k f = pick (fit_n (layout_of k (count_at f)) (row_in k f) 19) (event_of k (row_in k f)) (Err F.BadField)
 
 -- the value of a field at the place a, or 3
 unfoldable pub field_at : Field → List ℕ → ℕ → Result ℕ Refusal
@@ -46,8 +46,8 @@ with_value (Ok v) g = g v
 with_value (Err r) g = Err r
 
 -- what is made of the values of fields one after the other from the place a, or 3
-abbrev pub from_fields : List Field → List ℕ → ℕ → (List ℕ → Event) → Result Event Refusal
-from_fields [] f a g = Ok (g [])
+abbrev pub from_fields : List Field → List ℕ → ℕ → (List ℕ → Result Event Refusal) → Result Event Refusal
+from_fields [] f a g = g []
 from_fields (x ∷ xs) f a g = with_value (field_at x f a) (λ v. from_fields xs f (a + width x) (λ vs. g (v ∷ vs)))
 
 -- the event of the first n fields of a kind's table, each read at its place
@@ -67,6 +67,7 @@ carried_by K.DayEnd f = placed_of K.DayEnd 1 f
 carried_by K.National f = placed_of K.National 3 f
 carried_by K.Range f = placed_of K.Range 1 f
 carried_by K.Specialist f = placed_of K.Specialist 3 f
+carried_by K.Unknown f = placed_of K.Unknown 0 f
 
 -- laws
 
@@ -102,8 +103,8 @@ one-more false true v g = refl
 one-more false false v g = refl
 
 -- reading them one by one is reading all and testing them
-one-by-one : (xs : List Field) (f : List ℕ) (a : ℕ) (ok : Bool) (g : List ℕ → Event) →
-    pick (fit_at f xs a ok) (Ok (g (values_at f xs a))) (Err F.BadField) ≡ pick ok (from_fields xs f a g) (Err F.BadField)
+one-by-one : (xs : List Field) (f : List ℕ) (a : ℕ) (ok : Bool) (g : List ℕ → Result Event Refusal) →
+    pick (fit_at f xs a ok) (g (values_at f xs a)) (Err F.BadField) ≡ pick ok (from_fields xs f a g) (Err F.BadField)
 unfolding field_at
 one-by-one [] f a ok g = refl
 one-by-one (x ∷ xs) f a ok g =
@@ -111,7 +112,7 @@ one-by-one (x ∷ xs) f a ok g =
     ∙ one-more (holds x (value_at x f a)) ok (value_at x f a) (λ v. from_fields xs f (a + width x) (λ vs. g (v ∷ vs)))
 
 placed : (k : Kind) (n : ℕ) (f : List ℕ) →
-    placed_of k n f ≡ pick (fit_at f (take n (fields_of k)) 4 true) (Ok (event_of k (values_at f (take n (fields_of k)) 4))) (Err F.BadField)
+    placed_of k n f ≡ pick (fit_at f (take n (fields_of k)) 4 true) (event_of k (values_at f (take n (fields_of k)) 4)) (Err F.BadField)
 unfolding pick
 placed k n f = sym (one-by-one (take n (fields_of k)) f 4 true (event_of k))
 
@@ -128,6 +129,7 @@ carried-by K.DayEnd f = placed K.DayEnd 1 f
 carried-by K.National f = placed K.National 3 f
 carried-by K.Range f = placed K.Range 1 f
 carried-by K.Specialist f = placed K.Specialist 3 f
+carried-by K.Unknown f = placed K.Unknown 0 f
 
 -- for a kind that was found to be j
 pub carried-as : {k j : Kind} (f : List ℕ) → k ≡ j → carried_by j f ≡ carried_of k f

@@ -94,7 +94,7 @@ module _ (f : List ℕ) where
   unfolding read_of
   read-kind n = search tests
 
-  pub read-event : {k : Kind} → kind_at f ≡ Ok k → judge_of f ≡ 0 → read_of f ≡ Ok (event_of k (row_at k f))
+  pub read-event : {k : Kind} → kind_at f ≡ Ok k → judge_of f ≡ 0 → read_of f ≡ event_of k (row_at k f)
   read-event q n = read-kind n ∙ rw q
 
   -- the outcomes of reading
@@ -130,7 +130,7 @@ module _ (k : Kind) (f : List ℕ) (w : Whole k f) {fs : List Field} (e : fs ≡
   pub table-room : (offset (layout fs (length f - 4)) 19 ≤ length f) × Narrow (layout fs (length f - 4))
   table-room = rw table-layout (whole_room k f w, narrow _ _)
 
-  pub table-carried : {row : List ℕ} {ok : Bool} → row ≡ row_n (layout fs (length f - 4)) f 19 → ok ≡ fit_n (layout fs (length f - 4)) row 19 → pick ok (Ok (event_of k row)) (Err F.BadField) ≡ carried_of k f
+  pub table-carried : {row : List ℕ} {ok : Bool} → row ≡ row_n (layout fs (length f - 4)) f 19 → ok ≡ fit_n (layout fs (length f - 4)) row 19 → pick ok (event_of k row) (Err F.BadField) ≡ carried_of k f
   unfolding carried_of
   table-carried r t = rw (t, r, table-layout)
 

@@ -13,7 +13,7 @@ use Rattle.events.specs.Refusals.{refusal_of, number-refusal}
 use Rattle.events.specs.Table.{count, layout_of}
 use Rattle.events.specs.Rows.{kind_in, row_of, event_of, layout_in, fitting, length_in, reading_number}
 use Rattle.events.specs.Laws.{Sound, field_is, exact, field-same, length-same, first_field, count-le, short-in, four-in}
-use Rattle.events.specs.Cases.{event-row, length-row-of, kind-code, code_lt, kind-back, code-kind, value-raw, raw-value}
+use Rattle.events.specs.Cases.{event-row, length-row-of, kind-code, code_lt, row_read, kind-made, answer-event, event-is, code-kind, value-raw, raw-value}
 use Rattle.frames.specs.Number.{number, bytes, Bytes, length-bytes, number-bytes, bytes-number, number-le}
 use Rattle.frames.specs.Bodies.{value_at, value_bytes, row_n, length-row, row-at, body_n, body_at}
 use Rattle.frames.specs.Frames.{kind_at, count_at, row_at, judge_kind, judge_of, read_of, frame_of, written_of, space_of, Wrote}
@@ -26,7 +26,7 @@ use Rattle.events.specs.declared.Kind.TheVariants as K
 use Rattle.events.specs.declared.Event.{Event}
 
 -- a row that was read is the event's
-row_back : (k : Kind) (n : ℕ) (f : List ℕ) → row_of (event_of k (row_n (layout_of k n) f 19)) ≡ row_n (layout_of k n) f 19
+row_back : (k : Kind) (n : ℕ) (f : List ℕ) → row_read (event_of k (row_n (layout_of k n) f 19)) ≡ row_n (layout_of k n) f 19
 unfolding row_n layout_of layout present_of length_of pick value_at number offset
 row_back K.Strategy n f = refl
 row_back K.Order n f = refl
@@ -39,6 +39,7 @@ row_back K.DayEnd n f = refl
 row_back K.National n f = refl
 row_back K.Range n f = refl
 row_back K.Specialist n f = refl
+row_back K.Unknown n f = refl
 
 -- Reading what was written.
 
@@ -101,7 +102,7 @@ module _ (e : Event) (t : fitting e ≡ true) where
 
   -- reading the frame of an event that fits gives that event
   pub read-written-frame : read_of (frame_of e) ≡ Ok e
-  read-written-frame = read-event (frame_of e) kind-written judge-written ∙ rw row_is (rw (event-row e))
+  read-written-frame = read-event (frame_of e) kind-written judge-written ∙ rw row_is (event-row e)
 
 -- If the writer accepts an event, reading what it wrote gives that event.
 pub read-written : (e : Event) (sp : List ℕ) (n : ℕ) → written_of e (length sp) ≡ Ok n → read_of (take n (space_of e sp)) ≡ Ok e
@@ -124,18 +125,15 @@ module _ (f : List ℕ) (b : Bytes f) (e : Event) (r : read_of f ≡ Ok e) where
   abbrev kind : Kind
   kind = (judged f zero-read).kind
 
-  made : event_of kind (row_at kind f) ≡ e
-  made = same (sym (read-event f (judged f zero-read).known zero-read) ∙ r)
-    where
-      same : {x y : Event} → ◌≡◌ {A = Result Event Refusal} (Ok x) (Ok y) → x ≡ y
-      same h = cc
+  made : event_of kind (row_at kind f) ≡ Ok e
+  made = sym (read-event f (judged f zero-read).known zero-read) ∙ r
 
   kind-read : kind_in e ≡ kind
-  kind-read = ap kind_in (sym made) ∙ kind-back kind (row_at kind f)
+  kind-read = kind-made kind (row_at kind f) made
 
   row_read_lem : row_of e ≡ row_at kind f
   unfolding row_at
-  row_read_lem = ap row_of (sym made) ∙ row_back kind (count_at f) f
+  row_read_lem = ap row_read (sym made) ∙ row_back kind (count_at f) f
 
   count-read : kind ≡ K.Strategy → slice_index (row_at kind f) 0 ≡ count_at f
   unfolding row_at offset value_at number
@@ -216,7 +214,10 @@ judge-answers f =
 
 -- 0 only where the reader gives an event
 pub judge-event : (f : List ℕ) → judge_of f ≡ 0 → (e : Event) × (read_of f ≡ Ok e)
-judge-event f z = let j = judged f z in (event_of j.kind (row_at j.kind f), read-event f j.known z)
+judge-event f z =
+    let j = judged f z in
+    let x = event-is j.kind (row_at j.kind f) (count_at f) (omega (arith, j.whole.four, j.whole.long)) in
+    (x.0, read-event f j.known z ∙ x.1)
 
 -- 0 where the reader gives an event, its refusal where it refuses
 
@@ -226,7 +227,8 @@ judge-reads f = by (judge_of f == 0) refl
     by : (t : Bool) → (judge_of f == 0) ≡ t → judge_of f ≡ reading_number (read_of f)
     by true h =
         let z : judge_of f ≡ 0 = eqb-true _ _ h in
-        rw (read-event f (judged f z).known z) z
+        let j = judged f z in
+        rw (read-event f j.known z) (z ∙ sym (answer-event j.kind (row_at j.kind f) (count_at f) (omega (arith, j.whole.four, j.whole.long))))
     by false h =
         let n : judge_of f ≢ 0 = eqb-false _ _ h in
         let l : judge_of f ≤ 3 = (judge-answers f).1 in

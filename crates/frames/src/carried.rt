@@ -155,13 +155,13 @@ fn strategy_in(frame: &[u8]) -> Result<Event, Refusal>
     let fields = table::fields_of(Kind::Strategy);
     let row = decode(frame, &fields, m);
     if table::fit_in(&fields, m, &row) {
-        Ok(event_of(Kind::Strategy, row))
+        event_of(Kind::Strategy, row)
     } else {
         Err(Refusal::BadField)
     }
 }
 
-// The event, or the refusal 3 where a field is outside its range.
+// The event, or the refusal 3 where a field is outside its range. No frame has the length of the unknown kind.
 pub(crate) fn carried(kind: Kind, frame: &[u8]) -> Result<Event, Refusal>
     requires { Whole kind frame.now }
     ensures { result ≡ carried_of kind frame.now }
@@ -178,5 +178,6 @@ pub(crate) fn carried(kind: Kind, frame: &[u8]) -> Result<Event, Refusal>
         Kind::National => national_in(frame),
         Kind::Range => range_in(frame),
         Kind::Specialist => specialist_in(frame),
+        Kind::Unknown => Err(Refusal::BadFrame),
     }
 }

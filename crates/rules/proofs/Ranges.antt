@@ -27,7 +27,7 @@ use Rattle.rules.specs.State.{no_leg}
 use Rattle.rules.specs.Strategies.{series_of, ratio_of}
 use Rattle.rules.specs.Given.{leg_given, legs_given}
 use Rattle.rules.specs.Valid.{FitLeg}
-use Rattle.rules.specs.Fits.{FitGiven, FitEvent, FitReading}
+use Rattle.rules.specs.Fits.{FitGiven, FitReading}
 
 -- the fields of a definition that has room for them
 strategy-field : (n j : ℕ) → j < 1 + 3 * n → layout_of K.Strategy n j ≡ get_or (fields_of K.Strategy) j none
@@ -94,7 +94,7 @@ module _ (n : ℕ) (v : List ℕ) (t : fit_n (layout_of K.Strategy n) v 19 ≡ t
   }
 
 -- an event whose values fit; the count is no more than the byte that the length was taken from
-event-fit : (k : Kind) (n : ℕ) (v : List ℕ) → fit_n (layout_of k n) v 19 ≡ true → (k ≡ K.Strategy → get_or v 0 0 ≤ n) → FitEvent (event_of k v)
+event-fit : (k : Kind) (n : ℕ) (v : List ℕ) → fit_n (layout_of k n) v 19 ≡ true → (k ≡ K.Strategy → get_or v 0 0 ≤ n) → FitReading (event_of k v)
 unfolding layout_of layout present_of length_of pick
 event-fit K.Strategy n v t m = strategy-fit n v t (m refl)
 event-fit K.Order n v t m =
@@ -137,6 +137,7 @@ event-fit K.Range n v t m = (fit_at_lem (layout_of K.Range n) v 19 0 (omega arit
 event-fit K.Specialist n v t m =
     let at = fit_at_lem (layout_of K.Specialist n) v 19 in
     ((at 0 (omega arith) t).0, (at 0 (omega arith) t).1, omega (arith, (at 1 (omega arith) t).1), (at 2 (omega arith) t).1)
+event-fit K.Unknown n v t m = tt
 
 -- a strategy's count is read from the byte that its length is taken from
 count_under : (f : List ℕ) (k : Kind) → k ≡ K.Strategy → get_or (row_at k f) 0 0 ≤ count_at f

@@ -61,3 +61,6 @@ returns-in-Range c = c.range_in.ensures ∙ carried-as _ c.in-Range.is
 
 pub returns-in-Specialist : goal.returns-in-Specialist
 returns-in-Specialist c = c.specialist_in.ensures ∙ carried-as _ c.in-Specialist.is
+
+pub returns-in-Unknown : goal.returns-in-Unknown
+returns-in-Unknown c = carried-as _ c.in-Unknown.is
