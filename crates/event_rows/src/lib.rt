@@ -7,8 +7,8 @@ ghost use Rattle.events.specs.Rows.{row_of, leg_from, event_of, length_in, fitti
 use events::kinds::length_of;
 use events::table::{fields_of, filled, fit};
 use events::{
-    Cancel, Clock, DayEnd, Event, Kind, Leg, LegOrder, Legs, National, Order, Range, Refusal, Series,
-    Specialist, Strategy, Sweep,
+    Cancel, Clock, DayEnd, Event, Kind, Leg, LegOrder, Legs, National, Order, Range, Refusal,
+    Series, Specialist, Strategy, Sweep,
 };
 
 // The event's values in the order of its fields, and zeros up to 19.

@@ -95,6 +95,6 @@ pub fn length_of(kind: Kind, count: u32) -> usize
         Kind::National => 13,
         Kind::Range => 6,
         Kind::Specialist => 8,
-        Kind::Unknown => 0,
+        Kind::Unknown => 0, // no frame is so short
     }
 }
