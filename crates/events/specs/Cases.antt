@@ -135,6 +135,21 @@ known-event K.Unknown v u = absurd (u refl)
 pub event-is : (k : Kind) (v : List ℕ) (n : ℕ) → 4 ≤ length_of k n → (e : Event) × (event_of k v ≡ Ok e)
 event-is k v n h = known-event k v (λ u. let l : 4 ≤ length_of K.Unknown n = rw u at h in omega (arith, l, unknown-zero n))
 
+-- only the unknown kind is refused, 2
+pub event-refused : (k : Kind) (v : List ℕ) {r : Refusal} → event_of k v ≡ Err r → (k ≡ K.Unknown) × (r ≡ F.BadFrame)
+event-refused K.Strategy v h = absurd (let z : ◌≡◌ {A = ℕ} 0 1 = cc in omega arith)
+event-refused K.Order v h = absurd (let z : ◌≡◌ {A = ℕ} 0 1 = cc in omega arith)
+event-refused K.Sweep v h = absurd (let z : ◌≡◌ {A = ℕ} 0 1 = cc in omega arith)
+event-refused K.LegOrder v h = absurd (let z : ◌≡◌ {A = ℕ} 0 1 = cc in omega arith)
+event-refused K.Cancel v h = absurd (let z : ◌≡◌ {A = ℕ} 0 1 = cc in omega arith)
+event-refused K.Series v h = absurd (let z : ◌≡◌ {A = ℕ} 0 1 = cc in omega arith)
+event-refused K.Clock v h = absurd (let z : ◌≡◌ {A = ℕ} 0 1 = cc in omega arith)
+event-refused K.DayEnd v h = absurd (let z : ◌≡◌ {A = ℕ} 0 1 = cc in omega arith)
+event-refused K.National v h = absurd (let z : ◌≡◌ {A = ℕ} 0 1 = cc in omega arith)
+event-refused K.Range v h = absurd (let z : ◌≡◌ {A = ℕ} 0 1 = cc in omega arith)
+event-refused K.Specialist v h = absurd (let z : ◌≡◌ {A = ℕ} 0 1 = cc in omega arith)
+event-refused K.Unknown v h = (refl, cc)
+
 -- a number that is a kind's is its code
 pub code-kind : (x : ℕ) {k : Kind} → kind_of x ≡ Ok k → code_of k ≡ x
 unfolding kind_of
