@@ -22,7 +22,7 @@ kind_of n =
     (pick (n == 10) (Ok K.Range)
     (pick (n == 11) (Ok K.Specialist) (Err F.BadFrame)))))))))))
 
--- the kind that was found, or that of no frame
+-- the kind that was found, else the unknown one
 abbrev pub known_or : Result Kind Refusal → Kind
 known_or (Ok k) = k
 known_or (Err r) = K.Unknown
