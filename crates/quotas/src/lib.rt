@@ -13,12 +13,13 @@ ghost use Rattle.quotas.specs.Groups.{group_number};
 use rules::{Entry, State};
 use sides::{best_price, other};
 
-// The groups in which the holders of a limit go, in their order.
+// The groups in which the holders of a limit go, in their order; and one that nobody is in.
 #[derive(Clone, Copy, PartialEq, Eq)]
 pub enum Group {
     Customers,
     MakersAndSweeps,
     BrokerDealers,
+    Nobody,
 }
 
 // By number: each slot gets what it holds, or what those before it left of r.
