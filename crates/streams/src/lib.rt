@@ -4,7 +4,7 @@
 
 ghost use Rattle.std.specs.Prelude.{◌≡◌, ◌+◌, ◌-◌, ◌≤◌, length, take, drop};
 ghost use Rattle.streams.specs.Added.{Added};
-ghost use Rattle.streams.specs.Texts.{Drains, Settles};
+ghost use Rattle.streams.specs.Texts.{DrainsTo, SettlesTo, Drains, Settles};
 
 use lines::Text;
 use std::io::Read;
@@ -118,16 +118,47 @@ pub fn write_out<R: Print + Eprint>(rt: &R, text: &[u8]) -> bool {
     whole
 }
 
+// Writes out a text, the first bytes of a space, where less than the room is left behind it. Answers its end after that, and
+// whether the output takes more.
+pub fn drain_bytes<R: Print + Eprint>(rt: &R, used: usize, out: &[u8], room: usize) -> (usize, bool)
+    requires { (used ≤ length out.now) × (room ≤ length out.now) }
+    ensures { DrainsTo used room (length out.now) result.0 }
+{
+    if room <= out.len() - used {
+        return (used, true);
+    }
+    (0, write_out(rt, &out[..used]))
+}
+
+// The same, and all of it goes out where nothing whole is left of the input.
+pub fn settle_bytes<R: Print + Eprint>(
+    rt: &R,
+    more: bool,
+    used: usize,
+    out: &[u8],
+    room: usize,
+) -> (usize, bool)
+    requires { (used ≤ length out.now) × (room ≤ length out.now) }
+    ensures { SettlesTo more used room (length out.now) result.0 }
+{
+    let least = if more { room } else { out.len() };
+    drain_bytes(rt, used, out, least)
+}
+
+// The whole space of a text.
+fn space_of<'a>(text: &'a Text) -> &'a [u8]
+    ensures { result.now ≡ text.now.out.now }
+{
+    text.out
+}
+
 // Writes the text out where less than the room is left. Answers whether the output takes more.
 pub fn drain<R: Print + Eprint>(rt: &R, text: &mut Text, room: usize) -> bool
     requires { room ≤ length text.old.out.now }
     ensures { Drains text.old text.new room }
 {
-    if room <= text.room() {
-        return true;
-    }
-    let on = write_out(rt, text.bytes());
-    text.clear();
+    let (used, on) = drain_bytes(rt, text.used, space_of(text), room);
+    text.used = used;
     on
 }
 
@@ -137,8 +168,9 @@ pub fn settle<R: Print + Eprint>(rt: &R, text: &mut Text, more: bool, room: usiz
     requires { room ≤ length text.old.out.now }
     ensures { Settles text.old text.new more room }
 {
-    let least = if more { room } else { text.out.len() };
-    drain(rt, text, least)
+    let (used, on) = settle_bytes(rt, more, text.used, space_of(text), room);
+    text.used = used;
+    on
 }
 
 // The block that the input is read into: the longest frame, with the two lengths of an item before it, and some more.
