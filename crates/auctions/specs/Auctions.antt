@@ -1,5 +1,5 @@
 -- The rules of auctions by what the code tests, and their records.
-use Rattle.std.specs.Prelude.{◌≡◌, Bool, true, false, List, ℕ, nat_lt, eqb, length, get_or, set, Option, position}
+use Rattle.std.specs.Prelude.{◌≡◌, Bool, true, false, List, ℕ, ◌≤◌, nat_lt, eqb, length, get_or, set, Option, position}
 use Rattle.std.proofs.Math.Path.{refl}
 use Rattle.std.proofs.Common.{sym, ◌∙◌, arith, ltb-false, Some, None}
 use Rattle.std.proofs.lemmas.Bool.{cond_both}
@@ -46,6 +46,9 @@ pub starter_found : (k n : ℕ) (es : List Entry) {i : Option ℕ} → length es
 unfolding numbered
 starter_found k n es l p = p ∙ position-slots no_entry (numbered k n) es ∙ rw l
 
+pub side-past : (es : List Entry) (i : ℕ) → length es ≡ 32 → 32 ≤ i → 0 ≡ (get_or es i no_entry).side
+side-past es i n h = rw (get_or-eq_default es no_entry {n = i} (omega arith))
+
 -- the side of the entry at a slot, 0 past the last
 found-side : (es : List Entry) (i : ℕ) → length es ≡ 32 → option_map_or (λ j. (get_or es j no_entry).side) (found 32 i) 0 ≡ (get_or es i no_entry).side
 found-side es i n =
@@ -84,6 +87,11 @@ pub answers_by : (es : List Entry) (k n side : ℕ) {i : Option ℕ} {x y : ℕ}
     → x ≡ option_map_or (λ j. (get_or es j no_entry).side) i 0 → y ≡ other side → eqb x y ≡ answers_in es k n side
 unfolding answers_in
 answers_by es k n side l p q o = rw (q, p, o, found-side es (starter_in es k n) l)
+
+-- .. by the starter's slot itself, in a list of any length
+pub answers-by-slot : (es : List Entry) (k n side : ℕ) {i x y : ℕ} → i ≡ starter_in es k n → x ≡ (get_or es i no_entry).side → y ≡ other side → eqb x y ≡ answers_in es k n side
+unfolding answers_in
+answers-by-slot es k n side p q o = rw (q, p, o)
 
 module _ (k side : ℕ) (b : State) where
   -- the rule by the same test

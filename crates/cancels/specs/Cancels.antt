@@ -9,9 +9,10 @@ use Rattle.std.proofs.lemmas.List.Sums.{fails_before_first}
 use Rattle.std.proofs.lemmas.List.Quantifiers.{position-Some}
 use Rattle.base.specs.Pick.{pick, pick_yes, tests}
 use Rattle.base.specs.All.{All}
-use Rattle.base.specs.Walks.{clash}
+use Rattle.base.specs.Walks.{clash, first_n, first_holds, first-before}
 use Rattle.base.specs.Chains.{unless_zero}
 use Rattle.nets.specs.Bests.{unless-zero-or}
+use Rattle.rules.specs.Sizes.{table_rows}
 use Rattle.rules.specs.declared.LegOrder.{LegOrder}
 use Rattle.rules.specs.declared.LegNets.{LegNets}
 use Rattle.rules.specs.declared.State.{State}
@@ -30,6 +31,7 @@ use Rattle.rules.proofs.LegPrices.{cut-price}
 use Rattle.ranges.specs.Fit.{FitLegs, fit-order, fit-sound, fit-shrinks}
 use Rattle.stored_nets.specs.Stored.{FitNets, Refreshed}
 use Rattle.stored_nets.specs.Laws.{fit-nets, refreshed-one}
+use Rattle.fills.specs.Fills.{cancelled, cancel-live}
 
 -- a row of number x has something live, and is the one sought
 abbrev pub has_live : ℕ → ℕ → ℕ → Bool
@@ -42,6 +44,14 @@ entry_has n e = has_live e.number e.units n
 -- the same of a leg order
 abbrev pub order_has : ℕ → LegOrder → Bool
 order_has n o = has_live o.number o.contracts n
+
+-- the slot of the live entry of a number, 32 where there is none
+unfoldable pub entry_slot : ℕ → State → ℕ
+entry_slot n b = first_n (λ (i : ℕ). entry_has n (entry_at b i)) table_rows
+
+-- the same of the leg orders
+unfoldable pub order_slot : ℕ → State → ℕ
+order_slot n b = first_n (λ (i : ℕ). order_has n (order_at b i)) table_rows
 
 -- a cancel of a live leg order
 unfoldable pub cancelled_order : ℕ → State → Moved
@@ -95,6 +105,22 @@ module _ (n : ℕ) (b : State) where
       let p = has-live _ _ n h.1 in
       number-order b s n i (omega (arith, h.0, s.order_rows)) p.0 (omega (arith, p.1)) ∙ order-live i p.1
 
+  -- .. an entry by its slot
+  pub number-at-entry-slot : {i : ℕ} → Sound b → i ≡ entry_slot n b → i < 32 → cancel_number n b ≡ cancelled i b
+  unfolding entry_slot
+  number-at-entry-slot {i} s e l =
+      let h : entry_has n (entry_at b i) ≡ true = rw e (first_holds (λ (k : ℕ). entry_has n (entry_at b k)) 32 (rw e at l)) in
+      let p = has-live _ _ n h in
+      number-entry b s n i l p.0 (omega (arith, p.1)) ∙ cancel-live i b p.1
+
+  -- .. a leg order by its slot
+  pub number-at-order-slot : {i : ℕ} → Sound b → i ≡ order_slot n b → i < 32 → cancel_number n b ≡ cancelled_order i b
+  unfolding order_slot
+  number-at-order-slot {i} s e l =
+      let h : order_has n (order_at b i) ≡ true = rw e (first_holds (λ (k : ℕ). order_has n (order_at b k)) 32 (rw e at l)) in
+      let p = has-live _ _ n h in
+      number-order b s n i l p.0 (omega (arith, p.1)) ∙ order-live i p.1
+
   -- nothing is live of the number
   pub number-not : {r q : Option ℕ} → Sound b → r ≡ position (entry_has n) b.entries → r ≡ None → q ≡ position (order_has n) b.orders → q ≡ None → cancel_number n b ≡ still b
   unfolding cancel_number and_then
@@ -102,6 +128,15 @@ module _ (n : ℕ) (b : State) where
       rw (
         each-still (cancel_entry_of n) b 32 (λ k l. entry-idle k (none-found no_entry (entry_has n) b.entries (sym e ∙ f) k (omega (arith, l, s.entry_rows)))),
         each-still (cancel_order_of n) b 32 (λ k l. order-idle k (none-found no_order (order_has n) b.orders (sym g ∙ h) k (omega (arith, l, s.order_rows)))),
+      )
+
+  -- .. by the slots, in any book
+  pub number-nowhere : {i j : ℕ} → i ≡ entry_slot n b → 32 ≤ i → j ≡ order_slot n b → 32 ≤ j → cancel_number n b ≡ still b
+  unfolding entry_slot order_slot cancel_number and_then
+  number-nowhere e l f m =
+      rw (
+        each-still (cancel_entry_of n) b 32 (λ k h. entry-idle k (first-before (λ (i : ℕ). entry_has n (entry_at b i)) 32 k (omega (arith, e)))),
+        each-still (cancel_order_of n) b 32 (λ k h. order-idle k (first-before (λ (i : ℕ). order_has n (order_at b i)) 32 k (omega (arith, f)))),
       )
 
 -- the nets after q contracts were taken from the leg order at slot j: what `refreshed` asks for, and that it gives those of the rule

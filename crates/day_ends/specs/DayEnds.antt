@@ -6,7 +6,7 @@ use Rattle.std.proofs.Common.{sym, ◌∙◌, arith, eq-eqb, cond, None, Some}
 use Rattle.std.proofs.lemmas.Bool.{cond_both, eqb-false, not-true}
 use Rattle.std.proofs.lemmas.Option.{none-some, same_Some}
 use Rattle.std.proofs.lemmas.List.Sums.{fold-append}
-use Prim.Native.Nat.{ℕ, zero, suc, ◌+◌, ◌-◌, ◌<◌, min}
+use Prim.Native.Nat.{ℕ, zero, suc, ◌+◌, ◌-◌, ◌≤◌, ◌<◌, min}
 use Rattle.base.specs.Walks.{walk}
 use Rattle.base.specs.Chains.{unless_zero, fold-walk}
 use Rattle.base.specs.All.{All, all_nil, all_cons, all_append}
@@ -45,6 +45,12 @@ lower-min n m h l =
     let p : ¬ (n ≡ 0) = omega arith in
     let q : ¬ (m ≡ 0) = omega arith in
     search tests
+
+pub lower-first : (n m : ℕ) → ¬ (n ≡ 0) → n ≤ m → n ≡ lower_number n m
+lower-first n m p h = omega (arith, lower-min n m (omega arith) (omega arith))
+
+pub lower-second : (n m : ℕ) → ¬ (n ≡ 0) → ¬ (m ≡ 0) → m < n → m ≡ lower_number n m
+lower-second n m p q h = omega (arith, lower-min n m (omega arith) (omega arith))
 
 -- the rows that pass a test, and their numbers
 module _ {A : Type 0} (d : A) (p : A → Bool) (f : A → ℕ) where
@@ -116,6 +122,11 @@ module _ (b : State) (s : Sound b) where
       by zero e = refl
       by (suc m) e = absurd (none-some _ (sym e))
 
+-- .. by the rule's own number, in any book
+pub lowest-cancels : (i : ℕ) (b : State) {n : ℕ} → n ≡ lowest_live b → cancel_lowest i b ≡ cancel_number n b
+unfolding cancel_lowest
+lowest-cancels i b p = rw p
+
 -- after a turn that finds nothing live no turn cancels
 pub lowest-stops : (i : ℕ) (b₀ : State) {r₀ r₁ : Records} {b : State} → i < 64 → Done r₀ r₁ b (each cancel_lowest i b₀) → ((j : ℕ) → cancel_lowest j b ≡ still b)
     → Done r₀ r₁ b (each cancel_lowest 64 b₀)
@@ -145,7 +156,7 @@ unfolding on_day_end
 day-end timer b {d = d} {r₂ = r₂} x y e = done-then _ _ x (done-then _ _ y (restarted timer e r₂ d))
 
 -- cancels and closed auctions leave a sound state
-lowest-sound : (i : ℕ) (b : State) → Sound b → Sound (cancel_lowest i b).state
+pub lowest-sound : (i : ℕ) (b : State) → Sound b → Sound (cancel_lowest i b).state
 unfolding cancel_lowest
 lowest-sound i b s =
     let n : ℕ = lowest_live b in

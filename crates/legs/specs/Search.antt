@@ -1,8 +1,9 @@
 -- The best opposite leg order, by what the code tests.
 use Rattle.std.specs.Prelude.{◌≡◌, refl, Bool, true, false, ℕ, zero, suc, ◌+◌, ◌≤◌, ◌<◌, eqb, nat_lt, cond, Option, option_map}
 use Rattle.std.proofs.Common.{sym, ◌∙◌, ap, add-one, arith, None, Some, ltb-true, ltb-false, lt-ltb, eq-eqb, ne_eqb}
-use Rattle.base.specs.Pick.{pick, both, pick_all, pick_true, pick-false}
-use Rattle.base.specs.Walks.{walk}
+use Rattle.std.proofs.lemmas.Bool.{eqb-false}
+use Rattle.base.specs.Pick.{pick, both, pick_all, pick-by, pick_true, pick-false}
+use Rattle.base.specs.Walks.{walk, walk_first, walk-next}
 use Rattle.base.specs.Chains.{found}
 use Rattle.rules.specs.declared.LegOrder.{LegOrder}
 use Rattle.rules.specs.declared.State.{State}
@@ -19,7 +20,24 @@ better_than o p (Some q) = better o.side p.price q.price
 unfoldable pub ahead_of : LegOrder → LegOrder → Option LegOrder → Bool
 ahead_of o p best = both (meets_order o p) (better_than o p best)
 
+-- .. of which the slot (32: none) and the price are given
+unfoldable pub ahead_at : LegOrder → LegOrder → ℕ → ℕ → Bool
+ahead_at o p best price = pick (meets_order o p) (pick (eqb best 32) true (better o.side p.price price)) false
+
 -- laws
+
+module _ (o p : LegOrder) (best price : ℕ) where
+  pub ahead-not : meets_order o p ≡ false → false ≡ ahead_at o p best price
+  unfolding ahead_at
+  ahead-not e = sym (pick-false _ _ _ e)
+
+  pub ahead-first : meets_order o p ≡ true → best ≡ 32 → true ≡ ahead_at o p best price
+  unfolding ahead_at
+  ahead-first e h = sym (pick_true _ _ _ e ∙ pick_true _ _ _ (eq-eqb _ _ h))
+
+  pub ahead-better : meets_order o p ≡ true → ¬ (best ≡ 32) → {t : Bool} → t ≡ better o.side p.price price → t ≡ ahead_at o p best price
+  unfolding ahead_at
+  ahead-better e h g = g ∙ sym (pick_true _ _ _ e ∙ pick-false _ _ _ (ne_eqb _ _ h))
 
 -- a slot, or 32
 pub best-order-le : (b : State) (o : LegOrder) (k : ℕ) → k ≤ 32 → walk (best_order_step b o) 32 k ≤ 32
@@ -76,3 +94,32 @@ module _ (b : State) (o : LegOrder) (i : ℕ) (h : i < 32) where
   leading-past g e =
       let a : ahead_order b o i best ≡ false = sym same-ahead ∙ (rw g at e) in
       g ∙ rw (add-one, pick-false (ahead_order b o i best) i best a) refl
+
+-- the slot of the best of the first i orders, and its price where there is one
+pub record Leading (b : State) (o : LegOrder) (i best price : ℕ) : Type 0 where
+  pub slot : best ≡ walk (best_order_step b o) 32 i
+  pub paid : ¬ (best ≡ 32) → price ≡ (order_at b best).price
+
+pub slot-first : (b : State) (o : LegOrder) → Leading b o 0 32 0
+slot-first b o = record { slot = walk_first _ _; paid = λ z. absurd (z refl) }
+
+-- .. at any slot
+module _ (b : State) (o : LegOrder) (i : ℕ) {best price : ℕ} (g : Leading b o i best price) where
+  same-slot : ahead_at o (order_at b i) best price ≡ ahead_order b o i best
+  unfolding ahead_at ahead_order
+  same-slot = ap (λ (t : Bool). pick (meets_order o (order_at b i)) t false) (
+      pick-by (λ (t : Bool). t ≡ pick (eqb best 32) true (better o.side (order_at b i).price (order_at b best).price)) (eqb best 32)
+      (λ e. sym (pick_true _ _ _ e))
+      (λ e. rw (g.paid (eqb-false best 32 e)) (sym (pick-false _ _ _ e))))
+
+  pub slot-here : ahead_at o (order_at b i) best price ≡ true → Leading b o (i + 1) i (order_at b i).price
+  slot-here e = record {
+    slot = walk-next (best_order_step b o) 32 i g.slot (sym (pick_true _ _ _ (sym same-slot ∙ e)));
+    paid = λ z. refl;
+  }
+
+  pub slot-past : ahead_at o (order_at b i) best price ≡ false → Leading b o (i + 1) best price
+  slot-past e = record {
+    slot = walk-next (best_order_step b o) 32 i g.slot (sym (pick-false _ _ _ (sym same-slot ∙ e)));
+    paid = g.paid;
+  }

@@ -1,15 +1,19 @@
 -- The rules of a specialist, case by case: quotas of which one slot was stored, the greater of two, the slot of a sweep.
-use Rattle.std.specs.Prelude.{◌≡◌, refl, List, ℕ, ◌-◌, ◌*◌, ◌≤◌, ◌<◌, min, eqb, length, set, Option, position}
+use Rattle.std.specs.Prelude.{◌≡◌, refl, List, ℕ, ◌-◌, ◌*◌, ◌/◌, ◌≤◌, ◌<◌, min, eqb, length, set, Option, position}
 use Rattle.std.proofs.Common.{sym, ◌∙◌, ap, None, mul-le-mul, length-set, ext_get_or, get_or-set_same, get_or-set_other}
 use native.Mathlib.Omega.{arith}
 use borrow.Author.Tests.{eqb-true, eqb-false, eq-eqb, ne_eqb, lt-ltb}
 use Rattle.base.specs.Pick.{pick_all, pick-by, pick_true, pick-false}
-use Rattle.base.specs.Walks.{sum_n, slot, table, table-slot, length-table}
+use Rattle.base.specs.Walks.{sum_n, slot, table, first_n, table-slot, length-table}
 use Rattle.base.specs.Chains.{found, position-slots}
+use Rattle.rules.specs.declared.Specialist.{Specialist}
+use Rattle.rules.specs.declared.Strategy.{Strategy}
 use Rattle.rules.specs.declared.Entry.{Entry}
-use Rattle.rules.specs.State.{no_entry}
-use Rattle.rules.specs.Quotas.{share, specialist_portion, rest_at, rest_of, beside_at, beside, share_beside}
-use Rattle.rules.specs.Passes.{is_sweep_of, specialist_slot}
+use Rattle.rules.specs.declared.State.{State}
+use Rattle.rules.specs.State.{no_entry, strategy_at, with_strategies}
+use Rattle.rules.specs.Specialists.{with_specialist, on_specialist}
+use Rattle.rules.specs.Quotas.{portion, share, specialist_portion, rest_at, rest_of, beside_at, beside, share_beside}
+use Rattle.rules.specs.Passes.{is_sweep_of, sweep_at, specialist_slot}
 use Rattle.rules.proofs.Portions.{beside-enough, beside_none}
 use Rattle.ranges.specs.Most.{AtMost, table-most}
 
@@ -43,6 +47,15 @@ beside-is k q r xs {ys} {qs} low e f n =
 pub percentage-fits : (p r : ℕ) → p ≤ 65_535 → r ≤ 9999 → p * r ≤ 655_284_465
 percentage-fits p r a b = mul-le-mul a b
 
+-- the greater of the two
+pub by-percentage : (p r t x : ℕ) {a q : ℕ} → a ≡ portion r t x → a < p * r / 100 → q ≡ min x (p * r / 100) → q ≡ specialist_portion p r t x
+unfolding specialist_portion
+by-percentage p r t x e l h = omega (arith, e, h)
+
+pub by-share : (p r t x : ℕ) {a q : ℕ} → a ≡ portion r t x → p * r / 100 ≤ a → q ≡ min x a → q ≡ specialist_portion p r t x
+unfolding specialist_portion
+by-share p r t x e l h = omega (arith, e, h)
+
 -- the division, by its cases
 pub shares-none : (k p r : ℕ) (xs : List ℕ) {qs : List ℕ} → 32 ≤ k → qs ≡ share r xs → qs ≡ share_beside k p r xs
 shares-none k p r xs l e = e ∙ sym (beside_none k p r xs l)
@@ -67,3 +80,17 @@ slot-named member es e level n l h =
 pub slot-none : (member : ℕ) (es : List Entry) (e : Entry) (level : ℕ) → member ≡ 0 → None ≡ found 32 (specialist_slot member es e level)
 unfolding specialist_slot
 slot-none member es e level n = ap (found 32) (sym (pick_true _ _ _ (eq-eqb member 0 n)))
+
+-- .. as the slot itself, in a list of any length
+pub named-slot : (member : ℕ) (es : List Entry) (e : Entry) (level : ℕ) {k : ℕ} → (member ≡ 0 → ⊥) → k ≡ first_n (sweep_at member es e level) 32 → k ≡ specialist_slot member es e level
+unfolding specialist_slot
+named-slot member es e level n h = h ∙ sym (pick-false _ _ _ (ne_eqb member 0 n))
+
+pub no-slot : (member : ℕ) (es : List Entry) (e : Entry) (level : ℕ) → member ≡ 0 → 32 ≡ specialist_slot member es e level
+unfolding specialist_slot
+no-slot member es e level n = sym (pick_true _ _ _ (eq-eqb member 0 n))
+
+-- a strategy stored with its specialist
+pub named-is : (b : State) (k : ℕ) (p : Specialist) {s : Strategy} → s ≡ with_specialist (strategy_at b k) p → with_strategies b (set b.strategies k s) b.defined ≡ on_specialist k p b
+unfolding on_specialist
+named-is b k p e = rw e
