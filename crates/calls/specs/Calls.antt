@@ -1,6 +1,6 @@
 -- What `calls` does with the rest of the input.
 use Rattle.std.specs.Prelude.{◌≡◌, true, false, List, ◌++◌, ℕ, ◌+◌, ◌-◌, ◌≤◌, eqb, ℤ, length, take, drop}
-use Rattle.std.proofs.Common.{sym, ◌∙◌, ap, arith, length-drop, length-take-le, eq-eqb, ne_eqb}
+use Rattle.std.proofs.Common.{sym, ◌∙◌, ap, inl, arith, length-drop, length-take-le, eq-eqb, ne_eqb}
 use Rattle.std.proofs.Math.Seq.{take-length}
 use Rattle.base.specs.Pick.{pick, pick_true, pick-false}
 use Rattle.rules.specs.declared.State.{State}
@@ -13,7 +13,7 @@ use Rattle.streams.specs.Rests.{rest_of, left, Passed, rest-after, rest-length}
 use Rattle.turns.specs.Turns.{Tape, Turn, Tells, event_turn}
 use Rattle.calls.specs.Items.{item_of, lent_of, item-within, item-lengths, lent-most}
 use Rattle.calls.specs.Listings.{lookup_text, cut_line}
-use Rattle.calls.specs.Printed.{Printed, printed-one, printed-then}
+use Rattle.calls.specs.Printed.{Printed, printed-out, printed-one, printed-then}
 
 -- an item as a call: the frame behind its two lengths, and the space that it is lent
 abbrev pub call_turn : State → ℕ → List ℕ → List ℕ → Turn
@@ -50,15 +50,15 @@ turn-call : (b : State) (index : ℕ) (rest : List ℕ) → (item_of rest ≡ 0 
 unfolding item_turn
 turn-call b index rest h = pick-false _ _ _ (ne_eqb _ _ h)
 
--- the end: `cut` or nothing, then the lookups
+-- the end: `cut` or nothing, then the lookups behind it
 pub ended :
-    (b : Book) (i : Input) {s q r : Text} → item_of (rest_of i) ≡ 0 → Within 86 s q (cut_line (length (rest_of i))) → Printed q r (lookup_text b.state) →
-    ItemsEnded b i s r
-ended b i {s} {q} {r} e w g =
+    (b : Book) (i : Input) {s q x r : Text} → item_of (rest_of i) ≡ 0 → Within 86 s q (cut_line (length (rest_of i))) → x.used ≡ q.used → x.out ≡ q.out →
+    Printed x r (lookup_text b.state) → ItemsEnded b i s r
+ended b i {s} {q} {x} {r} e w u o g =
     record {
       turned = λ index.
-          let x = turn_end b.state index (rest_of i) e in
-          record { state = rw x; text = rw x (printed-then (printed-one w.put) g); rest = rw x; on = rw x };
+          let y = turn_end b.state index (rest_of i) e in
+          record { state = rw y; text = rw y (printed-then (printed-out (printed-one w.put) (inl u) o) g); rest = rw y; on = rw y };
     }
 
 -- a call of an item, which lends the first numbers of the space

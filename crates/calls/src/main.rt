@@ -225,6 +225,8 @@ fn tell_end<R: Print + Eprint>(rt: &R, book: &Book, input: &Input, text: &mut Te
 struct Items;
 
 impl Program for Items {
+    ghost needed_by = { item_needed };
+
     ghost first_of = { item_of };
 
     ghost turned = { ItemTurned };

@@ -3,7 +3,7 @@
 
 ghost use Rattle.std.specs.Prelude.{◌≡◌};
 ghost use Rattle.base.specs.Chains.{unless_zero};
-ghost use Rattle.lines.specs.Cuts.{cut_of};
+ghost use Rattle.lines.specs.Cuts.{needed_of, cut_of};
 ghost use Rattle.lines.specs.Lines.{event_line};
 ghost use Rattle.lines.specs.Puts.{Room, Within};
 ghost use Rattle.streams.specs.Rests.{rest_of};
@@ -39,6 +39,8 @@ fn tell_end(input: &Input, index: u64, space: &[i32], text: &mut Text)
 struct Frames;
 
 impl Program for Frames {
+    ghost needed_by = { needed_of };
+
     ghost first_of = { cut_of };
 
     ghost turned = { Turned };

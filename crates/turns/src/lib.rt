@@ -35,12 +35,15 @@ pub fn record_space() -> [i32; Book::RECORD_SPACE]
 
 // What a program does with its input: a turn for each piece of it, and one at its end.
 pub trait Program {
+    ghost needed_by: { List ℕ → ℕ };
+
     ghost first_of: { List ℕ → ℕ };
 
     ghost turned: { Turning };
 
     // How many bytes of the rest of the input must be there to judge its first piece.
-    fn needed(&self, rest: &[u8]) -> usize;
+    fn needed(&self, rest: &[u8]) -> usize
+        ensures { result ≡ needed_by rest.now };
 
     // The length of the first piece of the rest of the input; none where it is not whole.
     fn first(&self, rest: &[u8]) -> Option<usize>

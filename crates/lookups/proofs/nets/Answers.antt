@@ -1,4 +1,5 @@
 -- proofs/nets/Answers.antt
+use Rattle.std.proofs.Common.{rules}
 use Rattle.rules.specs.Lookups.{nets_tells}
 use Rattle.lookups.specs.LegNets.{nets-undefined, row-undefined, stored-fits, nets-stored, row-stored}
 use Rattle.lookups.proofs.nets.Goals as goal
@@ -15,6 +16,6 @@ told_net-requires-2 c = (stored-fits _ c.requires _ c.if-b-strategy.false).1
 pub returns : goal.returns
 unfolding nets_tells
 returns c = record {
-  result_value = nets-stored _ c.requires _ c.if-b-strategy.false (rw (c.told_net.ensures, c.told_net-2.ensures));
-  result_value_2 = row-stored _ _ c.if-b-strategy.false (rw (c.told_net.ensures, c.told_net-2.ensures));
+  result_value = nets-stored _ c.requires _ c.if-b-strategy.false (search rules);
+  result_value_2 = row-stored _ _ c.if-b-strategy.false (search rules);
 }
