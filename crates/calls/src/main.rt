@@ -21,7 +21,7 @@ use events::Refusal;
 use lines::{Text, two_bytes};
 use rules::Best;
 use streams::{Input, drain};
-use turns::{Program, run, tell};
+use turns::{MeasuredProgram, Program, run, tell};
 
 // The bytes of text that one line of the lookups needs at most.
 const LINE: usize = 86;
@@ -225,7 +225,7 @@ fn tell_end<R: Print + Eprint>(rt: &R, book: &Book, input: &Input, text: &mut Te
 struct Items;
 
 impl Program for Items {
-    ghost needed_by = { item_needed };
+    ghost needed_gives = { λ rest n. n ≡ item_needed rest };
 
     ghost first_of = { item_of };
 
@@ -256,6 +256,12 @@ impl Program for Items {
         input.consume(n);
         true
     }
+}
+
+impl MeasuredProgram for Items {
+    ghost needed_by = { item_needed };
+
+    ghost needed_is = { λ rest n h. h };
 }
 
 fn main(rt: HostRuntime) {

@@ -13,7 +13,7 @@ use book::Book;
 use events::Refusal;
 use lines::{Text, cut, needed};
 use streams::Input;
-use turns::{Program, run, tell};
+use turns::{MeasuredProgram, Program, run, tell};
 
 // The line of a last frame that is cut short, or whose length is under 4.
 fn tell_cut(index: u64, space: &[i32], text: &mut Text)
@@ -39,7 +39,7 @@ fn tell_end(input: &Input, index: u64, space: &[i32], text: &mut Text)
 struct Frames;
 
 impl Program for Frames {
-    ghost needed_by = { needed_of };
+    ghost needed_gives = { λ rest n. n ≡ needed_of rest };
 
     ghost first_of = { cut_of };
 
@@ -70,6 +70,12 @@ impl Program for Frames {
         input.consume(n);
         true
     }
+}
+
+impl MeasuredProgram for Frames {
+    ghost needed_by = { needed_of };
+
+    ghost needed_is = { λ rest n h. h };
 }
 
 fn main(rt: HostRuntime) {

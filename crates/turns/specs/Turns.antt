@@ -62,20 +62,25 @@ pub record Drained (t x : Tape) : Type 0 where
 abbrev pub Turning : Type 1
 Turning = Tape → ℕ → Tape → Type 0
 
--- the tape and the index after some turns from the first book on. Each reads on, takes a turn of the bytes that are then there, which
--- says that more is to come, and writes the text out where there is no room, or nothing whole is left of the input.
+-- the tape and the index after some turns from the first book on. Each reads on, takes a turn of the bytes that are then there, and
+-- writes the text out where there is no room, or nothing whole is left of the input.
 pub data Reached (Turned : Turning) : Tape → ℕ → Type 0 where
   reached-first : (b : Book) (i : Input) (t : Text) → b.state ≡ first → i.at ≡ 0 → i.«end» ≡ 0 → t.used ≡ 0 → Reached Turned (record { book = b; input = i; text = t; on = true }) 0
   reached-next :
       {t x y : Tape} {index : ℕ} {i : Input} → Reached Turned t index → More t.input i →
-      Turned (record { book = t.book; input = i; text = t.text; on = true }) index x → x.on ≡ true → Drained x y → Reached Turned y (index + 1)
+      Turned (record { book = t.book; input = i; text = t.text; on = true }) index x → Drained x y → Reached Turned y (index + 1)
 
--- the book that the turns of a program leave, from the first book on: that of a tape that turns reached, or that of a last turn, which
--- says that no more is to come
+-- a turn that says that more is to come
+pub record Continues (Turned : Turning) (t : Tape) (index : ℕ) (x : Tape) : Type 0 where
+  pub turned : Turned t index x
+  pub on : x.on ≡ true
+
+-- the book that the turns of a program leave, from the first book on: that of a tape that turns reached, each of which says that more is
+-- to come, or that of a last turn behind them, which says that no more is
 pub data Left (Turned : Turning) : Book → Type 0 where
-  left-on : {t : Tape} {index : ℕ} → Reached Turned t index → Left Turned t.book
+  left-on : {t : Tape} {index : ℕ} → Reached (Continues Turned) t index → Left Turned t.book
   left-last :
-      {t x : Tape} {index : ℕ} {i : Input} → Reached Turned t index → More t.input i →
+      {t x : Tape} {index : ℕ} {i : Input} → Reached (Continues Turned) t index → More t.input i →
       Turned (record { book = t.book; input = i; text = t.text; on = true }) index x → x.on ≡ false → Left Turned x.book
 
 -- laws
@@ -156,10 +161,18 @@ running-first Turned first_of {b} {i} {t} f e g h l =
 -- a turn: read on, the turn, and the text written out where there is no room
 pub running-next :
     {Turned : Turning} {first_of : List ℕ → ℕ} {t x y : Tape} {index : ℕ} {i : Input} → Running Turned first_of t index → More t.input i →
-    Turned (record { book = t.book; input = i; text = t.text; on = true }) index x → x.on ≡ true → Drained x y →
+    Turned (record { book = t.book; input = i; text = t.text; on = true }) index x → Drained x y →
     (first_of (rest_of x.input) ≡ 0 → y.text.used ≡ 0) → Running Turned first_of y (index + 1)
-running-next g m u o d none =
-    record { reached = reached-next g.reached m u o d; room = d.room; out-before = rw d.input none }
+running-next g m u d none =
+    record { reached = reached-next g.reached m u d; room = d.room; out-before = rw d.input none }
+
+-- turns each of which says that more is to come are turns
+pub reached-turns : {Turned : Turning} {t : Tape} {index : ℕ} → Reached (Continues Turned) t index → Reached Turned t index
+reached-turns (reached-first b i t f a e u) = reached-first b i t f a e u
+reached-turns (reached-next r m u d) = reached-next (reached-turns r) m u.turned d
+
+pub running-turns : {Turned : Turning} {first_of : List ℕ → ℕ} {t : Tape} {index : ℕ} → Running (Continues Turned) first_of t index → Running Turned first_of t index
+running-turns g = record { reached = reached-turns g.reached; room = g.room; out-before = g.out-before }
 
 -- no text waits where nothing whole is left of the input
 pub settled : {s q : Text} {more : Bool} {room n : ℕ} → Settles s q more room → more ≡ is_some (unless_zero n) → n ≡ 0 → q.used ≡ 0

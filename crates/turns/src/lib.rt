@@ -35,7 +35,8 @@ pub fn record_space() -> [i32; Book::RECORD_SPACE]
 
 // What a program does with its input: a turn for each piece of it, and one at its end.
 pub trait Program {
-    ghost needed_by: { List ℕ → ℕ };
+    // What `needed` answers of the rest of the input; a program that does not say leaves it open.
+    ghost needed_gives: { List ℕ → ℕ → Type 0 } = { λ _ _. Unit {0} };
 
     ghost first_of: { List ℕ → ℕ };
 
@@ -43,7 +44,7 @@ pub trait Program {
 
     // How many bytes of the rest of the input must be there to judge its first piece.
     fn needed(&self, rest: &[u8]) -> usize
-        ensures { result ≡ needed_by rest.now };
+        ensures { needed_gives rest.now result };
 
     // The length of the first piece of the rest of the input; none where it is not whole.
     fn first(&self, rest: &[u8]) -> Option<usize>
@@ -63,6 +64,13 @@ pub trait Program {
         requires room { Room text.old 189526 }
         ensures turned { turned (record { book = book.old; input = input.old; text = text.old; on = true }) index (record { book = book.new; input = input.new; text = text.new; on = result }) }
         ensures size { length text.new.out.now ≡ length text.old.out.now };
+}
+
+// A program that says what `needed` answers: what the rest of the input alone decides.
+pub trait MeasuredProgram: Program {
+    ghost needed_by: { List ℕ → ℕ };
+
+    ghost needed_is: { (rest : List ℕ) (n : ℕ) → Self.needed_gives rest n → n ≡ needed_by rest };
 }
 
 // Reads until the first piece of the rest is whole or no more comes. Mostly it is there already.
@@ -101,3 +109,6 @@ pub fn run<P: Program, I: Read, R: Print + Eprint>(program: &P, reader: &mut I, 
     write_out(rt, text.bytes());
     book
 }
+
+#[cfg(test)]
+mod tests; // a program that asks no more than `Program` does

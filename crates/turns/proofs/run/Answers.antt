@@ -13,7 +13,7 @@ loop-index-init g c =
 pub loop-index-preserved : goal.loop-index-preserved
 loop-index-preserved g c =
     let e = ap is_some (c.first.ensures ∙ ap (λ (l : List ℕ). unless_zero (g.P.Program.first_of l)) c.rest.ensures) in
-    running-next c.loop-index.invariant c.fill.ensures c.turn-on.ensures.turned c.if-not-on.false
+    running-next c.loop-index.invariant c.fill.ensures (record { turned = c.turn-on.ensures.turned; on = c.if-not-on.false })
     (record { book = refl; input = refl; room = c.settle.ensures.room; space = c.settle.ensures.space }) (settled c.settle.ensures (c.is_some-more.ensures ∙ e))
 
 pub returns : goal.returns
@@ -25,6 +25,6 @@ returns g c =
           let y : Tape = record { book = w.turn-on.new.book; input = w.turn-on.new.input; text = w.settle.new.text; on = true } in
           rw w.book-is
           (left-on {t = y}
-          (reached-next c.loop-index.invariant.reached w.fill.ensures w.turn-on.ensures.turned w.if-not-on.false
+          (reached-next c.loop-index.invariant.reached w.fill.ensures (record { turned = w.turn-on.ensures.turned; on = w.if-not-on.false })
           (record { book = refl; input = refl; room = w.settle.ensures.room; space = w.settle.ensures.space })))
     ]
